@@ -1,0 +1,8 @@
+-- The laws that every crate cites, each stated once.
+pub mod Tests
+pub mod Lists
+pub mod Fill
+pub mod Onto
+pub mod Xor
+pub mod Same
+pub mod Table

@@ -1,0 +1,32 @@
+-- A loop that copies s onto the front of l: what l holds after i octets, and how that goes on.
+-- Assumes nothing.
+use mathlib.Core.Path.{_≡_, refl, sym, ap, ap₂, _∙_}
+use mathlib.Core.List.{List, [], _∷_, _++_, append-assoc}
+use Prim.Native.Nat.{ℕ, zero, suc, _+_, _≤_, _<_}
+use native.Mathlib.Omega.{arith}
+use native.Mathlib.Numerals.{add-one}
+use lib.ListN.{length, getD, take, drop, set, length-append, length-drop, length-take}
+use lib.Seq.{take-suc, drop-cons, set-at, length-take-le, take-length, take-all}
+use Rattle.common.specs.Lists.{onto}
+
+-- l with its first i octets those of s
+abbrev pub copied : List ℕ → List ℕ → ℕ → List ℕ
+copied s l i = take i s ++ drop i l
+
+pub copied-more : (s l : List ℕ) (i : ℕ) → i < length s → i < length l → set (copied s l i) i (getD s i 0) ≡ copied s l (i + 1)
+copied-more s l i h k =
+    ap (λ (z : List ℕ). set (take i s ++ z) i (getD s i 0)) (drop-cons l i 0 k)
+    ∙ set-at (take i s) (getD l i 0) (drop (suc i) l) (getD s i 0) i (length-take-le i s (omega arith))
+    ∙ rw (add-one, take-suc s i 0) (sym (append-assoc (take i s) (getD s i 0 ∷ []) (drop (suc i) l)))
+
+pub length-copied : (s l : List ℕ) (i : ℕ) → i ≤ length s → i ≤ length l → length (copied s l i) ≡ length l
+length-copied s l i h k = simp (length-append, length-take, length-drop) (omega arith)
+
+-- the end, where s is copied whole, and where l is full
+pub copied-whole : (s l : List ℕ) (i : ℕ) → i ≡ length s → i ≤ length l → copied s l i ≡ onto (take (length l) s) l
+copied-whole s l i e h =
+    ap (copied s l) e ∙ rw (take-length s) (ap (λ (z : List ℕ). onto z l) (sym (take-all (length l) s (omega arith))))
+
+pub copied-full : (s l : List ℕ) (i : ℕ) → i ≡ length l → i ≤ length s → copied s l i ≡ onto (take (length l) s) l
+copied-full s l i e h =
+    ap (copied s l) e ∙ ap (λ (n : ℕ). take (length l) s ++ drop n l) (sym (length-take-le (length l) s (omega arith)))
