@@ -92,7 +92,7 @@ static void mix_columns(uint8_t s[16])
 	}
 }
 
-static void encrypt(const uint8_t ks[11][16], uint8_t s[16])
+static void encrypt(const uint8_t ks[restrict 11][16], uint8_t s[restrict 16])
 {
 	add_round_key(s, ks[0]);
 	for (int n = 1; n < 10; n++) {

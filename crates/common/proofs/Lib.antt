@@ -6,3 +6,6 @@ pub mod Onto
 pub mod Xor
 pub mod Same
 pub mod Table
+pub mod Chunks
+pub mod BitLaws
+pub mod Search

@@ -1,12 +1,12 @@
 -- Laws of lists that are given by their elements: how long they are, and what stands at a place.
 -- Assumes nothing.
 use mathlib.Core.Path.{_≡_, refl, sym, ap, _∙_}
-use mathlib.Core.List.{List, [], _∷_, _++_}
+use mathlib.Core.List.{List}
 use Prim.Native.Nat.{ℕ, zero, suc, _+_, _≤_, _<_}
 use native.Mathlib.Nat.{add-zero, zero-add, add-suc, suc-add, le-of-suc-le-suc, not-suc-le-zero}
 use native.Mathlib.Omega.{arith}
-use lib.ListN.{length, getD, take, drop}
-use lib.Seq.{ext-getD, getD-take, getD-drop}
+use lib.ListN.{length, getD, take}
+use lib.Seq.{ext-getD, getD-take, length-take-le}
 use lib.Bits.{bitXor, xor-comm}
 use Rattle.common.specs.Lists.{tabFrom, tab, padded, xored}
 
@@ -37,14 +37,28 @@ pub tab-ext : {A : Type 0} (f g : ℕ → A) (n : ℕ) → ((k : ℕ) → k < n 
 tab-ext f g zero p = refl
 tab-ext f g (suc n) p = tab-is g (f 0) (suc n) (tab f (suc n)) (length-tab f (suc n)) (λ k h. getD-tab f (suc n) k (f 0) h ∙ p k h)
 
+-- the first k of them
+pub take-tab : {A : Type 0} (f : ℕ → A) (n k : ℕ) → k ≤ n → take k (tab f n) ≡ tab f k
+take-tab f n zero h = refl
+take-tab f n (suc k) h =
+    let l = length-tab f n in
+    tab-is f (f 0) (suc k) (take (suc k) (tab f n)) (length-take-le (suc k) (tab f n) (omega arith))
+    (λ j m. getD-take (suc k) (tab f n) j (f 0) m ∙ getD-tab f n j (f 0) (omega arith))
+
 -- a list of n octets is its own padding to n
 pub padded-all : (n : ℕ) (l : List ℕ) → length l ≡ n → padded n l ≡ l
 padded-all n l e = sym (tab-is (λ i. getD l i 0) 0 n l e (λ k h. refl))
 
+pub length-xored : (n : ℕ) (a b : List ℕ) → length (xored n a b) ≡ n
+unfolding xored
+length-xored n a b = length-tab (λ i. bitXor (getD a i 0) (getD b i 0)) n
+
 pub xored-comm : (n : ℕ) (a b : List ℕ) → xored n a b ≡ xored n b a
+unfolding xored
 xored-comm n a b = tab-ext (λ i. bitXor (getD a i 0) (getD b i 0)) (λ i. bitXor (getD b i 0) (getD a i 0)) n (λ k h. xor-comm (getD a k 0) (getD b k 0))
 
 -- only the first n octets of the second list count
 pub xored-right : (n : ℕ) (a b c : List ℕ) → ((k : ℕ) → k < n → getD b k 0 ≡ getD c k 0) → xored n a b ≡ xored n a c
+unfolding xored
 xored-right n a b c p =
     tab-ext (λ i. bitXor (getD a i 0) (getD b i 0)) (λ i. bitXor (getD a i 0) (getD c i 0)) n (λ k h. ap (bitXor (getD a k 0)) (p k h))

@@ -1,12 +1,12 @@
--- A loop that copies s onto the front of l: what l holds after i octets, and how that goes on.
+-- A loop that copies s onto the front of l: what l holds after i octets, and how that goes on. And two copies, one behind the other.
 -- Assumes nothing.
 use mathlib.Core.Path.{_≡_, refl, sym, ap, ap₂, _∙_}
-use mathlib.Core.List.{List, [], _∷_, _++_, append-assoc}
-use Prim.Native.Nat.{ℕ, zero, suc, _+_, _≤_, _<_}
+use mathlib.Core.List.{List, [], _∷_, _++_, append-assoc, append-nil}
+use Prim.Native.Nat.{ℕ, zero, suc, _+_, _-_, _≤_, _<_}
 use native.Mathlib.Omega.{arith}
 use native.Mathlib.Numerals.{add-one}
 use lib.ListN.{length, getD, take, drop, set, length-append, length-drop, length-take}
-use lib.Seq.{take-suc, drop-cons, set-at, length-take-le, take-length, take-all}
+use lib.Seq.{take-suc, take-at, take-length, take-all, drop-cons, drop-at, drop-drop, drop-length, set-at, length-take-le}
 use Rattle.common.specs.Lists.{onto}
 
 -- l with its first i octets those of s
@@ -30,3 +30,18 @@ copied-whole s l i e h =
 pub copied-full : (s l : List ℕ) (i : ℕ) → i ≡ length l → i ≤ length s → copied s l i ≡ onto (take (length l) s) l
 copied-full s l i e h =
     ap (copied s l) e ∙ ap (λ (n : ℕ). take (length l) s ++ drop n l) (sym (length-take-le (length l) s (omega arith)))
+
+-- two parts written one behind the other: a list of n octets, and then m onto what lies from n on
+pub onto-two :
+    (a m l : List ℕ) (n k : ℕ) {y : List ℕ} → length a ≡ n → n + length m ≤ length l → k ≡ length (a ++ drop n l) - n
+    → y ≡ onto m (take k (drop n (a ++ drop n l))) → take n (a ++ drop n l) ++ (y ++ drop k (drop n (a ++ drop n l))) ≡ onto (a ++ m) l
+onto-two a m l n k {y} ea h ek ey =
+    let d = drop n l in
+    let e : drop n (a ++ d) ≡ d = drop-at a d n ea in
+    let kd : k ≡ length d = omega (arith, length-append a d) in
+    let whole : take k (drop n (a ++ d)) ≡ d = ap (take k) e ∙ take-all k d (omega arith) in
+    let none : drop k (drop n (a ++ d)) ≡ [] = ap (drop k) e ∙ ap (λ (j : ℕ). drop j d) kd ∙ drop-length d in
+    let both : length (a ++ m) ≡ n + length m = length-append a m ∙ ap (λ (j : ℕ). j + length m) ea in
+    ap₂ _++_ (take-at a d n ea)
+    (ap₂ _++_ (ey ∙ ap (onto m) whole) none ∙ append-nil (onto m d) ∙ ap (λ (z : List ℕ). m ++ z) (drop-drop (length m) n l))
+    ∙ sym (append-assoc a m (drop (n + length m) l)) ∙ ap (λ (j : ℕ). (a ++ m) ++ drop j l) (sym both)

@@ -26,7 +26,7 @@ abbrev pub padded : ℕ → List ℕ → List ℕ
 padded n l = tab (λ i. getD l i 0) n
 
 -- the first n octets of a and b, xored
-abbrev pub xored : ℕ → List ℕ → List ℕ → List ℕ
+unfoldable pub xored : ℕ → List ℕ → List ℕ → List ℕ
 xored n a b = tab (λ i. bitXor (getD a i 0) (getD b i 0)) n
 
 -- l with its first octets replaced by s

@@ -1,4 +1,6 @@
 // Octets copied and compared; the laws that every crate uses stand in proofs/.
+pub mod bits;
+
 ghost use mathlib.Core.Path.{_≡_};
 ghost use lib.ListN.{length, take};
 ghost use Rattle.common.specs.Lists.{onto, same};

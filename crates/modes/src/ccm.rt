@@ -5,7 +5,7 @@ ghost use Prim.Native.Nat.{_+_, _-_, _*_, _/_, _%_, _<_, _≤_};
 ghost use lib.ListN.{length};
 ghost use Rattle.common.specs.Lent.{lent};
 ghost use Rattle.common.specs.Lists.{xored};
-ghost use Rattle.modes.specs.Ccm.{micOctets, ccmBlock, ctr, macBlock, stream, sealing, opening};
+ghost use Rattle.modes.specs.Ccm.{micOctets, longest, ccmBlock, ctr, macBlock, stream, sealing, decrypted, opening};
 
 // How many octets the MIC has.
 pub enum MicSize {
@@ -94,6 +94,18 @@ pub fn seal(ks: [[u8; 16]; 11], nonce: [u8; 13], size: MicSize, message: &[u8], 
     true
 }
 
+// Decrypts what stands before the MIC into clear, which is as long, and says whether the MIC is right.
+fn decrypt(ks: [[u8; 16]; 11], nonce: [u8; 13], size: MicSize, sealed: &[u8], clear: &mut [u8]) -> bool
+    requires { ⌜ (length (now clear) + micOctets size ≡ length (now sealed)) × (length (now clear) ≤ longest) ⌝ }
+    ensures { λ r. ⌜ lent r (now (clear .exit)) ≡ decrypted ks nonce size (now (sealed .entry)) ⌝ }
+{
+    let t = mic_octets(size);
+    let n = clear.len();
+    counter_mode(ks, nonce, &sealed[..n], clear);
+    let mic = mac_block(ks, nonce, t, clear);
+    common::equal(&mic[..t], &sealed[n..])
+}
+
 // Writes the message that was sealed to the first octets of out. False, and out is untouched, where the MIC is wrong, nothing of
 // 384 octets or less can have been sealed so, or out is too short.
 pub fn open(ks: [[u8; 16]; 11], nonce: [u8; 13], size: MicSize, sealed: &[u8], out: &mut [u8]) -> bool
@@ -111,9 +123,7 @@ pub fn open(ks: [[u8; 16]; 11], nonce: [u8; 13], size: MicSize, sealed: &[u8], o
         return false;
     }
     let mut clear = [0u8; 384];
-    counter_mode(ks, nonce, &sealed[..n], &mut clear[..n]);
-    let mic = mac_block(ks, nonce, t, &clear[..n]);
-    if !common::equal(&mic[..t], &sealed[n..]) {
+    if !decrypt(ks, nonce, size, sealed, &mut clear[..n]) {
         return false;
     }
     common::copy(&clear[..n], out);

@@ -6,6 +6,7 @@ use native.Mathlib.Omega.{arith}
 use borrow.Author.Needs.{needs}
 use lib.Bits.{bitXor}
 use lib.ListN.{getD, replicate}
+use Rattle.common.specs.Lists.{xored}
 use Rattle.common.proofs.Fill.{Filled, filled-none, filled-more, filled-all}
 use Rattle.aes.specs.Cipher.{addRoundKey}
 use Rattle.aes.proofs.add_round_key.Statement.{statement}
@@ -27,7 +28,7 @@ loop-again c =
     filled-more 0 (λ j. bitXor (getD (a .t1) j 0) (getD (a .t2) j 0)) 16 (l .r) (l .i) _ (l .inv) (omega arith) refl
 
 returns : tie.Need-returns Inv-loop μ-loop
-unfolding addRoundKey
+unfolding addRoundKey xored
 returns c =
     let l = c .before .loop in
     let a = c .before .before .args in

@@ -1,0 +1,5 @@
+-- Laws about the definitions of specs/.
+pub mod Blocks
+pub mod CmacLaws
+pub mod CcmLaws
+pub mod RoundTrip

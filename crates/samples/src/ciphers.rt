@@ -1,0 +1,153 @@
+// The requests on AES-128, CMAC and CCM.
+//
+// Each writes its answer to the first octets of out and says how many they are: none where the line is not of its form.
+ghost use Prim.Native.Nat.{_≤_};
+ghost use lib.ListN.{length};
+use super::field;
+use super::hex;
+use super::hex::Octets;
+use super::text;
+use modes::ccm::MicSize;
+
+// Answers a request of this file.
+pub(crate) fn request(line: &[u8], out: &mut [u8]) -> usize
+    ensures { λ r. ⌜ r ≤ length (now (out .entry)) ⌝ }
+{
+    let word = field::nth(line, 0);
+    if common::equal(word, b"aes") {
+        return encrypted(line, out);
+    }
+    if common::equal(word, b"cmac") {
+        return mac(line, out);
+    }
+    if common::equal(word, b"seal") {
+        return sealed(line, out);
+    }
+    if common::equal(word, b"open") {
+        return opened(line, out);
+    }
+    0
+}
+
+// `aes KEY BLOCK`: the block, encrypted.
+fn encrypted(line: &[u8], out: &mut [u8]) -> usize
+    ensures { λ r. ⌜ r ≤ length (now (out .entry)) ⌝ }
+{
+    let mut key = [0u8; 16];
+    let mut block = [0u8; 16];
+    if !hex::fill(field::nth(line, 1), &mut key) || !hex::fill(field::last(line, 2), &mut block) {
+        return 0;
+    }
+    hex::put(&aes::encrypt(aes::expand(key), block), out, 0)
+}
+
+// `cmac KEY MESSAGE`: the MAC of the message.
+fn mac(line: &[u8], out: &mut [u8]) -> usize
+    ensures { λ r. ⌜ r ≤ length (now (out .entry)) ⌝ }
+{
+    let mut key = [0u8; 16];
+    let mut message = [0u8; 384];
+    if !hex::fill(field::nth(line, 1), &mut key) {
+        return 0;
+    }
+    let Octets::Count(n) = hex::read(field::last(line, 2), &mut message) else {
+        return 0;
+    };
+    hex::put(
+        &modes::cmac::cmac(aes::expand(key), text::first(&message, n)),
+        out,
+        0,
+    )
+}
+
+// What CCM is used with. The MIC has no octets where a line does not say all three.
+struct Terms {
+    key: [u8; 16],
+    nonce: [u8; 13],
+    mic: usize,
+}
+
+// The key, the nonce and the size of the MIC, fields 1 to 3 of a line.
+fn terms_of(line: &[u8]) -> Terms
+    ensures { λ r. ⌜ r .mic ≤ 8 ⌝ }
+{
+    let mut key = [0u8; 16];
+    let mut nonce = [0u8; 13];
+    let mic = mic_octets(field::nth(line, 3));
+    if !hex::fill(field::nth(line, 1), &mut key) || !hex::fill(field::nth(line, 2), &mut nonce) {
+        return Terms { key, nonce, mic: 0 };
+    }
+    Terms { key, nonce, mic }
+}
+
+// How many octets a field says that the MIC has: none where that is neither 4 nor 8.
+fn mic_octets(size: &[u8]) -> usize
+    ensures { λ r. ⌜ r ≤ 8 ⌝ }
+{
+    if common::equal(size, b"4") {
+        return 4;
+    }
+    if common::equal(size, b"8") {
+        return 8;
+    }
+    0
+}
+
+// The size of a MIC of 4 or 8 octets.
+fn mic_size(octets: usize) -> MicSize {
+    if octets == 8 {
+        MicSize::Eight
+    } else {
+        MicSize::Four
+    }
+}
+
+// `seal KEY NONCE SIZE MESSAGE`: the message, encrypted, and its MIC.
+fn sealed(line: &[u8], out: &mut [u8]) -> usize
+    ensures { λ r. ⌜ r ≤ length (now (out .entry)) ⌝ }
+{
+    let terms = terms_of(line);
+    let key = terms.key;
+    let nonce = terms.nonce;
+    let mic = terms.mic;
+    if mic == 0 {
+        return 0;
+    }
+    let mut clear = [0u8; 384];
+    let Octets::Count(n) = hex::read(field::last(line, 4), &mut clear) else {
+        return 0;
+    };
+    let message = text::first(&clear, n);
+    let mut whole = [0u8; 392];
+    if !modes::ccm::seal(aes::expand(key), nonce, mic_size(mic), message, &mut whole) {
+        return 0;
+    }
+    let all = message.len() + mic;
+    hex::put(text::first(&whole, all), out, 0)
+}
+
+// `open KEY NONCE SIZE SEALED`: the message that was sealed, or `refused`.
+fn opened(line: &[u8], out: &mut [u8]) -> usize
+    ensures { λ r. ⌜ r ≤ length (now (out .entry)) ⌝ }
+{
+    let terms = terms_of(line);
+    let key = terms.key;
+    let nonce = terms.nonce;
+    let mic = terms.mic;
+    if mic == 0 {
+        return 0;
+    }
+    let mut whole = [0u8; 392];
+    let Octets::Count(n) = hex::read(field::last(line, 4), &mut whole) else {
+        return 0;
+    };
+    let sealed = text::first(&whole, n);
+    let mut clear = [0u8; 384];
+    if sealed.len() < mic
+        || !modes::ccm::open(aes::expand(key), nonce, mic_size(mic), sealed, &mut clear)
+    {
+        return text::put(b"refused", out, 0);
+    }
+    let left = sealed.len() - mic;
+    hex::put(text::first(&clear, left), out, 0)
+}
