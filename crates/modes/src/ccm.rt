@@ -77,7 +77,13 @@ fn mac_block(ks: [[u8; 16]; 11], nonce: [u8; 13], t: usize, message: &[u8]) -> [
 
 // Writes the message, encrypted, and its MIC behind it to the first octets of out. False, and out is untouched, where the message
 // is longer than 384 octets or out is too short.
-pub fn seal(ks: [[u8; 16]; 11], nonce: [u8; 13], size: MicSize, message: &[u8], out: &mut [u8]) -> bool
+pub fn seal(
+    ks: [[u8; 16]; 11],
+    nonce: [u8; 13],
+    size: MicSize,
+    message: &[u8],
+    out: &mut [u8],
+) -> bool
     ensures { λ r. ⌜ lent r (now (out .exit)) ≡ sealing ks nonce size (now (message .entry)) (now (out .entry)) ⌝ }
 {
     let t = mic_octets(size);
@@ -95,7 +101,13 @@ pub fn seal(ks: [[u8; 16]; 11], nonce: [u8; 13], size: MicSize, message: &[u8], 
 }
 
 // Decrypts what stands before the MIC into clear, which is as long, and says whether the MIC is right.
-fn decrypt(ks: [[u8; 16]; 11], nonce: [u8; 13], size: MicSize, sealed: &[u8], clear: &mut [u8]) -> bool
+fn decrypt(
+    ks: [[u8; 16]; 11],
+    nonce: [u8; 13],
+    size: MicSize,
+    sealed: &[u8],
+    clear: &mut [u8],
+) -> bool
     requires { ⌜ (length (now clear) + micOctets size ≡ length (now sealed)) × (length (now clear) ≤ longest) ⌝ }
     ensures { λ r. ⌜ lent r (now (clear .exit)) ≡ decrypted ks nonce size (now (sealed .entry)) ⌝ }
 {
@@ -108,7 +120,13 @@ fn decrypt(ks: [[u8; 16]; 11], nonce: [u8; 13], size: MicSize, sealed: &[u8], cl
 
 // Writes the message that was sealed to the first octets of out. False, and out is untouched, where the MIC is wrong, nothing of
 // 384 octets or less can have been sealed so, or out is too short.
-pub fn open(ks: [[u8; 16]; 11], nonce: [u8; 13], size: MicSize, sealed: &[u8], out: &mut [u8]) -> bool
+pub fn open(
+    ks: [[u8; 16]; 11],
+    nonce: [u8; 13],
+    size: MicSize,
+    sealed: &[u8],
+    out: &mut [u8],
+) -> bool
     ensures { λ r. ⌜ lent r (now (out .exit)) ≡ opening ks nonce size (now (sealed .entry)) (now (out .entry)) ⌝ }
 {
     let t = mic_octets(size);
