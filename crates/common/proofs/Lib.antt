@@ -9,3 +9,4 @@ pub mod Table
 pub mod Chunks
 pub mod BitLaws
 pub mod Search
+pub mod Picked

@@ -45,3 +45,11 @@ onto-two a m l n k {y} ea h ek ey =
     ap₂ _++_ (take-at a d n ea)
     (ap₂ _++_ (ey ∙ ap (onto m) whole) none ∙ append-nil (onto m d) ∙ ap (λ (z : List ℕ). m ++ z) (drop-drop (length m) n l))
     ∙ sym (append-assoc a m (drop (n + length m) l)) ∙ ap (λ (j : ℕ). (a ++ m) ++ drop j l) (sym both)
+
+-- a front of n octets put before b, which lies on l from n on
+pub onto-before : (a b l x : List ℕ) (n : ℕ) → length a ≡ n → drop n x ≡ onto b (drop n l) → onto a x ≡ onto (a ++ b) l
+onto-before a b l x n ea e =
+    let both : length (a ++ b) ≡ n + length b = length-append a b ∙ ap (λ (j : ℕ). j + length b) ea in
+    ap (λ (j : ℕ). a ++ drop j x) ea
+    ∙ ap (λ (z : List ℕ). a ++ z) (e ∙ ap (λ (z : List ℕ). b ++ z) (drop-drop (length b) n l))
+    ∙ sym (append-assoc a b (drop (n + length b) l)) ∙ ap (λ (j : ℕ). (a ++ b) ++ drop j l) (sym both)

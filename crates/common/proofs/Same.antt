@@ -12,16 +12,8 @@ use lib.Dec.{eqb}
 use lib.ListN.{length, getD, drop}
 use lib.Seq.{drop-cons, drop-length}
 use Rattle.common.specs.Lists.{same}
-use Rattle.common.proofs.Tests.{by-test}
+use Rattle.common.proofs.Tests.{by-test, and-first, and-second}
 use Rattle.common.proofs.Xor.{xor-zero-eq}
-
-and-first : (p q : Bool) → p && q ≡ true → p ≡ true
-and-first true q e = refl
-and-first false q e = e
-
-and-second : (p q : Bool) → p && q ≡ true → q ≡ true
-and-second true q e = e
-and-second false q e = absurd (false≢true e)
 
 pub same-refl : (a : List ℕ) → same a a ≡ true
 same-refl [] = refl

@@ -34,7 +34,7 @@ unfolding sealed
 sealed-length ks nonce size m =
     length-append (ctr ks nonce m) (mic ks nonce (micOctets size) m) ∙ ap₂ _+_ (length-ctr ks nonce m) (length-mic ks nonce (micOctets size) m)
 
-decrypted-sealed : (ks : List (List ℕ)) (nonce : List ℕ) (size : MicSize) (m : List ℕ) → lent true m ≡ decrypted ks nonce size (sealed ks nonce size m)
+pub decrypted-sealed : (ks : List (List ℕ)) (nonce : List ℕ) (size : MicSize) (m : List ℕ) → lent true m ≡ decrypted ks nonce size (sealed ks nonce size m)
 unfolding decrypted sealed
 decrypted-sealed ks nonce size m =
     let t = micOctets size in

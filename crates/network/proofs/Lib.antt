@@ -1,0 +1,12 @@
+-- The laws about the definitions of specs/.
+pub mod OctetsLaws
+pub mod IvIndexLaws
+pub mod NonceLaws
+pub mod Examples
+pub mod TrialLaws
+pub mod CandidatesLaws
+pub mod OpeningLaws
+pub mod Front
+pub mod Sealed
+pub mod SealOpen
+pub mod SealingLaws

@@ -1,0 +1,39 @@
+-- The candidates of a PDU, and the trials of them in order (document 01, "The Network PDU").
+use mathlib.Core.Bool.{Bool, true, false}
+use mathlib.Core.List.{List, []}
+use Prim.Native.Nat.{ℕ, _+_, min}
+use lib.Dec.{eqb, ltb}
+use lib.ListN.{length, getD}
+use Rattle.common.specs.Choice.{if_then_else_}
+use Rattle.common.specs.Lists.{tab}
+use Rattle.common.specs.Search.{first, picked}
+use Rattle.keys.specs.declared.NetworkKeys.{NetworkKeys}
+use Rattle.network.specs.declared.trial.Found.{Found}
+use Rattle.network.specs.Header.{noHeader}
+use Rattle.network.specs.Trial.{tried}
+
+-- where there is no key
+abbrev pub noKey : NetworkKeys
+noKey = record { nid = 0; encryption = []; privacy = [] }
+
+-- the key at a place of the list
+abbrev pub keyAt : List NetworkKeys → ℕ → NetworkKeys
+keyAt keys i = getD keys i noKey
+
+-- the places of the keys with that NID, in their fixed order; at most four keys are held
+unfoldable pub candidates : List NetworkKeys → ℕ → ℕ → List ℕ
+candidates keys count nid = picked (λ i. eqb (keyAt keys i .nid) nid) (tab (λ i. i) (min count 4))
+
+-- whether the key at place i authenticates the PDU
+unfoldable pub opens : List NetworkKeys → ℕ → List ℕ → ℕ → Bool
+opens keys iv pdu i = tried (keyAt keys i) i iv pdu .ok
+
+-- they are tried one by one, stopping at the first that authenticates; the number of trials is that key's place among the candidates, from
+-- 1, or their number when none opens it
+unfoldable pub searched : List NetworkKeys → ℕ → ℕ → ℕ → List ℕ → Found
+searched keys count nid iv pdu =
+    let cs = candidates keys count nid in
+    let p = first (opens keys iv pdu) cs in
+    let i = getD cs p 0 in
+    if ltb p (length cs) then record { ok = true; trials = p + 1; header = tried (keyAt keys i) i iv pdu .header } else
+    record { ok = false; trials = length cs; header = noHeader }

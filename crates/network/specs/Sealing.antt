@@ -1,0 +1,56 @@
+-- Sealing one Network PDU into a lent buffer, and forwarding (document 01, "The Network PDU", "Forwarding").
+--   paper a                  the number of an answer
+--   sealing key h buf        what a call leaves
+--   forwards relay local h   whether a PDU is forwarded
+--   forwarding keys h buf    what a call that forwards it leaves
+use mathlib.Core.Bool.{Bool, _&&_, not}
+use mathlib.Core.List.{List}
+use Prim.Native.Nat.{ℕ, _-_}
+use lib.Dec.{leb, ltb}
+use lib.ListN.{length}
+use Rattle.common.specs.Choice.{if_then_else_}
+use Rattle.common.specs.Lists.{onto}
+use Rattle.common.specs.Lent.{Lent, lent}
+use Rattle.keys.specs.declared.NetworkKeys.{NetworkKeys}
+use Rattle.network.specs.declared.header.Header.{Header}
+use Rattle.network.specs.declared.sealing.Answer.{Answer}
+use Rattle.network.specs.declared.sealing.Answer.the-variants.{Sealed, OutsideRules, ShortBuffer}
+use Rattle.network.specs.Address.{addressesAllowed}
+use Rattle.network.specs.Candidates.{keyAt}
+use Rattle.network.specs.Pdu.{pduOf}
+
+-- this paper's number of each answer; 0 where nothing is refused
+abbrev pub paper : Answer → ℕ
+paper (Sealed len) = 0
+paper OutsideRules = 14
+paper ShortBuffer = 16
+
+-- the most octets of transport: 16, or 12 if CTL is 1
+abbrev pub mostTransport : Bool → ℕ
+mostTransport ctl = if ctl then 12 else 16
+
+-- NID of 7 bits, TTL to 127, SEQ to 0xFFFFFF, allowed addresses, 1 to 16 octets of transport (1 to 12 if CTL is 1)
+unfoldable pub sealable : NetworkKeys → Header → Bool
+sealable key h =
+    leb (key .nid) 127 && leb (h .ttl) 127 && leb (h .seq) 0xFFFFFF && addressesAllowed (h .ctl) (h .src) (h .dst)
+    && leb 1 (h .len) && leb (h .len) (mostTransport (h .ctl))
+
+-- 16: the buffer is shorter than 29; 14: outside these rules; else the PDU fills its first octets
+unfoldable pub sealing : NetworkKeys → Header → List ℕ → Lent Answer
+sealing key h buf =
+    if ltb (length buf) 29 then lent ShortBuffer buf else
+    if sealable key h then lent (Sealed (length (pduOf key h))) (onto (pduOf key h) buf) else
+    lent OutsideRules buf
+
+-- forwarded exactly when relay is on, TTL is at least 2 and DST is no local unicast address
+unfoldable pub forwards : Bool → Bool → Header → Bool
+forwards relay local h = relay && leb 2 (h .ttl) && not local
+
+-- TTL falls by 1; key and IV Index stay
+abbrev pub lowered : Header → Header
+lowered h =
+    record { key = h .key; iv = h .iv; ctl = h .ctl; ttl = h .ttl - 1; seq = h .seq; src = h .src; dst = h .dst; len = h .len; transport = h .transport }
+
+-- the PDU that was opened by the key at its place, resealed by it
+unfoldable pub forwarding : List NetworkKeys → Header → List ℕ → Lent Answer
+forwarding keys h buf = if ltb (h .key) 4 then sealing (keyAt keys (h .key)) (lowered h) buf else lent OutsideRules buf

@@ -1,0 +1,8 @@
+// The Network PDU (MP 3.4): address kinds, the IV Index, the nonces, sealing one PDU, trying keys on one, opening it, forwarding it.
+pub mod address;
+pub mod header;
+pub mod iv_index;
+pub mod nonce;
+pub mod opening;
+pub mod sealing;
+mod trial;
