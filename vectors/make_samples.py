@@ -4,8 +4,8 @@
   python3 vectors/make_samples.py --check    writes nothing; fails, and names the first difference, where the files differ
 
 Every answer is what a document prints: nothing here computes a cipher. Two are known without one: `refused`, for what was damaged by
-one bit after it was sealed or is shorter than its MIC, and `unread`, for a line that is no request. A line that begins with # names the
-document and the section of what follows, or says why a sample is left out.
+one bit after it was sealed, is shorter than its MIC or falls under the definition of a refusal (document 01), and `unread`, for a line
+that is no request. A line that begins with # names the document and the section of what follows, or says why a sample is left out.
 """
 import json
 import sys
@@ -32,6 +32,30 @@ UNREAD = (
     ("not hex, or half an octet", tuple("s1 " + text for text in ("0", "000", "0g", "g0", "0x00", "/0", ":0", "@0", "`0", "G0", "é", "--", "-00"))),
     ("more octets than are read", ("s1 {most}00", "cmac {key} {most}00", "seal {key} {nonce} 8 {most}00", "open {key} {nonce} 8 {whole}00")),
 )
+# What netseal refuses, from CTL on, by what is wrong with it.
+REFUSED = (
+    ("TTL above 127", ("0 80 000001 0003 1201 00", "0 ff 000001 0003 1201 00", "1 80 000001 0003 1201 00")),
+    ("SRC unassigned, virtual or a group", tuple(f"0 04 000001 {src} 1201 00" for src in ("0000", "8000", "bfff", "c000", "ffff"))),
+    ("DST unassigned", ("0 04 000001 0003 0000 00", "1 04 000001 0003 0000 00")),
+    ("DST virtual with CTL 1", ("1 04 000001 0003 8000 00", "1 04 000001 0003 b529 00", "1 04 000001 0003 bfff 00")),
+    ("more than 12 octets of transport with CTL 1", ("1 04 000001 0003 1201 " + "00" * 13, "1 04 000001 0003 1201 " + "00" * 16)),
+)
+# The fields of a request on a Network PDU, each with texts that are not of its form; {..} stands for what is.
+NETSEAL = (
+    ("{key}", ("-", "00", "{key}00", "{key}{key}")),
+    ("{iv}", ("-", "123456", "{iv}00")),
+    ("0", ("-", "2", "00", "01", "+")),
+    ("04", ("-", "4", "0400")),
+    ("000001", ("-", "0001", "00000001")),
+    ("0003", ("-", "03", "000003")),
+    ("1201", ("-", "12", "120100")),
+    ("8000", ("", "-", "8", "80 00", "8000 ", "{transport}00")),
+)
+NETOPEN = (
+    ("{key}", ("-", "00", "{key}00", "{key}{key}00", "{key}{key}{key}{key}{key}")),
+    ("{iv}", ("-", "123456", "{iv}00")),
+    ("{pdu}", ("", "0", "00 00", "00 ", "{longest}00")),
+)
 
 
 class Samples:
@@ -51,7 +75,8 @@ class Samples:
         """Adds a request and its answer."""
         self.requests.append(request)
         self.answers.append(answer)
-        kind = request.split(" ")[0] if answer not in ("refused", "unread") else answer
+        words = request.split(" ")[0], answer.split(" ")[0]
+        kind = words[0] if words[1] not in ("refused", "unread") else words[1]
         self.counts[kind] = self.counts.get(kind, 0) + 1
 
     def files(self):
@@ -76,6 +101,11 @@ def flipped(octets, bit):
     size = 4 * len(octets)
     changed = int(octets, 16) ^ 1 << (size - 1 - bit % size)
     return f"{changed:0{len(octets)}x}"
+
+
+def shifted(index, step):
+    """Another IV Index, so many steps away."""
+    return f"{int(index, 16) + step:08x}"
 
 
 def add_ciphers(samples, ciphers):
@@ -129,6 +159,30 @@ def add_network(samples, m, pdu):
     add_ccm(samples, title, m["encryption_key"], nonce, size, m["dst"] + pdu["lower_transport_pdu"], sealed)
 
 
+def parts_of(m, pdu):
+    """What a Network PDU says, from CTL on."""
+    return f"{m['ctl']} {m['ttl']:02x} {pdu['seq']} {m['src']} {m['dst']} {pdu['lower_transport_pdu']}"
+
+
+def add_pdu(samples, m, pdu):
+    """One Network PDU sealed, opened at its IV Index and at the next, and refused when it is damaged or at another one."""
+    title = f"MP {m['section']}: {m['name']}, SEQ {pdu['seq']}, Network PDU"
+    key, iv, whole, parts = m["net_key"], m["iv_index"], pdu["network_pdu"], parts_of(m, pdu)
+    expect(int(whole[:2], 16) == int(iv, 16) % 2 * 128 + int(m["nid"], 16), f"{title}: octet 0")
+    samples.say(title)
+    samples.ask(f"netseal {key} {iv} {parts}", whole)
+    samples.ask(f"netopen {key} {iv} {whole}", f"{parts} trials 1 key 0")
+    samples.ask(f"netopen {key} {shifted(iv, 1)} {whole}", f"{parts} trials 1 key 0")
+    samples.say(f"{title}: with one bit changed in IVI, CTL, SEQ, SRC, DST, the transport, the NetMIC (twice); cut by an octet")
+    mic = -4 * len(pdu["net_mic"])
+    for bit in (0, 8, 39, 55, 56, mic - 1, mic, -1):
+        samples.ask(f"netopen {key} {iv} {flipped(whole, bit)}", "refused 3 trials 1")
+    samples.ask(f"netopen {key} {iv} {whole[:-2]}", "refused 3 trials 1")
+    samples.say(f"{title}: two IV Indexes later, one earlier")
+    for step in (2, -1):
+        samples.ask(f"netopen {key} {shifted(iv, step)} {whole}", "refused 3 trials 1")
+
+
 def add_upper(samples, m):
     """The upper transport layer of an access message (MP 3.8.5.2, 3.8.5.3, 3.8.7.1): the access payload under an application or device key."""
     title = f"MP {m['section']}: {m['name']}, upper transport layer"
@@ -153,14 +207,66 @@ def add_message(samples, m):
         return
     for pdu in m["pdus"]:
         add_network(samples, m, pdu)
+        add_pdu(samples, m, pdu)
     if "access_payload" in m:
         add_upper(samples, m)
+
+
+def add_keys(samples, m, pdu, other):
+    """Which of several keys opens a Network PDU, and how many are tried; the other key has another NID."""
+    title = f"MP {m['section']}: {m['name']}, SEQ {pdu['seq']}, Network PDU"
+    key, iv, whole, parts = m["net_key"], m["iv_index"], pdu["network_pdu"], parts_of(m, pdu)
+    foreign = other["n"]
+    expect(other["nid"] != m["nid"], f"{title}: the other key's NID")
+    samples.say(f"{title}: the key twice; behind a key with another NID (MP {other['section']}), alone and twice; behind three such")
+    for held, place in ((key + key, 0), (foreign + key, 1), (foreign + key + key, 1), (key + foreign, 0), (foreign * 3 + key, 3)):
+        samples.ask(f"netopen {held} {iv} {whole}", f"{parts} trials 1 key {place}")
+    samples.say(f"{title}: with one bit changed in the NetMIC; the key twice, four times, behind a key with another NID, before and behind one")
+    for held, trials in ((key * 2, 2), (key * 4, 4), (foreign + key, 1), (key + foreign + key * 2, 3)):
+        samples.ask(f"netopen {held} {iv} {flipped(whole, -1)}", f"refused 3 trials {trials}")
+    samples.say(f"{title}: with the NID changed; under keys with another NID")
+    for held, changed in ((key, flipped(whole, 7)), (key * 4, flipped(whole, 1)), (foreign, whole), (foreign * 4, whole)):
+        samples.ask(f"netopen {held} {iv} {changed}", "refused 2 trials 0")
+
+
+def add_limits(samples, messages):
+    """Refusals of Network PDUs that follow from their definition alone: by length, by IV Index 0, and those of sealing."""
+    long, odd, control = messages["8.3.6"], messages["8.3.22"], messages["8.3.1"]
+    key, iv, whole = long["net_key"], long["iv_index"], long["pdus"][0]["network_pdu"]
+    expect(len(whole) == 58, "a Network PDU that is to have 29 octets")
+    samples.say("netopen: 0, 1, 13, 30 and 64 octets")
+    for pdu in ("-", whole[:2], whole[:26], whole + "00", whole + "00" * 35):
+        samples.ask(f"netopen {key} {iv} {pdu}", "refused 1 trials 0")
+    samples.say("netopen: an access message's first 14 octets; a control message's first 14, 17 and 18")
+    samples.ask(f"netopen {key} {iv} {whole[:28]}", "refused 3 trials 1")
+    for size in (14, 17, 18):
+        samples.ask(f"netopen {control['net_key'] * 2} {control['iv_index']} {control['pdus'][0]['network_pdu'][:2 * size]}", "refused 3 trials 2")
+    samples.say("netopen: at IV Index 0, IVI 1 and then IVI 0")
+    samples.ask(f"netopen {odd['net_key']} 00000000 {odd['pdus'][0]['network_pdu']}", "refused 2 trials 0")
+    samples.ask(f"netopen {key} 00000000 {whole}", "refused 3 trials 1")
+    samples.say("netopen: refusal 4 left out, no document prints a Network PDU whose addresses are not allowed")
+    for reason, parts in REFUSED:
+        samples.say(f"netseal: {reason}")
+        for each in parts:
+            samples.ask(f"netseal {key} {iv} {each}", "refused 14")
+
+
+def add_fields(samples, request, forms, fields):
+    """A request with each of its fields in turn not of its form."""
+    samples.say(f"unread: {request}, each field in turn not of its form, and a field too few")
+    good = [form for form, _ in forms]
+    for place, (_, texts) in enumerate(forms):
+        for text in texts:
+            line = " ".join([request] + good[:place] + [text] + good[place + 1:])
+            samples.ask(line.format(**fields), "unread")
+        samples.ask(" ".join([request] + good[:place]).format(**fields), "unread")
 
 
 def add_forms(samples, ciphers):
     """How lines are read: in either case of the digits, and what is no request."""
     v = ciphers["aes"][1]
     fields = {"key": v["key"], "block": v["block"], "nonce": "00" * 13, "most": "00" * 384, "whole": "00" * 392}
+    fields |= {"iv": "12345678", "transport": "00" * 16, "pdu": "00" * 14, "longest": "00" * 64}
     samples.say(f"{v['document']}, {v['section']}: {v['name']}, in upper case")
     samples.ask(f"aes {v['key'].upper()} {v['block'].upper()}", v["out"])
     samples.say("open: fewer octets than the MIC has")
@@ -170,6 +276,8 @@ def add_forms(samples, ciphers):
         samples.say(f"unread: {reason}")
         for line in lines:
             samples.ask(line.format(**fields), "unread")
+    add_fields(samples, "netseal", NETSEAL, fields)
+    add_fields(samples, "netopen", NETOPEN, fields)
 
 
 def all_samples():
@@ -182,6 +290,10 @@ def all_samples():
         add_function(samples, v)
     for m in mp["messages"]:
         add_message(samples, m)
+    messages = {m["section"]: m for m in mp["messages"]}
+    others = [v for v in mp["functions"] if v["fn"] == "k2" and v["p"] == "00" and v["n"] != messages["8.3.6"]["net_key"]]
+    add_keys(samples, messages["8.3.6"], messages["8.3.6"]["pdus"][0], others[0])
+    add_limits(samples, messages)
     add_forms(samples, ciphers)
     return samples
 

@@ -1,9 +1,9 @@
 -- The laws that every crate cites, each stated once.
 pub mod Tests
+pub mod Xor
 pub mod Lists
 pub mod Fill
 pub mod Onto
-pub mod Xor
 pub mod Same
 pub mod Table
 pub mod Chunks

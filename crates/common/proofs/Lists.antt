@@ -9,6 +9,7 @@ use lib.ListN.{length, getD, take}
 use lib.Seq.{ext-getD, getD-take, length-take-le}
 use lib.Bits.{bitXor, xor-comm}
 use Rattle.common.specs.Lists.{tabFrom, tab, padded, xored}
+use Rattle.common.proofs.Xor.{xor-back}
 
 module _ {A : Type 0} (f : ℕ → A) where
   length-tabFrom : (n i : ℕ) → length (tabFrom f i n) ≡ n
@@ -62,3 +63,16 @@ pub xored-right : (n : ℕ) (a b c : List ℕ) → ((k : ℕ) → k < n → getD
 unfolding xored
 xored-right n a b c p =
     tab-ext (λ i. bitXor (getD a i 0) (getD b i 0)) (λ i. bitXor (getD a i 0) (getD c i 0)) n (λ k h. ap (bitXor (getD a k 0)) (p k h))
+
+-- xored twice with the same numbers, a list is what it was
+pub xor-tab-twice :
+    (f : ℕ → ℕ) (n : ℕ) (m : List ℕ) → length m ≡ n → tab (λ j. bitXor (getD (tab (λ i. bitXor (getD m i 0) (f i)) n) j 0) (f j)) n ≡ m
+xor-tab-twice f n m e =
+    let once = tab (λ i. bitXor (getD m i 0) (f i)) n in
+    sym
+    (tab-is (λ j. bitXor (getD once j 0) (f j)) 0 n m e
+    (λ k h. sym (ap (λ (x : ℕ). bitXor x (f k)) (getD-tab (λ i. bitXor (getD m i 0) (f i)) n k 0 h) ∙ xor-back (getD m k 0) (f k))))
+
+pub xored-twice : (n : ℕ) (a b : List ℕ) → length a ≡ n → xored n (xored n a b) b ≡ a
+unfolding xored
+xored-twice n a b e = xor-tab-twice (λ i. getD b i 0) n a e

@@ -10,9 +10,8 @@ use lib.ListN.{length, getD, take, drop, length-append}
 use lib.Seq.{take-at, drop-at}
 use Rattle.common.specs.Lists.{tab, same}
 use Rattle.common.specs.Lent.{lent}
-use Rattle.common.proofs.Lists.{getD-tab, tab-is}
+use Rattle.common.proofs.Lists.{xor-tab-twice}
 use Rattle.common.proofs.Same.{same-refl}
-use Rattle.common.proofs.Xor.{xor-back}
 use Rattle.modes.specs.declared.ccm.MicSize.{MicSize}
 use Rattle.modes.specs.Ccm.{micOctets, streamOctet, ctr, mic, sealed, decrypted}
 use Rattle.modes.specs.RoundTrip.{CtrTwice, SealedLength, OpenSeal}
@@ -21,13 +20,8 @@ use Rattle.modes.proofs.CcmLaws.{length-ctr, length-mic, open-done}
 pub ctr-twice : CtrTwice
 unfolding ctr
 ctr-twice ks nonce m =
-    let c = ctr ks nonce m in
     let l = length-ctr ks nonce m in
-    sym
-    (tab-is (λ (j : ℕ). bitXor (getD c j 0) (streamOctet ks nonce j)) 0 (length c) m (sym l)
-    (λ k h. sym
-    (ap (λ (x : ℕ). bitXor x (streamOctet ks nonce k)) (getD-tab (λ (j : ℕ). bitXor (getD m j 0) (streamOctet ks nonce j)) (length m) k 0 (omega arith))
-    ∙ xor-back (getD m k 0) (streamOctet ks nonce k))))
+    ap (tab (λ (j : ℕ). bitXor (getD (ctr ks nonce m) j 0) (streamOctet ks nonce j))) l ∙ xor-tab-twice (streamOctet ks nonce) (length m) m refl
 
 pub sealed-length : SealedLength
 unfolding sealed

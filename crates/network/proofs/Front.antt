@@ -7,12 +7,9 @@ use mathlib.Core.Path.{_≡_, refl, sym, ap, _∙_}
 use Prim.Native.Nat.{ℕ, _+_, _%_, _<_, _≤_}
 use native.Mathlib.Omega.{arith}
 use borrow.Author.Tests.{le-leb, lt-leb}
-use lib.Bits.{bitXor}
 use lib.Dec.{leb}
-use lib.ListN.{length, getD}
-use Rattle.common.specs.Lists.{xored}
-use Rattle.common.proofs.Lists.{length-xored, getD-tab, tab-is}
-use Rattle.common.proofs.Xor.{xor-back}
+use lib.ListN.{length}
+use Rattle.common.proofs.Lists.{length-xored, xored-twice}
 use Rattle.keys.specs.declared.NetworkKeys.{NetworkKeys}
 use Rattle.network.specs.declared.header.Header.{Header}
 use Rattle.network.specs.Nonce.{ctlTtl}
@@ -23,16 +20,6 @@ use Rattle.network.specs.SealOpen.{ObfuscateTwice}
 use Rattle.network.proofs.OctetsLaws.{number-octets}
 
 -- ---- hidden, and shown again
--- n octets xored twice with the same are what they were
-xored-twice : (n : ℕ) (a b : List ℕ) → length a ≡ n → xored n (xored n a b) b ≡ a
-unfolding xored
-xored-twice n a b e =
-    sym
-    (tab-is (λ (j : ℕ). bitXor (getD (xored n a b) j 0) (getD b j 0)) 0 n a e
-    (λ k h. sym
-    (ap (λ (x : ℕ). bitXor x (getD b k 0)) (getD-tab (λ (j : ℕ). bitXor (getD a j 0) (getD b j 0)) n k 0 h)
-    ∙ xor-back (getD a k 0) (getD b k 0))))
-
 pub obfuscate-twice : ObfuscateTwice
 unfolding obfuscated
 obfuscate-twice key iv front random e = xored-twice 6 front (privacyBlock key iv random) e

@@ -2,11 +2,12 @@
 //
 // A line that begins with # is written out as it is. A request is a word and its fields, with one space between them. Octets are
 // hex pairs, at most 384 in a message, and - stands for none. A line that is no request, or not of its form, is answered `unread`.
-// The form of each request stands over its function, in ciphers.rt and derivation.rt.
+// The form of each request stands over its function, in ciphers.rt, derivation.rt and pdu.rt.
 mod ciphers;
 mod derivation;
 mod field;
 mod hex;
+mod pdu;
 mod text;
 
 ghost use Prim.Native.Nat.{_≤_};
@@ -59,5 +60,9 @@ fn request(line: &[u8], out: &mut [u8]) -> usize
     if 0 < n {
         return n;
     }
-    derivation::request(line, out)
+    let n = derivation::request(line, out);
+    if 0 < n {
+        return n;
+    }
+    pdu::request(line, out)
 }
