@@ -6,9 +6,9 @@
 #include <stdio.h>
 #include <stdlib.h>
 #include <string.h>
-#include <time.h>
+#include "timing.h"
 
-enum { CODES = 3, ROUNDS = 21 };
+enum { CODES = 3 };
 
 typedef uint32_t blocks_fn(const uint8_t *key, size_t key_size, uint8_t *block, size_t block_size, uint32_t times);
 typedef uint32_t cmac_fn(const uint8_t *key, size_t key_size, const uint8_t *message, size_t size, uint8_t *out, size_t out_size);
@@ -135,21 +135,6 @@ static void time_open(const struct code *c, uint32_t times)
 		c->open(encryption_key, 16, nonce, sizeof nonce, sealed, sizeof sealed, out, sizeof out);
 }
 
-static double now(void)
-{
-	struct timespec t;
-
-	clock_gettime(CLOCK_MONOTONIC, &t);
-	return (double)t.tv_sec * 1e9 + (double)t.tv_nsec;
-}
-
-static int compare(const void *a, const void *b)
-{
-	double x = *(const double *)a, y = *(const double *)b;
-
-	return (x > y) - (x < y);
-}
-
 static void row(const char *what, void (*task)(const struct code *, uint32_t), uint32_t times)
 {
 	static double took[CODES][ROUNDS];
@@ -163,10 +148,8 @@ static void row(const char *what, void (*task)(const struct code *, uint32_t), u
 			took[i][r] = (now() - start) / times;
 		}
 	}
-	for (int i = 0; i < CODES; i++) {
-		qsort(took[i], ROUNDS, sizeof(double), compare);
-		median[i] = took[i][ROUNDS / 2];
-	}
+	for (int i = 0; i < CODES; i++)
+		median[i] = median_of(took[i]);
 	printf("%-42s %8.0f %8.0f %8.0f %10.2f %10.2f\n", what, median[0], median[1], median[2], median[1] / median[0], median[2] / median[0]);
 }
 

@@ -6,6 +6,7 @@ pub mod Examples
 pub mod TrialLaws
 pub mod CandidatesLaws
 pub mod OpeningLaws
+pub mod OpeningBounds
 pub mod Front
 pub mod Sealed
 pub mod SealOpen

@@ -62,7 +62,7 @@ fn may_seal(key: NetworkKeys, h: Header) -> bool
 }
 
 // DST and all sixteen octets of transport.
-fn clear_body(h: Header) -> [u8; 18]
+pub fn clear_body(h: Header) -> [u8; 18]
     ensures { λ r. ⌜ r ≡ octets 2 (h .dst) ++ h .transport ⌝ }
 {
     let t = h.transport;
@@ -103,7 +103,7 @@ fn write_body(key: NetworkKeys, h: Header, clear: [u8; 18], out: &mut [u8])
 }
 
 // Octets 1-6 in clear.
-fn clear_front(h: Header) -> [u8; 6]
+pub fn clear_front(h: Header) -> [u8; 6]
     ensures { λ r. ⌜ r ≡ clearFront h ⌝ }
 {
     let seq = h.seq;

@@ -1,0 +1,57 @@
+/* Gorephan for the C radio firmware: opening and sealing one Network PDU (Mesh Profile 1.0.1, 3.4). No function keeps state, allocates or waits.
+ *
+ * A length says how many octets the pointer before it points to. No pointer may be null, also where the length is 0. A buffer lent for writing may
+ * not overlap another. Octets behind what is written, and the whole buffer where the call is refused, stay as they were.
+ *
+ * A credential is 33 octets: NID, encryption key (16), privacy key (16). Derive it once per network key and keep it: a PDU with a foreign NID then
+ * costs one comparison per credential.
+ *
+ * Link target/staticlib/libradio.a (rt staticlib radio), x86-64. The deepest call uses less than 16 KiB of stack. */
+#ifndef GOREPHAN_H
+#define GOREPHAN_H
+
+#include <stddef.h>
+#include <stdint.h>
+
+#define GOREPHAN_CREDENTIAL 33 /* octets of a credential */
+#define GOREPHAN_PDU 29        /* octets that a buffer for a PDU must have at least */
+
+/* The number of the refusal in an answer: 0 where nothing is refused. */
+#define GOREPHAN_REFUSAL(answer) ((answer) & 0xFF)
+/* How many credentials were tried: the opening one's place among those with the PDU's NID, from 1, or their number. */
+#define GOREPHAN_TRIALS(answer) ((answer) >> 8 & 0xFF)
+/* How many octets were written. */
+#define GOREPHAN_OCTETS(answer) ((answer) >> 16 & 0xFF)
+/* The place in the list of the credential that opened the PDU, from 0. */
+#define GOREPHAN_PLACE(answer) ((answer) >> 24)
+
+/* Writes the credential of a network key.
+ *   key, key_len   the network key, 16 octets
+ *   out, out_len   33 octets or more
+ * Answers 0, or 14 where a length is another. */
+uint32_t gorephan_credentials(const uint8_t *key, size_t key_len, uint8_t *out, size_t out_len);
+
+/* Opens a Network PDU and writes it in clear, without NetMIC: octet 0, CTL and TTL, SEQ (3), SRC (2), DST (2), transport.
+ *   credentials    whole credentials put behind each other, in the order of trial; the first four count
+ *   iv_index       the current IV Index; the one before it is tried where IVI asks for it
+ *   pdu            any octets
+ *   out            29 octets or more
+ * Refusals, in this order: 16 out is shorter than 29; 1 length not 14 to 29; 2 no credential with that NID, or no IV Index of 0 or more fits IVI;
+ * 3 none of them authenticates the PDU; 4 an address is not allowed. */
+uint32_t gorephan_open(const uint8_t *credentials, size_t credentials_len, uint32_t iv_index, const uint8_t *pdu, size_t pdu_len, uint8_t *out,
+                       size_t out_len);
+
+/* Seals a Network PDU under a credential and the IV Index given.
+ *   credential     one, 33 octets, its NID at most 127
+ *   ctl            0 or 1
+ *   ttl            0 to 127
+ *   seq            at most 0xFFFFFF
+ *   src            a unicast address, 0x0001 to 0x7FFF
+ *   dst            not 0; not virtual (0x8000 to 0xBFFF) where ctl is 1
+ *   transport      1 to 16 octets, 1 to 12 where ctl is 1
+ *   out            29 octets or more
+ * Refusals, in this order: 16 out is shorter than 29; 14 anything else outside these ranges. */
+uint32_t gorephan_seal(const uint8_t *credential, size_t credential_len, uint32_t iv_index, uint8_t ctl, uint8_t ttl, uint32_t seq, uint16_t src,
+                       uint16_t dst, const uint8_t *transport, size_t transport_len, uint8_t *out, size_t out_len);
+
+#endif

@@ -1,0 +1,136 @@
+-- What an opening tells is small: at most four trials, the place of one of four keys, at most 16 octets of transport. The candidates are places
+-- below 4, a search ends among them, and a PDU of 29 octets leaves no more transport behind front, DST and NetMIC.
+-- Assumes nothing.
+use mathlib.Core.Bool.{Bool, _&&_}
+use mathlib.Core.List.{List, [], _∷_}
+use mathlib.Core.Path.{refl}
+use Prim.Native.Nat.{ℕ, zero, suc, _/_, _%_, _≤_, _<_, min}
+use native.Mathlib.Omega.{arith}
+use borrow.Author.Tests.{ltb-true, ltb-false}
+use lib.Dec.{eqb, ltb}
+use lib.ListN.{length, getD, drop, length-drop, List·getD-eq-default}
+use Rattle.common.specs.Lists.{tab}
+use Rattle.common.specs.Search.{first, picked}
+use Rattle.common.proofs.Lists.{length-tab, getD-tab}
+use Rattle.common.proofs.Tests.{by-test}
+use Rattle.aes.specs.KeyExpansion.{keySchedule}
+use Rattle.modes.proofs.CcmLaws.{mic-octets-bounds, length-decrypted}
+use Rattle.keys.specs.declared.NetworkKeys.{NetworkKeys}
+use Rattle.network.specs.declared.header.Header.{Header}
+use Rattle.network.specs.declared.iv_index.IvIndex.{IvIndex}
+use Rattle.network.specs.declared.iv_index.IvIndex.the-variants.{Index, Nothing}
+use Rattle.network.specs.declared.trial.Found.{Found}
+use Rattle.network.specs.Address.{addressesAllowed}
+use Rattle.network.specs.Candidates.{keyAt, candidates, opens, searched}
+use Rattle.network.specs.Header.{noHeader}
+use Rattle.network.specs.IvIndex.{ivIndexHeard}
+use Rattle.network.specs.Opening.{judged, under, opening}
+use Rattle.network.specs.Pdu.{netMic, frontOf}
+use Rattle.network.specs.Trial.{ctlOf, headerOf, nonceOf, bodyTried, tried}
+
+-- ---- what is picked of a list is no longer than it, and of its elements
+module _ {A : Type 0} (q : A → Bool) where
+  length-picked : (l : List A) → length (picked q l) ≤ length l
+  unfolding picked
+  length-picked [] = omega arith
+  length-picked (x ∷ l) = let n = length-picked l in by-test (q x) (λ t. rw t (omega arith)) (λ t. rw t (omega arith))
+
+  picked-each : (P : A → Type 0) (d : A) (l : List A) → P d → ((j : ℕ) → P (getD l j d)) → (k : ℕ) → P (getD (picked q l) k d)
+  unfolding picked
+  picked-each P d [] p n k = n k
+  picked-each P d (x ∷ l) p n zero = by-test (q x) (λ t. rw t (n 0)) (λ t. rw t (picked-each P d l p (λ j. n (suc j)) 0))
+  picked-each P d (x ∷ l) p n (suc k) =
+      by-test (q x) (λ t. rw t (picked-each P d l p (λ j. n (suc j)) k)) (λ t. rw t (picked-each P d l p (λ j. n (suc j)) (suc k)))
+
+-- a place below n, or 0 past the end
+place-low : (n j : ℕ) → n ≤ 4 → getD (tab (λ i. i) n) j 0 < 4
+place-low n j h =
+    by-test (ltb j n)
+    (λ t. rw (getD-tab (λ i. i) n j 0 (ltb-true j n t)) (omega (arith, ltb-true j n t)))
+    (λ t.
+    let l = length-tab (λ i. i) n in
+    rw (List·getD-eq-default (tab (λ i. i) n) 0 {n = j} (omega (arith, ltb-false j n t))) (omega arith))
+
+-- ---- the header that a key gives
+abbrev LowHeader : Header → Type 0
+LowHeader h = (h .key < 4) × (h .len ≤ 16)
+
+module _ (key : NetworkKeys) (place iv : ℕ) (pdu : List ℕ) (low : place < 4) (short : length pdu ≤ 29) where
+  header-low : (front : List ℕ) → LowHeader (headerOf place iv front (bodyTried key iv front pdu .buffer))
+  unfolding headerOf bodyTried
+  header-low front =
+      let size = netMic (ctlOf front) in
+      let l = length-decrypted (keySchedule (key .encryption)) (nonceOf iv front) size (drop 7 pdu) refl in
+      (low, omega (arith, l, length-drop 7 pdu, mic-octets-bounds size .0))
+
+  tried-low : LowHeader (tried key place iv pdu .header)
+  unfolding tried
+  tried-low =
+      let front = frontOf key iv pdu in
+      by-test (ctlOf front && ltb (length pdu) 18)
+      (λ t. rw t (omega arith, omega arith))
+      (λ t. by-test (bodyTried key iv front pdu .answer) (λ u. rw (t, u) (header-low front)) (λ u. rw (t, u) (omega arith, omega arith)))
+
+-- ---- the search, and the call
+module _ (keys : List NetworkKeys) (count nid : ℕ) where
+  pub candidates-most : length (candidates keys count nid) ≤ 4
+  unfolding candidates
+  candidates-most =
+      omega (arith, length-picked (λ i. eqb (keyAt keys i .nid) nid) (tab (λ i. i) (min count 4)), length-tab (λ i. i) (min count 4))
+
+  candidate-low : (k : ℕ) → getD (candidates keys count nid) k 0 < 4
+  unfolding candidates
+  candidate-low k =
+      picked-each (λ i. eqb (keyAt keys i .nid) nid) (λ i. i < 4) 0 (tab (λ i. i) (min count 4)) (omega arith)
+      (λ j. place-low (min count 4) j (omega arith)) k
+
+-- at most four trials, a place below 4, at most 16 octets of transport
+pub record Bounded (trials : ℕ) (h : Header) : Type 0 where
+  pub trials-most : trials ≤ 4
+  pub key-low : h .key < 4
+  pub len-most : h .len ≤ 16
+
+-- a refusal has no header
+refused-bounded : (trials : ℕ) → trials ≤ 4 → Bounded trials noHeader
+refused-bounded trials m = record { trials-most = m; key-low = omega arith; len-most = omega arith }
+
+module _ (keys : List NetworkKeys) (count : ℕ) (pdu : List ℕ) (short : length pdu ≤ 29) where
+  searched-bounded : (nid iv : ℕ) → Bounded (searched keys count nid iv pdu .trials) (searched keys count nid iv pdu .header)
+  unfolding searched
+  searched-bounded nid iv =
+      let cs = candidates keys count nid in
+      let p = first (opens keys iv pdu) cs in
+      let i = getD cs p 0 in
+      let m = candidates-most keys count nid in
+      let h = tried-low (keyAt keys i) i iv pdu (candidate-low keys count nid p) short in
+      by-test (ltb p (length cs))
+      (λ t. rw t (record { trials-most = omega (arith, ltb-true p (length cs) t); key-low = h .0; len-most = h .1 }))
+      (λ t. rw t (refused-bounded (length cs) m))
+
+  judged-bounded : (s : Found) → Bounded (s .trials) (s .header) → Bounded (judged s .trials) (judged s .header)
+  unfolding judged
+  judged-bounded s b =
+      by-test (s .ok)
+      (λ t. by-test (addressesAllowed (s .header .ctl) (s .header .src) (s .header .dst))
+      (λ u. rw (t, u) b)
+      (λ u. rw (t, u) (refused-bounded (s .trials) (b .trials-most))))
+      (λ t. rw t (refused-bounded (s .trials) (b .trials-most)))
+
+  under-bounded : (i : IvIndex) → Bounded (under keys count pdu i .trials) (under keys count pdu i .header)
+  unfolding under
+  under-bounded Nothing = refused-bounded 0 (omega arith)
+  under-bounded (Index iv) = let s = searched keys count (getD pdu 0 0 % 128) iv pdu in judged-bounded s (searched-bounded (getD pdu 0 0 % 128) iv)
+
+pub opening-bounded :
+    (keys : List NetworkKeys) (count current : ℕ) (pdu : List ℕ)
+    → Bounded (opening keys count current pdu .trials) (opening keys count current pdu .header)
+unfolding opening
+opening-bounded keys count current pdu =
+    let none = refused-bounded 0 (omega arith) in
+    by-test (ltb (length pdu) 14)
+    (λ t. rw t none)
+    (λ t. by-test (ltb 29 (length pdu))
+    (λ u. rw (t, u) none)
+    (λ u. by-test (eqb (length (candidates keys count (getD pdu 0 0 % 128))) 0)
+    (λ v. rw (t, u, v) none)
+    (λ v. rw (t, u, v) (under-bounded keys count pdu (ltb-false 29 (length pdu) u) (ivIndexHeard current (getD pdu 0 0 / 128))))))

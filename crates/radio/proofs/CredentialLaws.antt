@@ -1,0 +1,89 @@
+-- A credential from the code's steps: sixteen octets copied onto zeros, a piece read at its place in the list, and the rules by which
+-- `gorephan_credentials` answers: `bad-key`, `no-room`, `credential-written`.
+-- Assumes nothing.
+use mathlib.Core.List.{List}
+use mathlib.Core.Path.{_≡_, sym, ap, _∙_}
+use Prim.Native.Nat.{ℕ, _+_, _-_, _*_, _≤_, _<_}
+use native.Mathlib.Nat.{add-zero}
+use native.Mathlib.Omega.{arith}
+use borrow.Author.Tests.{eq-eqb, ne-eqb, lt-ltb, le-ltb}
+use lib.ListN.{length, getD, take, drop, replicate, length-take, length-replicate, getD-replicate, List·getD-eq-default}
+use lib.Seq.{getD-take, getD-drop, take-all}
+use Rattle.common.specs.Lent.{lent}
+use Rattle.common.specs.Lists.{padded, onto}
+use Rattle.common.proofs.Lists.{tab-is, tab-ext, padded-all}
+use Rattle.keys.specs.declared.NetworkKeys.{NetworkKeys}
+use Rattle.keys.specs.Derivation.{k2}
+use Rattle.network.proofs.TrialLaws.{onto-zeros, rest-all}
+use Rattle.radio.specs.Credential.{credentialOf, keysOf, pieceAt, credentialsDone}
+
+-- ---- sixteen octets from a place on
+-- only the first n octets of a list count
+padded-taken : (n : ℕ) (l : List ℕ) → padded n (take n l) ≡ padded n l
+padded-taken n l = tab-ext (λ i. getD (take n l) i 0) (λ i. getD l i 0) n (λ k h. getD-take n l k 0 h)
+
+pub sixteen-copied :
+    (s : List ℕ) (at : ℕ) {r : List ℕ} → r ≡ onto (take 16 (take (length s - at) (drop at s))) (replicate 16 0) → r ≡ padded 16 (drop at s)
+sixteen-copied s at e =
+    e
+    ∙ ap (λ (l : List ℕ). onto (take 16 l) (replicate 16 0)) (rest-all at s)
+    ∙ onto-zeros 16 (take 16 (drop at s)) (simp length-take (omega arith))
+    ∙ padded-taken 16 (drop at s)
+
+pub sixteen-past : (s : List ℕ) (at : ℕ) → length s ≤ at → replicate 16 0 ≡ padded 16 (drop at s)
+sixteen-past s at h =
+    tab-is (λ i. getD (drop at s) i 0) 0 16 (replicate 16 0) (length-replicate {A = ℕ} 16 0)
+    (λ k m.
+    let z : length s ≤ at + k = omega arith in
+    getD-replicate 16 k 0 0 m ∙ sym (getD-drop at s k 0 ∙ List·getD-eq-default s 0 z))
+
+-- ---- a piece
+-- sixteen octets within a piece that begins at n
+part-of-piece : (n m : ℕ) (cs : List ℕ) → m ≤ 17 → padded 16 (drop (n + m) cs) ≡ padded 16 (drop m (take 33 (drop n cs)))
+part-of-piece n m cs h =
+    tab-ext (λ i. getD (drop (n + m) cs) i 0) (λ i. getD (drop m (take 33 (drop n cs))) i 0) 16
+    (λ k l.
+    let e : n + m + k ≡ n + (m + k) = omega arith in
+    let b : m + k < 33 = omega arith in
+    getD-drop (n + m) cs k 0
+    ∙ ap (λ (j : ℕ). getD cs j 0) e
+    ∙ sym (getD-drop m (take 33 (drop n cs)) k 0 ∙ getD-take 33 (drop n cs) (m + k) 0 b ∙ getD-drop n cs (m + k) 0))
+
+pub piece-read :
+    (cs : List ℕ) (i : ℕ) {a : ℕ} {e p : List ℕ} → a ≡ getD cs (33 * i) 0 → e ≡ padded 16 (drop (33 * i + 1) cs)
+    → p ≡ padded 16 (drop (33 * i + 17) cs) → record { nid = a; encryption = e; privacy = p } ≡ pieceAt cs i
+unfolding pieceAt keysOf
+piece-read cs i ea ee ep =
+    let n = 33 * i in
+    let ka = ea ∙ sym (getD-take 33 (drop n cs) 0 0 (omega arith) ∙ getD-drop n cs 0 0 ∙ ap (λ (j : ℕ). getD cs j 0) (add-zero n)) in
+    let ke = ee ∙ part-of-piece n 1 cs (omega arith) in
+    let kp = ep ∙ part-of-piece n 17 cs (omega arith) in
+    rw (ka, ke, kp)
+
+-- a credential of 33 octets is its own first piece
+pub piece-whole : (credential : List ℕ) → length credential ≡ 33 → pieceAt credential 0 ≡ keysOf credential
+unfolding pieceAt
+piece-whole credential h = ap keysOf (take-all 33 credential (omega arith))
+
+-- ---- the answers
+module _ (key out : List ℕ) where
+  pub bad-key : (length key ≡ 16 → ⊥) → lent 14 out ≡ credentialsDone key out
+  unfolding credentialsDone
+  bad-key h = simp (ne-eqb _ _ h)
+
+  module _ (h : length key ≡ 16) where
+    pub no-room : length out < 33 → lent 14 out ≡ credentialsDone key out
+    unfolding credentialsDone
+    no-room g = simp (eq-eqb _ _ h, lt-ltb _ _ g)
+
+    -- k is the key, copied; left is the lent buffer at exit
+    pub credential-written :
+        {k c left : List ℕ} {d : NetworkKeys} → 33 ≤ length out → k ≡ padded 16 key → d ≡ k2 k → c ≡ credentialOf d → length c ≡ 33
+        → left ≡ onto (take (length out) c) out → lent 0 left ≡ credentialsDone key out
+    unfolding credentialsDone
+    credential-written {k} {c} {left} {d} g ek ed ec n el =
+        let e : c ≡ credentialOf (k2 key) = ec ∙ ap credentialOf (ed ∙ ap k2 (ek ∙ padded-all 16 key h)) in
+        simp (eq-eqb _ _ h, le-ltb _ _ g)
+        (ap (lent 0) (el ∙ ap (λ (z : List ℕ). onto z out) (take-all (length out) c (omega arith) ∙ e)))
+
+pub ruleset credentials-rules = (bad-key, no-room, credential-written)

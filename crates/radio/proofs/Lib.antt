@@ -1,0 +1,6 @@
+-- The laws about the definitions of specs/, and the rules by which each call answers.
+pub mod CredentialLaws
+pub mod ClearPduLaws
+pub mod OpenLaws
+pub mod SealLaws
+pub mod SealOpen

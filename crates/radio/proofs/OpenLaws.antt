@@ -1,0 +1,63 @@
+-- The rules by which `gorephan_open` answers: `open-short`, `open-refused`, `open-written`; and that its parts fit their places in the number.
+-- Assumes nothing.
+use mathlib.Core.List.{List}
+use mathlib.Core.Path.{_≡_, sym, ap, _∙_}
+use Prim.Native.Nat.{ℕ, _≤_, _<_}
+use native.Mathlib.Omega.{arith}
+use borrow.Author.Tests.{eq-eqb, ne-eqb, lt-ltb, le-ltb}
+use lib.ListN.{length, getD}
+use Rattle.common.specs.Lent.{Lent, lent}
+use Rattle.common.specs.Lists.{onto}
+use Rattle.keys.specs.declared.NetworkKeys.{NetworkKeys}
+use Rattle.network.specs.declared.opening.Answer.{Answer}
+use Rattle.network.specs.declared.opening.Answer.the-variants.{Opened, WrongLength, NoCandidate, NotAuthentic, WrongAddress}
+use Rattle.network.specs.declared.opening.Opening.{Opening}
+use Rattle.network.specs.Opening.{paper, opening}
+use Rattle.network.proofs.OpeningBounds.{Bounded, opening-bounded}
+use Rattle.radio.specs.ClearPdu.{clearPdu}
+use Rattle.radio.specs.Credential.{pieces, pieceCount}
+use Rattle.radio.specs.Open.{packed, told, openDone}
+
+pub paper-most : (a : Answer) → paper a ≤ 4
+paper-most Opened = omega arith
+paper-most WrongLength = omega arith
+paper-most NoCandidate = omega arith
+paper-most NotAuthentic = omega arith
+paper-most WrongAddress = omega arith
+
+-- what an opening tells is small
+pub opened-small :
+    (held : List NetworkKeys) (count iv : ℕ) (pdu : List ℕ) {o : Opening} → o ≡ opening held count iv pdu → Bounded (o .trials) (o .header)
+opened-small held count iv pdu e = rw e (opening-bounded held count iv pdu)
+
+module _ (credentials : List ℕ) (iv : ℕ) (pdu out : List ℕ) where
+  pub open-short : length out < 29 → lent 16 out ≡ openDone credentials iv pdu out
+  unfolding openDone
+  open-short h = simp (lt-ltb _ _ h)
+
+  module _ {held : List NetworkKeys} {count : ℕ} {o : Opening} (eh : held ≡ pieces credentials) (ec : count ≡ pieceCount credentials)
+      (eo : o ≡ opening held count iv pdu) where
+    module _ (room : 29 ≤ length out) where
+      open-told : told (getD pdu 0 0) out o ≡ openDone credentials iv pdu out
+      unfolding openDone
+      open-told = simp (le-ltb _ _ room, eo, eh, ec)
+
+      pub open-refused :
+          {n r : ℕ} → n ≡ paper (o .answer) → (n ≡ 0 → ⊥) → r ≡ packed n (o .trials) 0 0 → lent r out ≡ openDone credentials iv pdu out
+      unfolding told
+      open-refused en z er =
+          let f : paper (o .answer) ≡ 0 → ⊥ = λ e. z (en ∙ e) in
+          rw (er, en) (rw (ne-eqb (paper (o .answer)) 0 f) at open-told)
+
+      -- left is the lent buffer at exit
+      pub open-written :
+          {n first octets r : ℕ} {left : List ℕ} → n ≡ paper (o .answer) → n ≡ 0 → first ≡ getD pdu 0 0
+          → lent octets left ≡ lent (length (clearPdu first (o .header))) (onto (clearPdu first (o .header)) out)
+          → r ≡ packed 0 (o .trials) octets (o .header .key) → lent r left ≡ openDone credentials iv pdu out
+      unfolding told
+      open-written {n} {first} {octets} {r} {left} en z ef ew er =
+          let el = ap (λ (w : Lent ℕ). w .answer) ew ∙ ap (λ (x : ℕ). length (clearPdu x (o .header))) ef in
+          let eb = ap (λ (w : Lent ℕ). w .buffer) ew ∙ ap (λ (x : ℕ). onto (clearPdu x (o .header)) out) ef in
+          rw (er, el, eb) (rw (eq-eqb (paper (o .answer)) 0 (sym en ∙ z)) at open-told)
+
+pub ruleset open-rules = (open-short, open-refused, open-written)

@@ -1,0 +1,15 @@
+-- `radio::credential::pieces` meets its contract: its elements are those of the definition, one by one.
+-- Assumes nothing.
+use borrow.Author.Needs.{needs}
+use Rattle.radio.specs.Credential.{pieces}
+use Rattle.radio.proofs.credential.pieces.Statement.{statement}
+use Rattle.radio.proofs.credential.pieces.Tie as tie
+
+returns : tie.Need-returns
+unfolding pieces
+returns c = cc
+
+pub pieces-spec : {M : Type 1} → statement M
+pieces-spec =
+    tie.close (tie.spec
+    (λ c κs. search needs) (λ c κs. search needs) (λ c κs. search needs) (λ c κs. search needs) returns)

@@ -1,0 +1,20 @@
+-- `radio::seal_number` meets its contract: a refusal's number is 16 at most, and a PDU's length 29.
+-- Assumes nothing.
+use native.Mathlib.Omega.{arith}
+use borrow.Author.Needs.{needs}
+use Rattle.radio.specs.Seal.{sealNumber}
+use Rattle.radio.proofs.SealLaws.{paper-most}
+use Rattle.radio.proofs.seal_number.Statement.{statement}
+use Rattle.radio.proofs.seal_number.Tie as tie
+
+add-result : tie.Need-add-result
+add-result c = omega (arith, paper-most (c .before .before .args .answer))
+
+returns : tie.Need-returns
+unfolding sealNumber
+returns c = omega arith
+
+pub seal-number-spec : {M : Type 1} → statement M
+seal-number-spec =
+    tie.close (tie.spec
+    (λ c κs. search needs) (λ c κs. search needs) (λ c. search needs) (λ c. search needs) add-result returns)

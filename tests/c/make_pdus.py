@@ -1,0 +1,62 @@
+"""Writes pdus.h for c/test.c: every Network PDU of vectors/mp_samples.json with its parts, and PDUs with addresses that are not allowed.
+
+  python3 tests/c/make_pdus.py > pdus.h
+
+No function of ours seals an address that is not allowed, so those PDUs are sealed here, by OpenSSL (python3-cryptography), from MP 3.4.
+"""
+import json
+from pathlib import Path
+
+from cryptography.hazmat.primitives.ciphers import Cipher, algorithms, modes
+from cryptography.hazmat.primitives.ciphers.aead import AESCCM
+
+SAMPLES = json.loads((Path(__file__).resolve().parents[2] / "vectors" / "mp_samples.json").read_text())
+FIRST = SAMPLES["messages"][0]
+
+
+def array(octets):
+    return "{" + ", ".join(f"0x{x:02x}" for x in octets) + "}"
+
+
+def credential(message):
+    return bytes.fromhex(message["nid"] + message["encryption_key"] + message["privacy_key"])
+
+
+def sealed(cred, iv_index, ctl, ttl, seq, src, dst, transport):
+    """A Network PDU octet by octet (MP 3.4.4, 3.8.7)."""
+    front = bytes([ctl << 7 | ttl]) + seq.to_bytes(3, "big") + src.to_bytes(2, "big")
+    iv = iv_index.to_bytes(4, "big")
+    nonce = b"\x00" + front + b"\x00\x00" + iv
+    body = AESCCM(cred[1:17], tag_length=8 if ctl else 4).encrypt(nonce, dst.to_bytes(2, "big") + transport, None)
+    pecb = Cipher(algorithms.AES(cred[17:]), modes.ECB()).encryptor().update(bytes(5) + iv + body[:7])
+    return bytes([(iv_index & 1) << 7 | cred[0]]) + bytes(a ^ b for a, b in zip(front, pecb)) + body
+
+
+def main():
+    print("/* Made by tests/c/make_pdus.py from vectors/mp_samples.json. */")
+    print("#define MP_NET_KEY", array(bytes.fromhex(FIRST["net_key"])))
+    print("#define MP_CREDENTIAL", array(credential(FIRST)))
+    print("static const struct mp_pdu { const char *name; uint8_t credential[33]; uint32_t iv_index; uint8_t ctl, ttl; uint32_t seq; uint16_t src, dst;")
+    print("    size_t transport_len; uint8_t transport[16]; size_t pdu_len; uint8_t pdu[29]; } mp_pdus[] = {")
+    for message in SAMPLES["messages"]:
+        for pdu in message["pdus"]:
+            transport, whole = bytes.fromhex(pdu["lower_transport_pdu"]), bytes.fromhex(pdu["network_pdu"])
+            print(f'    {{"MP {message["section"]}, SEQ {pdu["seq"]}", {array(credential(message))}, 0x{message["iv_index"]}, {message["ctl"]}, {message["ttl"]},'
+                  f' 0x{pdu["seq"]}, 0x{message["src"]}, 0x{message["dst"]}, {len(transport)}, {array(transport)}, {len(whole)}, {array(whole)}}},')
+    print("};")
+    print("static const struct { const char *name; uint32_t iv_index; size_t pdu_len; uint8_t pdu[29]; } unallowed[] = {")
+    for name, ctl, src, dst in (("SRC unassigned", 0, 0x0000, 0x0001), ("SRC virtual", 0, 0x8000, 0x0001), ("SRC a group", 1, 0xC000, 0x0001),
+                                ("DST unassigned", 0, 0x0001, 0x0000), ("DST virtual with CTL 1", 1, 0x0001, 0xBFFF)):
+        pdu = sealed(credential(FIRST), 0x12345678, ctl, 5, 77, src, dst, b"\x01\x02\x03")
+        print(f'    {{"{name}", 0x12345678, {len(pdu)}, {array(pdu)}}},')
+    print("};")
+    # the sealing here is MP's: it makes MP's own PDUs
+    for message in SAMPLES["messages"]:
+        for pdu in message["pdus"]:
+            made = sealed(credential(message), int(message["iv_index"], 16), message["ctl"], message["ttl"], int(pdu["seq"], 16), int(message["src"], 16),
+                          int(message["dst"], 16), bytes.fromhex(pdu["lower_transport_pdu"]))
+            assert made.hex() == pdu["network_pdu"], message["section"]
+
+
+if __name__ == "__main__":
+    main()
