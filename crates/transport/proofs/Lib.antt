@@ -1,0 +1,5 @@
+-- The laws about the definitions of specs/.
+pub mod LeadsBack
+pub mod FormLaws
+pub mod ReadsBack
+pub mod Examples

@@ -1,0 +1,9 @@
+-- What lower transport (MP 3.5) is read and written by: SeqAuth, opcodes, the fields of a transport PDU, its form, segments and acknowledgements.
+pub mod SeqAuth
+pub mod LeadsBack
+pub mod Opcode
+pub mod Fields
+pub mod Form
+pub mod Segment
+pub mod ReadsBack
+pub mod Examples

@@ -1,0 +1,69 @@
+-- Promises: what was written is read back. A header whose transport PDU begins with the octets that were written has their fields, where
+-- these are in their ranges.
+use mathlib.Core.Bool.{Bool, true, false}
+use mathlib.Core.List.{List, [], _∷_, _++_}
+use mathlib.Core.Path.{_≡_}
+use Prim.Native.Nat.{ℕ, _^_, _≤_, _<_}
+use Rattle.network.specs.declared.header.Header.{Header}
+use Rattle.transport.specs.declared.form.Form.the-variants.{Access, AccessSegment, Control, ControlSegment, Acknowledgement}
+use Rattle.transport.specs.Form.{keyFits, segmentFits, formOf}
+use Rattle.transport.specs.Segment.{accessOctet, controlOctet, segmentFront, acknowledgementOctets}
+
+-- the header has this CTL, and its transport PDU begins with these octets
+pub record Carries (h : Header) (ctl : Bool) (octets : List ℕ) : Type 0 where
+  pub behind : List ℕ
+  pub ctl-is : h .ctl ≡ ctl
+  pub begins : h .transport ≡ octets ++ behind
+
+-- SeqZero has 13 bits, SegN 5; SegO is at most SegN, and the segment of so many octets is full or the last
+pub record InRange (seqZero segO segN n full : ℕ) : Type 0 where
+  pub seqZero-fits : seqZero < 8192
+  pub segN-fits : segN < 32
+  pub fits : segmentFits segO segN n full ≡ true
+
+-- AID has 6 bits, and AKF 0 has AID 0 and a unicast DST
+pub record KeyInRange (akf : Bool) (aid dst : ℕ) : Type 0 where
+  pub aid-fits : aid < 64
+  pub fits : keyFits akf aid dst ≡ true
+
+-- an opcode of a control message is 0x01-0x7F
+pub record OpcodeInRange (opcode : ℕ) : Type 0 where
+  pub not-zero : 0x01 ≤ opcode
+  pub opcode-fits : opcode ≤ 0x7F
+
+-- a whole access message
+abbrev pub AccessReadsBack : Type 0
+AccessReadsBack =
+    (h : Header) (akf : Bool) (aid : ℕ)
+    → Carries h false (accessOctet false akf aid ∷ []) → KeyInRange akf aid (h .dst) → 6 ≤ h .len
+    → formOf h ≡ Access akf aid
+
+-- a segment of an access message
+abbrev pub AccessSegmentReadsBack : Type 0
+AccessSegmentReadsBack =
+    (h : Header) (akf : Bool) (aid : ℕ) (szmic : Bool) (seqZero segO segN : ℕ)
+    → Carries h false (segmentFront (accessOctet true akf aid) szmic seqZero segO segN)
+    → KeyInRange akf aid (h .dst) → InRange seqZero segO segN (h .len) 16
+    → formOf h ≡ AccessSegment akf aid szmic seqZero segO segN
+
+-- a whole control message
+abbrev pub ControlReadsBack : Type 0
+ControlReadsBack =
+    (h : Header) (opcode : ℕ)
+    → Carries h true (controlOctet false opcode ∷ []) → OpcodeInRange opcode
+    → formOf h ≡ Control opcode
+
+-- a segment of a control message
+abbrev pub ControlSegmentReadsBack : Type 0
+ControlSegmentReadsBack =
+    (h : Header) (opcode seqZero segO segN : ℕ)
+    → Carries h true (segmentFront (controlOctet true opcode) false seqZero segO segN)
+    → OpcodeInRange opcode → InRange seqZero segO segN (h .len) 12
+    → formOf h ≡ ControlSegment opcode seqZero segO segN
+
+-- an acknowledgement
+abbrev pub AcknowledgementReadsBack : Type 0
+AcknowledgementReadsBack =
+    (h : Header) (obo : Bool) (seqZero bits : ℕ)
+    → Carries h true (acknowledgementOctets obo seqZero bits) → h .len ≡ 7 → seqZero < 8192 → bits < 2 ^ 32
+    → formOf h ≡ Acknowledgement obo seqZero bits
