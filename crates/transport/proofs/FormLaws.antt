@@ -84,6 +84,7 @@ module _ (h : Header) where
       segment-read t = rw (← ea, ← ek, not-false k e, ← en, ← es, not-false s t)
 
 pub ruleset access-rules = (access-short, access-whole, access-key)
+
 pub ruleset access-segment-rules = (segment-key, segment-odd, segment-read)
 
 -- ---- CTL 1
@@ -127,6 +128,7 @@ module _ (h : Header) (o : OpcodeKind) (eo : o ≡ opcodeKind (opcode (first h))
     segment-none = rw (← eo, k)
 
 pub ruleset control-rules = (ack-length, ack-read, control-whole, control-none)
+
 pub ruleset control-segment-rules = (segment-of-ack, control-odd, control-read, segment-none)
 
 -- ---- by CTL and SEG

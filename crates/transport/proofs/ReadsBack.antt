@@ -69,13 +69,21 @@ record FieldsBack (s : Bool) (z o n number : ℕ) : Type 0 where
 fields-back : (s : Bool) (z o n : ℕ) → z < 8192 → o < 32 → n < 32 → FieldsBack s z o n (segmentNumber s z o n)
 unfolding segmentNumber
 fields-back true z o n hz ho hn =
-    record
-    { is-szmic = le-leb 8388608 (8388608 + (z % 8192 * 1024 + o % 32 * 32 + n % 32)) (omega arith);
-    is-seqZero = omega arith; is-segO = omega arith; is-segN = omega arith; small = omega arith }
+    record {
+      is-szmic = le-leb 8388608 (8388608 + (z % 8192 * 1024 + o % 32 * 32 + n % 32)) (omega arith);
+      is-seqZero = omega arith;
+      is-segO = omega arith;
+      is-segN = omega arith;
+      small = omega arith;
+    }
 fields-back false z o n hz ho hn =
-    record
-    { is-szmic = lt-leb 8388608 (0 + (z % 8192 * 1024 + o % 32 * 32 + n % 32)) (omega arith);
-    is-seqZero = omega arith; is-segO = omega arith; is-segN = omega arith; small = omega arith }
+    record {
+      is-szmic = lt-leb 8388608 (0 + (z % 8192 * 1024 + o % 32 * 32 + n % 32)) (omega arith);
+      is-seqZero = omega arith;
+      is-segO = omega arith;
+      is-segN = omega arith;
+      small = omega arith;
+    }
 
 -- a number of 24 bits is that of its three octets
 three : (a number : ℕ) (l : List ℕ) → number < 16777216 → number ≡ segmentFields ((a ∷ octets 3 number) ++ l)

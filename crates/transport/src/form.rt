@@ -9,7 +9,10 @@ ghost use Rattle.transport.specs.Form.{keyFits, segmentFits, accessForm,
 // What a transport PDU is.
 pub enum Form {
     // A whole access message.
-    Access { akf: bool, aid: u8 },
+    Access {
+        akf: bool,
+        aid: u8,
+    },
     // A segment of an access message.
     AccessSegment {
         akf: bool,
@@ -20,7 +23,9 @@ pub enum Form {
         seg_n: u8,
     },
     // A whole control message.
-    Control { opcode: u8 },
+    Control {
+        opcode: u8,
+    },
     // A segment of a control message.
     ControlSegment {
         opcode: u8,
