@@ -38,24 +38,13 @@ pub(crate) fn put(s: &[u8], out: &mut [u8], at: usize) -> usize
     }
 }
 
-// Puts a number into out at `at`, in decimal.
-fn put_decimal(n: usize, out: &mut [u8], at: usize) -> usize
-    requires { ⌜ at ≤ length (now out) ⌝ }
-    ensures { λ r. ⌜ r ≤ length (now (out .entry)) ⌝ }
-{
-    let digit = [b'0' + (n % 10) as u8];
-    if n < 10 {
-        return put(&digit, out, at);
-    }
-    let to = put_decimal(n / 10, out, at);
-    put(&digit, out, to)
-}
-
 // Puts a label and then a number, in decimal, into out at `at`.
 pub(crate) fn put_count(label: &[u8], n: usize, out: &mut [u8], at: usize) -> usize
     requires { ⌜ at ≤ length (now out) ⌝ }
     ensures { λ r. ⌜ r ≤ length (now (out .entry)) ⌝ }
 {
     let from = put(label, out, at);
-    put_decimal(n, out, from)
+    let mut digits = [0u8; 20];
+    let k = io::decimal(n as u64, &mut digits);
+    put(&digits[..k], out, from)
 }
