@@ -1,6 +1,6 @@
 -- `Found`, `Ends` and `LeadsBack`: the number stands in SEQ's own 8,192 or in the 8,192 before, and in each case the rest is arithmetic.
 -- Assumes nothing.
-use mathlib.Core.Path.{_≡_, sym, ap, _∙_}
+use mathlib.Core.Path.{_≡_, ap}
 use Prim.Native.Nat.{ℕ, _%_, _+_, _*_, _/_, _-_}
 use native.Mathlib.Omega.{arith}
 use lib.Dec.{leb}
@@ -8,7 +8,7 @@ use borrow.Author.Tests.{le-leb, leb-true, leb-false}
 use Rattle.common.proofs.Tests.{by-test}
 use Rattle.transport.specs.declared.seq_auth.SeqAuth.the-variants.{At, Nowhere}
 use Rattle.transport.specs.SeqAuth.{seqAuth}
-use Rattle.transport.specs.LeadsBack.{EndsIn, Found, Ends, LeadsBack}
+use Rattle.transport.specs.LeadsBack.{Found, Ends, LeadsBack}
 
 pub found : Found
 unfolding seqAuth
@@ -48,4 +48,4 @@ ends seq seqZero n e =
 
 pub leads-back : LeadsBack
 leads-back first seq sent =
-    found seq (first % 8192) first (record { not-after = sent .later; near = sent .near; low = omega arith })
+    found seq (first % 8192) first (record { not-after = omega arith; near = omega arith; low = omega arith })

@@ -1,5 +1,6 @@
 -- The laws about the definitions of specs/.
 pub mod LeadsBack
 pub mod FormLaws
+pub mod Ranges
 pub mod ReadsBack
 pub mod Examples

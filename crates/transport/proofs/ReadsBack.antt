@@ -2,23 +2,23 @@
 -- that the fields made. Then the rule of the form's answer gives the fields.
 -- Assumes nothing.
 use mathlib.Core.Bool.{Bool, true, false}
-use mathlib.Core.List.{List, [], _∷_, _++_}
+use mathlib.Core.List.{List, _∷_, _++_}
 use mathlib.Core.Path.{_≡_, refl, sym, ap, _∙_}
-use Prim.Native.Nat.{ℕ, _+_, _*_, _/_, _%_, _^_, _≤_, _<_}
+use Prim.Native.Nat.{ℕ, _+_, _*_, _%_, _^_, _≤_, _<_}
 use native.Mathlib.Omega.{arith}
 use borrow.Author.Tests.{leb-true, le-leb, lt-leb, ne-eqb}
-use lib.Dec.{leb, eqb}
+use lib.Dec.{leb}
 use lib.ListN.{getD}
 use Rattle.common.proofs.Tests.{and-first, and-second}
-use Rattle.network.specs.declared.header.Header.{Header}
 use Rattle.network.specs.Octets.{octets}
-use Rattle.transport.specs.declared.form.Form.the-variants.{Access, AccessSegment, Control, ControlSegment, Acknowledgement}
+use Rattle.transport.specs.declared.form.Form.the-variants.{Access, Control}
 use Rattle.transport.specs.declared.opcode.OpcodeKind.the-variants.{OfAcknowledgement, OfControl}
 use Rattle.transport.specs.Opcode.{opcodeKind}
 use Rattle.transport.specs.Fields.{seg, akf, aid, opcode, segmentFields, szmic, seqZero, segO, segN, acknowledged, obo, seqZeroHeard, blockAck}
 use Rattle.transport.specs.Form.{keyFits, segmentFits, first}
 use Rattle.transport.specs.Segment.{accessOctet, controlOctet, segmentNumber, segmentFront, acknowledgementNumber, acknowledgementOctets}
-use Rattle.transport.specs.ReadsBack.{Carries, InRange, KeyInRange, OpcodeInRange, AccessReadsBack, AccessSegmentReadsBack, ControlReadsBack, ControlSegmentReadsBack, AcknowledgementReadsBack}
+use Rattle.transport.specs.Ranges.{OpcodeInRange}
+use Rattle.transport.specs.ReadsBack.{AccessReadsBack, AccessSegmentReadsBack, ControlReadsBack, ControlSegmentReadsBack, AcknowledgementReadsBack}
 use Rattle.transport.proofs.FormLaws.{form-as, access-whole, segment-read, ack-read, control-whole, control-read}
 
 -- ---- octet 0
@@ -131,7 +131,7 @@ unfolding segmentFront
 access-segment-reads-back h k a s z o n c r i =
     let octet = accessOctet true k a in
     let number = segmentNumber s z o n in
-    let b = fields-back s z o n (i .seqZero-fits) (omega (arith, i .segN-fits, segO-fits o n (h .len) 16 (i .fits))) (i .segN-fits) in
+    let b = fields-back s z o n (omega (arith, i .seqZero-fits)) (omega (arith, i .segN-fits, segO-fits o n (h .len) 16 (i .fits))) (omega (arith, i .segN-fits)) in
     let e : first h ≡ octet = ap (λ (t : List ℕ). getD t 0 0) (c .begins) in
     let ea : k ≡ akf (first h) = sym (ap akf e ∙ akf-access true k a) in
     let ei : aid (first h) ≡ a = ap aid e ∙ aid-access true k a (r .aid-fits) in
@@ -156,7 +156,7 @@ unfolding segmentFront
 control-segment-reads-back h p z o n c r i =
     let octet = controlOctet true p in
     let number = segmentNumber false z o n in
-    let b = fields-back false z o n (i .seqZero-fits) (omega (arith, i .segN-fits, segO-fits o n (h .len) 12 (i .fits))) (i .segN-fits) in
+    let b = fields-back false z o n (omega (arith, i .seqZero-fits)) (omega (arith, i .segN-fits, segO-fits o n (h .len) 12 (i .fits))) (omega (arith, i .segN-fits)) in
     let e : first h ≡ octet = ap (λ (t : List ℕ). getD t 0 0) (c .begins) in
     let ep : opcode (first h) ≡ p = ap opcode e ∙ opcode-control true p (r .opcode-fits) in
     let en : number ≡ segmentFields (h .transport) = three octet number (c .behind) (b .small) ∙ sym (ap segmentFields (c .begins)) in

@@ -35,7 +35,7 @@ accessForm h =
     if leb 6 (h .len) && keyFits (akf (first h)) (aid (first h)) (h .dst) then Access (akf (first h)) (aid (first h)) else
     Wrong
 
--- SEG 1, AKF, AID; SZMIC, SeqZero, SegO, SegN; then at most 12 octets
+-- SEG 1, AKF, AID; SZMIC, SeqZero, SegO, SegN; full with 12 octets behind them
 unfoldable pub accessSegmentForm : Header → Form
 accessSegmentForm h =
     let n = segmentFields (h .transport) in
@@ -56,7 +56,7 @@ controlAs NoOpcode h = Wrong
 unfoldable pub controlForm : Header → Form
 controlForm h = controlAs (opcodeKind (opcode (first h))) h
 
--- opcode 0x01-0x7F; RFU bit, SeqZero, SegO, SegN; then at most 8 octets
+-- opcode 0x01-0x7F; RFU bit, SeqZero, SegO, SegN; full with 8 octets behind them
 unfoldable pub controlSegmentAs : OpcodeKind → Header → Form
 controlSegmentAs OfAcknowledgement h = Wrong
 controlSegmentAs OfControl h =

@@ -1,7 +1,7 @@
 -- Promises: SeqAuth is as document 01 says it, and a segment sent within 8,191 of the number that its message was begun with leads back to it.
 use mathlib.Core.Path.{_≡_}
 use Prim.Native.Nat.{ℕ, _+_, _%_, _≤_}
-use Rattle.transport.specs.declared.seq_auth.SeqAuth.the-variants.{At, Nowhere}
+use Rattle.transport.specs.declared.seq_auth.SeqAuth.the-variants.{At}
 use Rattle.transport.specs.SeqAuth.{seqAuth}
 
 -- a number from SEQ - 8191 to SEQ whose low 13 bits are SeqZero; there is never a second

@@ -5,5 +5,6 @@ pub mod Opcode
 pub mod Fields
 pub mod Form
 pub mod Segment
+pub mod Ranges
 pub mod ReadsBack
 pub mod Examples

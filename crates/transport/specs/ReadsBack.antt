@@ -6,7 +6,8 @@ use mathlib.Core.Path.{_≡_}
 use Prim.Native.Nat.{ℕ, _^_, _≤_, _<_}
 use Rattle.network.specs.declared.header.Header.{Header}
 use Rattle.transport.specs.declared.form.Form.the-variants.{Access, AccessSegment, Control, ControlSegment, Acknowledgement}
-use Rattle.transport.specs.Form.{keyFits, segmentFits, formOf}
+use Rattle.transport.specs.Form.{formOf}
+use Rattle.transport.specs.Ranges.{InRange, KeyInRange, OpcodeInRange}
 use Rattle.transport.specs.Segment.{accessOctet, controlOctet, segmentFront, acknowledgementOctets}
 
 -- the header has this CTL, and its transport PDU begins with these octets
@@ -14,22 +15,6 @@ pub record Carries (h : Header) (ctl : Bool) (octets : List ℕ) : Type 0 where
   pub behind : List ℕ
   pub ctl-is : h .ctl ≡ ctl
   pub begins : h .transport ≡ octets ++ behind
-
--- SeqZero has 13 bits, SegN 5; SegO is at most SegN, and the segment of so many octets is full or the last
-pub record InRange (seqZero segO segN n full : ℕ) : Type 0 where
-  pub seqZero-fits : seqZero < 8192
-  pub segN-fits : segN < 32
-  pub fits : segmentFits segO segN n full ≡ true
-
--- AID has 6 bits, and AKF 0 has AID 0 and a unicast DST
-pub record KeyInRange (akf : Bool) (aid dst : ℕ) : Type 0 where
-  pub aid-fits : aid < 64
-  pub fits : keyFits akf aid dst ≡ true
-
--- an opcode of a control message is 0x01-0x7F
-pub record OpcodeInRange (opcode : ℕ) : Type 0 where
-  pub not-zero : 0x01 ≤ opcode
-  pub opcode-fits : opcode ≤ 0x7F
 
 -- a whole access message
 abbrev pub AccessReadsBack : Type 0

@@ -3,7 +3,7 @@ use super::opcode::OpcodeKind;
 use network::header::Header;
 ghost use mathlib.Core.Path.{_≡_};
 ghost use Prim.Native.Nat.{_+_, _*_};
-ghost use Rattle.transport.specs.Fields.{seg, akf, szmic, seqZero, segO, segN, obo, seqZeroHeard, blockAck};
+ghost use Rattle.transport.specs.Fields.{seg, akf};
 ghost use Rattle.transport.specs.Form.{keyFits, segmentFits, accessForm, accessSegmentForm, controlForm, controlSegmentForm, formOf};
 
 // What a transport PDU is.
