@@ -6,7 +6,7 @@
  * A credential is 33 octets: NID, encryption key (16), privacy key (16). Derive it once per network key and keep it: a PDU with a foreign NID then
  * costs one comparison per credential.
  *
- * Link target/staticlib/libradio.a (rt staticlib radio), x86-64. The deepest call uses less than 16 KiB of stack. */
+ * Link target/staticlib/libradio.a (rt staticlib radio), x86-64. Measured, not proved: the deepest call uses some 5 KiB of stack. */
 #ifndef GOREPHAN_H
 #define GOREPHAN_H
 
