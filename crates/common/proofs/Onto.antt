@@ -5,7 +5,7 @@ use mathlib.Core.List.{List, [], _∷_, _++_, append-assoc, append-nil}
 use Prim.Native.Nat.{ℕ, zero, suc, _+_, _-_, _≤_, _<_}
 use native.Mathlib.Omega.{arith}
 use native.Mathlib.Numerals.{add-one}
-use lib.ListN.{length, getD, take, drop, set, length-append, length-drop, length-take}
+use lib.ListN.{length, getD, take, drop, set, length-append}
 use lib.Seq.{take-suc, take-at, take-length, take-all, drop-cons, drop-at, drop-drop, drop-length, set-at, length-take-le}
 use Rattle.common.specs.Lists.{onto}
 
@@ -18,9 +18,6 @@ copied-more s l i h k =
     ap (λ (z : List ℕ). set (take i s ++ z) i (getD s i 0)) (drop-cons l i 0 k)
     ∙ set-at (take i s) (getD l i 0) (drop (suc i) l) (getD s i 0) i (length-take-le i s (omega arith))
     ∙ rw (add-one, take-suc s i 0) (sym (append-assoc (take i s) (getD s i 0 ∷ []) (drop (suc i) l)))
-
-pub length-copied : (s l : List ℕ) (i : ℕ) → i ≤ length s → i ≤ length l → length (copied s l i) ≡ length l
-length-copied s l i h k = simp (length-append, length-take, length-drop) (omega arith)
 
 -- the end, where s is copied whole, and where l is full
 pub copied-whole : (s l : List ℕ) (i : ℕ) → i ≡ length s → i ≤ length l → copied s l i ≡ onto (take (length l) s) l

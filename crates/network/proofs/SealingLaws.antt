@@ -25,8 +25,9 @@ use Rattle.network.specs.declared.header.Header.{Header}
 use Rattle.network.specs.Address.{addressesAllowed}
 use Rattle.network.specs.Octets.{octets}
 use Rattle.network.specs.Pdu.{netMic, firstOctet, clearFront, obfuscated, bodyOf, pduOf}
+use Rattle.network.specs.declared.sealing.Answer.{Answer}
 use Rattle.network.specs.declared.sealing.Answer.the-variants.{Sealed, OutsideRules, ShortBuffer}
-use Rattle.network.specs.Sealing.{mostTransport, sealable, sealing}
+use Rattle.network.specs.Sealing.{paper, sealedLength, mostTransport, sealable, sealing}
 use Rattle.network.proofs.Front.{length-obfuscated}
 use Rattle.network.proofs.Sealed.{clearBody, nonceFor, length-clear, mic-octets, length-body, within}
 
@@ -150,6 +151,18 @@ module _ (key : NetworkKeys) (h : Header) (sixteen : length (h .transport) ≡ 1
       ∙ onto-before (f ∷ o) b out x 7 (omega arith) behind
 
 -- ---- the answers
+-- number and octets tell any two apart
+pub paper-apart : (a b : Answer) → paper a ≡ paper b → sealedLength a ≡ sealedLength b → a ≡ b
+paper-apart (Sealed m) (Sealed n) e f = ap Sealed f
+paper-apart (Sealed m) OutsideRules e f = absurd (omega arith)
+paper-apart (Sealed m) ShortBuffer e f = absurd (omega arith)
+paper-apart OutsideRules (Sealed n) e f = absurd (omega arith)
+paper-apart OutsideRules OutsideRules e f = refl
+paper-apart OutsideRules ShortBuffer e f = absurd (omega arith)
+paper-apart ShortBuffer (Sealed n) e f = absurd (omega arith)
+paper-apart ShortBuffer OutsideRules e f = absurd (omega arith)
+paper-apart ShortBuffer ShortBuffer e f = refl
+
 module _ (key : NetworkKeys) (h : Header) (out : List ℕ) where
   pub seal-short : length out < 29 → lent ShortBuffer out ≡ sealing key h out
   unfolding sealing

@@ -16,6 +16,11 @@ ivIndexHeard current ivi =
     if eqb current 0 then Nothing else
     Index (current - 1)
 
+-- this paper's number of each answer: nothing is refusal 2
+abbrev pub paper : IvIndex → ℕ
+paper (Index iv) = 0
+paper Nothing = 2
+
 -- the current one, or with the flag set the one before; before 0 there is none, which setup refuses, and 0 stays 0
 unfoldable pub ivIndexSent : ℕ → Bool → ℕ
 ivIndexSent current flag = if flag then current - 1 else current

@@ -25,6 +25,12 @@ paper (Sealed len) = 0
 paper OutsideRules = 14
 paper ShortBuffer = 16
 
+-- its value: the octets of the PDU
+abbrev pub sealedLength : Answer → ℕ
+sealedLength (Sealed len) = len
+sealedLength OutsideRules = 0
+sealedLength ShortBuffer = 0
+
 -- the most octets of transport: 16, or 12 if CTL is 1
 abbrev pub mostTransport : Bool → ℕ
 mostTransport ctl = if ctl then 12 else 16
@@ -51,6 +57,9 @@ abbrev pub lowered : Header → Header
 lowered h =
     record { key = h .key; iv = h .iv; ctl = h .ctl; ttl = h .ttl - 1; seq = h .seq; src = h .src; dst = h .dst; len = h .len; transport = h .transport }
 
--- the PDU that was opened by the key at its place, resealed by it
+-- the PDU resealed by the key at its place, with TTL less 1, a TTL of 0 as it is; 16 comes before a place that holds no key, 14
 unfoldable pub forwarding : List NetworkKeys → Header → List ℕ → Lent Answer
-forwarding keys h buf = if ltb (h .key) 4 then sealing (keyAt keys (h .key)) (lowered h) buf else lent OutsideRules buf
+forwarding keys h buf =
+    if ltb (length buf) 29 then lent ShortBuffer buf else
+    if ltb (h .key) 4 then sealing (keyAt keys (h .key)) (lowered h) buf else
+    lent OutsideRules buf

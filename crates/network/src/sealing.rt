@@ -194,6 +194,9 @@ pub fn lower(h: Header) -> Header
 pub fn forward(held: [NetworkKeys; 4], h: Header, out: &mut [u8]) -> Answer
     ensures { λ r. ⌜ lent r (now (out .exit)) ≡ forwarding held h (now (out .entry)) ⌝ }
 {
+    if out.len() < 29 {
+        return Answer::ShortBuffer;
+    }
     let place = h.key;
     if 4 <= place {
         return Answer::OutsideRules;

@@ -14,11 +14,11 @@ use Rattle.keys.specs.declared.NetworkKeys.{NetworkKeys}
 use Rattle.network.specs.declared.header.Header.{Header}
 use Rattle.network.specs.declared.sealing.Answer.{Answer}
 use Rattle.network.specs.declared.sealing.Answer.the-variants.{Sealed, OutsideRules, ShortBuffer}
-use Rattle.network.specs.Sealing.{paper, sealable, sealing}
+use Rattle.network.specs.Sealing.{sealedLength, paper, sealable, sealing}
 use Rattle.network.proofs.Sealed.{within, pdu-length}
 use Rattle.network.proofs.SealingLaws.{body-most, transport-there}
 use Rattle.radio.specs.Credential.{keysOf, pieceAt}
-use Rattle.radio.specs.Seal.{headerFor, sealedLength, sealNumber, sealDone}
+use Rattle.radio.specs.Seal.{headerFor, sealNumber, sealDone}
 use Rattle.radio.proofs.CredentialLaws.{piece-whole}
 
 pub paper-most : (a : Answer) → paper a ≤ 16

@@ -12,20 +12,13 @@ use Rattle.common.specs.Lent.{Lent, lent}
 use Rattle.common.specs.Lists.{padded}
 use Rattle.network.specs.declared.header.Header.{Header}
 use Rattle.network.specs.declared.sealing.Answer.{Answer}
-use Rattle.network.specs.declared.sealing.Answer.the-variants.{Sealed, OutsideRules, ShortBuffer}
-use Rattle.network.specs.Sealing.{paper, sealing}
+use Rattle.network.specs.Sealing.{paper, sealedLength, sealing}
 use Rattle.radio.specs.Credential.{keysOf}
 
 -- the header that a call names
 abbrev pub headerFor : ℕ → Bool → ℕ → ℕ → ℕ → ℕ → List ℕ → Header
 headerFor iv ctl ttl seq src dst transport =
     record { key = 0; iv = iv; ctl = ctl; ttl = ttl; seq = seq; src = src; dst = dst; len = length transport; transport = padded 16 transport }
-
--- the length of the PDU; 0 of a refusal
-abbrev pub sealedLength : Answer → ℕ
-sealedLength (Sealed len) = len
-sealedLength OutsideRules = 0
-sealedLength ShortBuffer = 0
 
 -- refusal + 65536 * length
 unfoldable pub sealNumber : Answer → ℕ

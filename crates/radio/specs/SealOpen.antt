@@ -1,4 +1,4 @@
--- Promise: what `gorephan_seal` seals, `gorephan_open` opens under the same credential and IV Index to what was sealed: open(seal x) = x.
+-- Promise: what `gorephan_seal` seals, `gorephan_open` opens to what was sealed, where the credential is the first of the list and the IV Index the same: open(seal x) = x.
 use mathlib.Core.Bool.{true}
 use mathlib.Core.List.{List, _∷_, _++_}
 use mathlib.Core.Path.{_≡_}

@@ -9,7 +9,8 @@ ghost use Prim.Native.Nat.{_≤_};
 ghost use Rattle.common.specs.Lent.{lent};
 ghost use Rattle.radio.specs.Credential.{credentialsDone};
 ghost use Rattle.radio.specs.Open.{packed, openDone};
-ghost use Rattle.radio.specs.Seal.{sealedLength, sealNumber, sealDone};
+ghost use Rattle.network.specs.Sealing.{sealedLength};
+ghost use Rattle.radio.specs.Seal.{sealNumber, sealDone};
 
 // 0, and out's first 33 octets are the credential of the key; 14, and out stays, where key is not 16 octets or out is shorter than 33.
 #[no_mangle]

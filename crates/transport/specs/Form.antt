@@ -79,3 +79,12 @@ formAs false false h = accessForm h
 -- the form of an opened header's transport PDU
 unfoldable pub formOf : Header → Form
 formOf h = formAs (h .ctl) (seg (first h)) h
+
+-- this paper's number of each form: a wrong one is refusal 7
+abbrev pub paper : Form → ℕ
+paper (Access akf aid) = 0
+paper (AccessSegment akf aid szmic seqZero segO segN) = 0
+paper (Control opcode) = 0
+paper (ControlSegment opcode seqZero segO segN) = 0
+paper (Acknowledgement obo seqZero bits) = 0
+paper Wrong = 7

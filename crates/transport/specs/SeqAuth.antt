@@ -12,3 +12,8 @@ seqAuth seq seqZero =
     if leb end (seq % 8192) then At (seq / 8192 * 8192 + end) else
     if leb 8192 seq then At ((seq / 8192 - 1) * 8192 + end) else
     Nowhere
+
+-- this paper's number of each answer: none is refusal 8
+abbrev pub paper : SeqAuth → ℕ
+paper (At n) = 0
+paper Nowhere = 8
