@@ -146,6 +146,9 @@ static void edges(const uint8_t *credential)
     h.ctl = 1, h.len = 12;
     check(seal(credential, &h, pdu) >> 16 == 29, "a control PDU has 29 at most");
     opens(credential, 33, &h, pdu, 29, 1, 0);
+    h.iv_index = 8; /* what was sealed under 7 opens where 8 is current, and not where 9 is */
+    opens(credential, 33, &h, pdu, 29, 1, 0);
+    refuses(credential, 33, 9, pdu, 29, 40, 1 << 8 | 3, "two IV Indexes later");
 }
 
 static void every_refusal(const uint8_t *credential)
@@ -214,7 +217,8 @@ static void at_random(void)
         uint8_t key[16], credential[33], pdu[40];
         random_octets(key, 16);
         check(gorephan_credentials(key, 16, credential, 33) == 0, "a credential");
-        struct header h = {dice(), dice() & 1, dice() & 127, dice() & 0xFFFFFF, (uint16_t)(1 + dice() % 0x7FFF), (uint16_t)(0xC000 | dice()), 0, {0}};
+        struct header h = {dice(), dice() & 1, dice() & 127, dice() & 0xFFFFFF, (uint16_t)(1 + dice() % 0x7FFF), 0, 0, {0}};
+        h.dst = (uint16_t)(dice() & 1 ? 0xC000 | dice() : 1 + dice() % 0x7FFF);
         h.len = 1 + dice() % (h.ctl ? 12 : 16);
         random_octets(h.transport, h.len);
         uint32_t n = seal(credential, &h, pdu) >> 16;
