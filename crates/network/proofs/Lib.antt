@@ -11,3 +11,4 @@ pub mod Front
 pub mod Sealed
 pub mod SealOpen
 pub mod SealingLaws
+pub mod Forwarded

@@ -11,3 +11,4 @@ pub mod Candidates
 pub mod Opening
 pub mod Sealing
 pub mod SealOpen
+pub mod Forwarded

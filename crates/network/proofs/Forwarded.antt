@@ -1,0 +1,41 @@
+-- `Forwarded`, `OpenForwarded`: a header stays sealable with TTL less 1, and neither the length of its PDU nor its form knows TTL; the rest is `OpenSeal`.
+-- Assumes nothing.
+use mathlib.Core.Bool.{true}
+use mathlib.Core.List.{List}
+use mathlib.Core.Path.{_≡_, refl, sym, _∙_}
+use Prim.Native.Nat.{ℕ, _-_, _≤_}
+use native.Mathlib.Omega.{arith}
+use borrow.Author.Tests.{lt-ltb, le-ltb, le-leb}
+use lib.ListN.{length}
+use Rattle.keys.specs.declared.NetworkKeys.{NetworkKeys}
+use Rattle.network.specs.declared.header.Header.{Header}
+use Rattle.network.specs.Candidates.{keyAt}
+use Rattle.network.specs.Pdu.{pduOf}
+use Rattle.network.specs.SealOpen.{Formed}
+use Rattle.network.specs.Sealing.{mostTransport, sealable, lowered, forwarding}
+use Rattle.network.specs.Forwarded.{Forwarded, OpenForwarded}
+use Rattle.network.proofs.Sealed.{pdu-length, within, room}
+use Rattle.network.proofs.SealingLaws.{seal-sealed}
+use Rattle.network.proofs.SealOpen.{open-seal}
+
+sealable-lowered : (key : NetworkKeys) (h : Header) → sealable key h ≡ true → sealable key (lowered h) ≡ true
+unfolding sealable
+sealable-lowered key h s =
+    let w = within key h s in
+    let low : h .ttl - 1 ≤ 127 = let t = w .ttl-fits in omega arith in
+    simp (le-leb (key .nid) 127 (w .nid-fits), le-leb (h .ttl - 1) 127 low, le-leb (h .seq) 0xFFFFFF (w .seq-fits), w .allowed, le-leb 1 (h .len) (w .some-transport), le-leb (h .len) (mostTransport (h .ctl)) (w .most-transport))
+
+formed-lowered : (h : Header) → Formed h → Formed (lowered h)
+formed-lowered h f = record { dst-fits = f .dst-fits; zeros-behind = f .zeros-behind }
+
+pub forwarded : Forwarded
+unfolding forwarding
+forwarded keys h buf k s f b =
+    let key = keyAt keys (h .key) in
+    let there = room key h (within key h s) f in
+    simp (le-ltb (length buf) 29 b, lt-ltb (h .key) 4 k)
+    (sym (seal-sealed key (lowered h) buf b (sealable-lowered key h s) (pdu-length key h there ∙ sym (pdu-length key (lowered h) there)) refl))
+
+pub open-forwarded : OpenForwarded
+open-forwarded keys count current h s f r =
+    open-seal keys count current (lowered h) (sealable-lowered (keyAt keys (h .key)) h s) (formed-lowered h f) r
