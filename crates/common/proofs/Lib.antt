@@ -10,3 +10,4 @@ pub mod Chunks
 pub mod BitLaws
 pub mod Search
 pub mod Picked
+pub mod Places

@@ -5,9 +5,13 @@ use mathlib.Core.List.{List, [], _∷_, _++_, append-assoc, append-nil}
 use Prim.Native.Nat.{ℕ, zero, suc, _+_, _-_, _≤_, _<_}
 use native.Mathlib.Omega.{arith}
 use native.Mathlib.Numerals.{add-one}
-use lib.ListN.{length, getD, take, drop, set, length-append}
+use lib.ListN.{length, getD, take, drop, set, length-append, length-drop}
 use lib.Seq.{take-suc, take-at, take-length, take-all, drop-cons, drop-at, drop-drop, drop-length, set-at, length-take-le}
 use Rattle.common.specs.Lists.{onto}
+
+-- what has room leaves the length
+pub length-onto : (a l : List ℕ) → length a ≤ length l → length (onto a l) ≡ length l
+length-onto a l h = simp (length-append, length-drop) (omega arith)
 
 -- l with its first i octets those of s
 abbrev pub copied : List ℕ → List ℕ → ℕ → List ℕ

@@ -3,3 +3,4 @@ pub mod Blocks
 pub mod CmacLaws
 pub mod CcmLaws
 pub mod RoundTrip
+pub mod Opened

@@ -1,17 +1,16 @@
 -- What an opening tells is small: at most four trials, the place of one of four keys, at most 16 octets of transport. The candidates are places
 -- below 4, a search ends among them, and a PDU of 29 octets leaves no more transport behind front, DST and NetMIC.
 -- Assumes nothing.
-use mathlib.Core.Bool.{Bool, _&&_}
-use mathlib.Core.List.{List, [], _∷_}
+use mathlib.Core.Bool.{_&&_}
+use mathlib.Core.List.{List}
 use mathlib.Core.Path.{refl}
-use Prim.Native.Nat.{ℕ, zero, suc, _/_, _%_, _≤_, _<_, min}
+use Prim.Native.Nat.{ℕ, _/_, _%_, _≤_, _<_, min}
 use native.Mathlib.Omega.{arith}
 use borrow.Author.Tests.{ltb-true, ltb-false}
 use lib.Dec.{eqb, ltb}
-use lib.ListN.{length, getD, drop, length-drop, List·getD-eq-default}
-use Rattle.common.specs.Lists.{tab}
-use Rattle.common.specs.Search.{first, picked}
-use Rattle.common.proofs.Lists.{length-tab, getD-tab}
+use lib.ListN.{length, getD, drop, length-drop}
+use Rattle.common.specs.Search.{first}
+use Rattle.common.proofs.Places.{places, length-places, place-low, length-picked, picked-each}
 use Rattle.common.proofs.Tests.{by-test}
 use Rattle.aes.specs.KeyExpansion.{keySchedule}
 use Rattle.modes.proofs.CcmLaws.{mic-octets-bounds, length-decrypted}
@@ -27,29 +26,6 @@ use Rattle.network.specs.IvIndex.{ivIndexHeard}
 use Rattle.network.specs.Opening.{judged, under, opening}
 use Rattle.network.specs.Pdu.{netMic, frontOf}
 use Rattle.network.specs.Trial.{ctlOf, headerOf, nonceOf, bodyTried, tried}
-
--- ---- what is picked of a list is no longer than it, and of its elements
-module _ {A : Type 0} (q : A → Bool) where
-  length-picked : (l : List A) → length (picked q l) ≤ length l
-  unfolding picked
-  length-picked [] = omega arith
-  length-picked (x ∷ l) = let n = length-picked l in by-test (q x) (λ t. rw t (omega arith)) (λ t. rw t (omega arith))
-
-  picked-each : (P : A → Type 0) (d : A) (l : List A) → P d → ((j : ℕ) → P (getD l j d)) → (k : ℕ) → P (getD (picked q l) k d)
-  unfolding picked
-  picked-each P d [] p n k = n k
-  picked-each P d (x ∷ l) p n zero = by-test (q x) (λ t. rw t (n 0)) (λ t. rw t (picked-each P d l p (λ j. n (suc j)) 0))
-  picked-each P d (x ∷ l) p n (suc k) =
-      by-test (q x) (λ t. rw t (picked-each P d l p (λ j. n (suc j)) k)) (λ t. rw t (picked-each P d l p (λ j. n (suc j)) (suc k)))
-
--- a place below n, or 0 past the end
-place-low : (n j : ℕ) → n ≤ 4 → getD (tab (λ i. i) n) j 0 < 4
-place-low n j h =
-    by-test (ltb j n)
-    (λ t. rw (getD-tab (λ i. i) n j 0 (ltb-true j n t)) (omega (arith, ltb-true j n t)))
-    (λ t.
-    let l = length-tab (λ i. i) n in
-    rw (List·getD-eq-default (tab (λ i. i) n) 0 {n = j} (omega (arith, ltb-false j n t))) (omega arith))
 
 -- ---- the header that a key gives
 abbrev LowHeader : Header → Type 0
@@ -76,13 +52,13 @@ module _ (keys : List NetworkKeys) (count nid : ℕ) where
   pub candidates-most : length (candidates keys count nid) ≤ 4
   unfolding candidates
   candidates-most =
-      omega (arith, length-picked (λ i. eqb (keyAt keys i .nid) nid) (tab (λ i. i) (min count 4)), length-tab (λ i. i) (min count 4))
+      omega (arith, length-picked (λ i. eqb (keyAt keys i .nid) nid) (places (min count 4)), length-places (min count 4))
 
   candidate-low : (k : ℕ) → getD (candidates keys count nid) k 0 < 4
   unfolding candidates
   candidate-low k =
-      picked-each (λ i. eqb (keyAt keys i .nid) nid) (λ i. i < 4) 0 (tab (λ i. i) (min count 4)) (omega arith)
-      (λ j. place-low (min count 4) j (omega arith)) k
+      picked-each (λ i. eqb (keyAt keys i .nid) nid) (λ i. i < 4) 0 (places (min count 4)) (omega arith)
+      (λ j. place-low (min count 4) j 4 (omega arith) (omega arith)) k
 
 -- at most four trials, a place below 4, at most 16 octets of transport
 pub record Bounded (trials : ℕ) (h : Header) : Type 0 where

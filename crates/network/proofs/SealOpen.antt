@@ -2,19 +2,17 @@
 -- (`TriedSealed`), so the search ends at it, behind as many trials as there are candidates before it; length, NID, IVI and addresses pass.
 -- Assumes nothing.
 use mathlib.Core.Bool.{Bool, true, false}
-use mathlib.Core.List.{List, [], _∷_, _++_}
+use mathlib.Core.List.{List, _∷_, _++_}
 use mathlib.Core.Path.{_≡_, refl, ap, _∙_}
 use Prim.Native.Nat.{ℕ, suc, _+_, _/_, _%_, _<_, _≤_, min}
 use native.Mathlib.Omega.{arith}
 use borrow.Author.Tests.{lt-ltb, le-ltb, eq-eqb, ne-eqb, eqb-true}
 use lib.Dec.{eqb}
-use lib.ListN.{length, getD, drop, length-append}
-use lib.Seq.{split-at, getD-append-seam}
+use lib.ListN.{length, drop, length-append}
+use lib.Seq.{getD-append-seam}
 use Rattle.common.specs.Choice.{if_then_else_}
-use Rattle.common.specs.Lists.{tab}
 use Rattle.common.specs.Search.{first, picked}
-use Rattle.common.proofs.Lists.{length-tab, getD-tab, take-tab}
-use Rattle.common.proofs.Tests.{by-test}
+use Rattle.common.proofs.Places.{places, picked-split, first-at-place}
 use Rattle.keys.specs.declared.NetworkKeys.{NetworkKeys}
 use Rattle.network.specs.declared.header.Header.{Header}
 use Rattle.network.specs.declared.iv_index.IvIndex.the-variants.{Index}
@@ -30,41 +28,6 @@ use Rattle.network.specs.Trial.{tried}
 use Rattle.network.specs.SealOpen.{octet0, OpenSeal}
 use Rattle.network.proofs.IvIndexLaws.{heard-of-index}
 use Rattle.network.proofs.Sealed.{pdu-length, first-octet, within, room, tried-sealed}
-
--- ---- what is picked, and a search through it
-module _ {A : Type 0} (q : A → Bool) where
-  picked-append : (a b : List A) → picked q (a ++ b) ≡ picked q a ++ picked q b
-  unfolding picked
-  picked-append [] b = refl
-  picked-append (x ∷ a) b =
-      let e = picked-append a b in
-      by-test (q x) (λ t. rw t (ap (λ (l : List A). x ∷ l) e)) (λ t. rw t e)
-
-  -- where none of those picked passes, a search ends behind them
-  first-behind :
-      (p : A → Bool) (l b : List A) (x d : A) → ((j : ℕ) → j < length l → q (getD l j d) ≡ true → p (getD l j d) ≡ false) → p x ≡ true
-      → first p (picked q l ++ x ∷ b) ≡ length (picked q l)
-  unfolding first picked
-  first-behind p [] b x d n t = rw t
-  first-behind p (y ∷ l) b x d n t =
-      let e = first-behind p l b x d (λ j m. n (suc j) (omega arith)) t in
-      by-test (q y) (λ s. rw (s, n 0 (omega arith) s) (ap suc e)) (λ s. rw s e)
-
--- the places 0, 1, .. below n
-abbrev places : ℕ → List ℕ
-places n = tab (λ j. j) n
-
-length-places : (n : ℕ) → length (places n) ≡ n
-length-places n = length-tab (λ j. j) n
-
--- those before i that are picked, then i itself
-picked-split :
-    (q : ℕ → Bool) (n i : ℕ) → i < n → q i ≡ true → picked q (places n) ≡ picked q (places i) ++ i ∷ picked q (drop (suc i) (places n))
-unfolding picked
-picked-split q n i h t =
-    ap (picked q) (split-at (places n) i 0 (omega (arith, length-places n)))
-    ∙ rw (take-tab (λ (j : ℕ). j) n i (omega arith), getD-tab (λ (j : ℕ). j) n i 0 h)
-    (picked-append q (places i) (i ∷ drop (suc i) (places n)) ∙ rw t)
 
 -- ---- the search, and the call
 module _ (keys : List NetworkKeys) (count nid iv : ℕ) (pdu : List ℕ) where
@@ -115,12 +78,7 @@ module _ (keys : List NetworkKeys) (count i : ℕ) (held : i < min count 4) wher
       → first (opens keys iv pdu) (candidates keys i nid ++ i ∷ behind) ≡ length (candidates keys i nid)
   search-ends iv pdu none t =
       rw before-is
-      (first-behind same-nid (opens keys iv pdu) (places i) behind i 0
-      (λ j m e.
-      let b : j < i = omega (arith, length-places i) in
-      let g = getD-tab (λ (x : ℕ). x) i j 0 b in
-      rw g (none j b (eqb-true (keyAt keys j .nid) nid (rw g at e))))
-      t)
+      (first-at-place same-nid (opens keys iv pdu) i behind (λ j b e. none j b (eqb-true (keyAt keys j .nid) nid e)) t)
 
 pub open-seal : OpenSeal
 unfolding opens

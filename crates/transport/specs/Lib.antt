@@ -8,3 +8,5 @@ pub mod Segment
 pub mod Ranges
 pub mod ReadsBack
 pub mod Examples
+pub mod Securing
+pub mod SecureOpen

@@ -1,0 +1,181 @@
+-- `UnsecureSecure`: the keys that fit are those before the key, then the key itself, then others. None before it authenticates the message and it does
+-- (`open-seal` of CCM), so the search ends at it, behind as many trials as there are keys before it that fit. The bounds hold of each way of the
+-- definition: a place among four keys, a search that ends among them, and a cipher that opens at most 384 octets and else keeps the buffer.
+-- Assumes nothing.
+use mathlib.Core.Bool.{Bool, true}
+use mathlib.Core.List.{List, _∷_, _++_}
+use mathlib.Core.Path.{_≡_, refl, sym, ap, _∙_}
+use Prim.Native.Nat.{ℕ, suc, _+_, _-_, _<_, _≤_, min}
+use native.Mathlib.Omega.{arith}
+use borrow.Author.Tests.{lt-ltb, ltb-true}
+use lib.Dec.{ltb}
+use lib.ListN.{length, getD, drop, length-append}
+use lib.Seq.{getD-append-seam}
+use Rattle.common.specs.Lent.{Lent, lent}
+use Rattle.common.specs.Lists.{onto}
+use Rattle.common.specs.Search.{first, picked}
+use Rattle.common.proofs.Places.{places, length-places, place-low, length-picked, picked-each, picked-split, first-at-place}
+use Rattle.common.proofs.Search.{first-passes}
+use Rattle.common.proofs.Tests.{by-choice}
+use Rattle.aes.specs.KeyExpansion.{keySchedule}
+use Rattle.modes.specs.Ccm.{micOctets}
+use Rattle.modes.proofs.Opened.{opening-left}
+use Rattle.modes.proofs.RoundTrip.{sealed-length, open-seal}
+use Rattle.transport.specs.declared.securing.ApplicationKey.{ApplicationKey}
+use Rattle.transport.specs.declared.securing.Envelope.{Envelope}
+use Rattle.transport.specs.declared.securing.MessageKey.{MessageKey}
+use Rattle.transport.specs.declared.securing.MessageKey.the-variants.{Application, Device}
+use Rattle.transport.specs.declared.securing.Opened.{Opened}
+use Rattle.transport.specs.declared.securing.Opened.the-variants.{Message, NotOpened, ShortBuffer}
+use Rattle.transport.specs.Securing.{transMic, messageNonceOf, secured, openedBy, applicationKeyAt, applicationCandidates, byApplicationKeys, byDeviceKey, unsecuring, paper, trialsOf}
+use Rattle.transport.specs.SecureOpen.{SecuredLength, Fits, UnsecureSecure, UnsecureSecureDevice, TrialsMost, Stands, MessageStands, PlaceLow, RefusedKeeps}
+use Rattle.transport.proofs.SecuringLaws.{fitsAt, opensAt, candidates-are, open-application, open-device, device-opens}
+
+pub secured-length : SecuredLength
+unfolding secured
+secured-length key e m = sealed-length (keySchedule key) (messageNonceOf e) (transMic (e .szmic)) m
+
+-- a key opens what it secured
+opened-secured : (key : List ℕ) (e : Envelope) (m buf : List ℕ) → Fits m buf → openedBy key e (secured key e m) buf ≡ lent true (onto m buf)
+unfolding openedBy secured
+opened-secured key e m buf f =
+    open-seal (keySchedule key) (messageNonceOf e) (transMic (e .szmic)) m buf (f .short) (omega (arith, f .short, f .room))
+
+-- what is secured is long enough, and its message as long as it was
+module _ (key : List ℕ) (e : Envelope) (m buf : List ℕ) (f : Fits m buf) where
+  long-enough : 1 + micOctets (transMic (e .szmic)) ≤ length (secured key e m)
+  long-enough = omega (arith, secured-length key e m, f .some-payload)
+
+  message-length : length m ≡ length (secured key e m) - micOctets (transMic (e .szmic))
+  message-length = omega (arith, secured-length key e m)
+
+-- ---- the keys that fit, where the key at place i is one of them
+module _ (keys : List ApplicationKey) (count i : ℕ) (e : Envelope) (held : i < min count 4) where
+  abbrev behind : List ℕ
+  behind = picked (fitsAt keys count e) (drop (suc i) (places (min count 4)))
+
+  -- the key is among the first four, so those before it are all held
+  before-is : applicationCandidates keys i e ≡ picked (fitsAt keys count e) (places i)
+  before-is = let n : min i 4 ≡ i = omega arith in candidates-are keys i e ∙ rw n
+
+  candidates-split : fitsAt keys count e i ≡ true → applicationCandidates keys count e ≡ applicationCandidates keys i e ++ i ∷ behind
+  candidates-split t = rw before-is (candidates-are keys count e ∙ picked-split (fitsAt keys count e) (min count 4) i held t)
+
+-- the search ends at it
+by-keys-of :
+    (keys : List ApplicationKey) (count : ℕ) (e : Envelope) (c buf a b : List ℕ) (i len : ℕ) {left : List ℕ} → applicationCandidates keys count e ≡ a ++ i ∷ b
+    → first (opensAt keys count e c buf) (a ++ i ∷ b) ≡ length a → openedBy (applicationKeyAt keys i .key) e c buf ≡ lent true left
+    → len ≡ length c - micOctets (transMic (e .szmic)) → byApplicationKeys keys count e c buf ≡ lent (Message (Application i) (length a + 1) len) left
+unfolding byApplicationKeys
+by-keys-of keys count e c buf a b i len ec ef eo el =
+    rw (ec, ef, lt-ltb (length a) (length (a ++ i ∷ b)) (simp length-append (omega arith)), getD-append-seam a i b 0, eo, el)
+
+pub unsecure-secure : UnsecureSecure
+unsecure-secure keys count i device e m buf f r =
+    let key = applicationKeyAt keys i .key in
+    let c = secured key e m in
+    let o = opened-secured key e m buf f in
+    let before = before-is keys count i e (r .held) in
+    let rest = behind keys count i e (r .held) in
+    let ends : first (opensAt keys count e c buf) (applicationCandidates keys i e ++ i ∷ rest) ≡ length (applicationCandidates keys i e) =
+    rw before (first-at-place (fitsAt keys count e) (opensAt keys count e c buf) i rest (r .none-before) (ap (λ (x : Lent Bool). x .answer) o)) in
+    sym
+    (open-application keys count device e c buf (f .room) (long-enough key e m buf f) (r .akf-set)
+    (sym
+    (by-keys-of keys count e c buf (applicationCandidates keys i e) rest i (length m) (candidates-split keys count i e (r .held) (r .fitting)) ends o
+    (message-length key e m buf f))))
+
+pub unsecure-secure-device : UnsecureSecureDevice
+unsecure-secure-device keys count device e m buf f t =
+    let c = secured device e m in
+    sym
+    (open-device keys count device e c buf (f .room) (long-enough device e m buf f) t
+    (device-opens device e c buf (sym (opened-secured device e m buf f)) (message-length device e m buf f) refl))
+
+-- ---- the bounds
+module _ (keys : List ApplicationKey) (count : ℕ) (e : Envelope) where
+  pub candidates-most : length (applicationCandidates keys count e) ≤ 4
+  candidates-most =
+      rw (candidates-are keys count e) (omega (arith, length-picked (fitsAt keys count e) (places (min count 4)), length-places (min count 4)))
+
+  candidate-low : (k : ℕ) → getD (applicationCandidates keys count e) k 0 < 4
+  candidate-low k =
+      rw (candidates-are keys count e)
+      (picked-each (fitsAt keys count e) (λ i. i < 4) 0 (places (min count 4)) (omega arith) (λ j. place-low (min count 4) j 4 (omega arith) (omega arith)) k)
+
+-- what an answer says of the buffer beside it
+abbrev Says : List ℕ → List ℕ → Opened → List ℕ → Type 0
+Says c buf (Message (Application i) trials len) b = (i < 4) × (trials ≤ 4) × Stands c buf len b
+Says c buf (Message Device trials len) b = (trials ≤ 4) × Stands c buf len b
+Says c buf (NotOpened trials) b = (trials ≤ 4) × (b ≡ buf)
+Says c buf ShortBuffer b = b ≡ buf
+
+stands : (key : List ℕ) (e : Envelope) (c buf : List ℕ) → openedBy key e c buf .answer ≡ true → Stands c buf (length c - micOctets (transMic (e .szmic))) (openedBy key e c buf .buffer)
+unfolding openedBy
+stands key e c buf t =
+    let l = opening-left (keySchedule key) (messageNonceOf e) (transMic (e .szmic)) c buf in
+    record { len-most = l .fits t; len-within = omega arith; as-long = l .as-long }
+
+module _ (keys : List ApplicationKey) (count : ℕ) (device : List ℕ) (e : Envelope) (c buf : List ℕ) where
+  abbrev Leaves : Lent Opened → Type 0
+  Leaves r = Says c buf (r .answer) (r .buffer)
+
+  keys-leave : Leaves (byApplicationKeys keys count e c buf)
+  unfolding byApplicationKeys
+  keys-leave =
+      let cs = applicationCandidates keys count e in
+      let p = first (opensAt keys count e c buf) cs in
+      let m = candidates-most keys count e in
+      by-choice Leaves (ltb p (length cs))
+      (λ t.
+      let h = ltb-true p (length cs) t in (
+        candidate-low keys count e p,
+        omega arith,
+        stands (applicationKeyAt keys (getD cs p 0) .key) e c buf (first-passes (opensAt keys count e c buf) cs 0 h),
+      ))
+      (λ t. (m, refl))
+
+  device-leaves : Leaves (byDeviceKey device e c buf)
+  unfolding byDeviceKey
+  device-leaves = by-choice Leaves (openedBy device e c buf .answer) (λ t. (omega arith, stands device e c buf t)) (λ t. (omega arith, refl))
+
+  unsecuring-leaves : Leaves (unsecuring keys count device e c buf)
+  unfolding unsecuring
+  unsecuring-leaves =
+      by-choice Leaves (ltb (length buf) 384) (λ t. refl)
+      (λ t. by-choice Leaves (ltb (length c) (1 + micOctets (transMic (e .szmic)))) (λ u. (omega arith, refl))
+      (λ u. by-choice Leaves (e .akf) (λ v. keys-leave) (λ v. device-leaves)))
+
+says-trials : (c buf : List ℕ) (a : Opened) (b : List ℕ) → Says c buf a b → trialsOf a ≤ 4
+says-trials c buf (Message (Application i) trials len) b l = l .1
+says-trials c buf (Message Device trials len) b l = l .0
+says-trials c buf (NotOpened trials) b l = l .0
+says-trials c buf ShortBuffer b l = omega arith
+
+says-stands : (c buf : List ℕ) (k : MessageKey) (trials len : ℕ) (b : List ℕ) → Says c buf (Message k trials len) b → Stands c buf len b
+says-stands c buf (Application i) trials len b l = l .2
+says-stands c buf Device trials len b l = l .1
+
+says-refused : (c buf : List ℕ) (a : Opened) (b : List ℕ) → Says c buf a b → 0 < paper a → b ≡ buf
+says-refused c buf (Message k trials len) b l h = absurd (omega arith)
+says-refused c buf (NotOpened trials) b l h = l .1
+says-refused c buf ShortBuffer b l h = l
+
+pub trials-most : TrialsMost
+trials-most keys count device e c buf =
+    let r = unsecuring keys count device e c buf in
+    says-trials c buf (r .answer) (r .buffer) (unsecuring-leaves keys count device e c buf)
+
+pub message-stands : MessageStands
+message-stands keys count device e c buf k trials len left q =
+    says-stands c buf k trials len left (rw q at (unsecuring-leaves keys count device e c buf))
+
+pub place-is-low : PlaceLow
+place-is-low keys count device e c buf i trials len left q =
+    let l : Says c buf (Message (Application i) trials len) left = rw q at (unsecuring-leaves keys count device e c buf) in
+    l .0
+
+pub unsecuring-refused-keeps : RefusedKeeps
+unsecuring-refused-keeps keys count device e c buf h =
+    let r = unsecuring keys count device e c buf in
+    says-refused c buf (r .answer) (r .buffer) (unsecuring-leaves keys count device e c buf) h

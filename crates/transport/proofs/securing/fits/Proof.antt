@@ -1,0 +1,15 @@
+-- `transport::securing::fits` meets its contract: where the AIDs are equal the bindings decide.
+-- Assumes nothing.
+use borrow.Author.Tests.{ne-eqb}
+use Rattle.transport.proofs.SecuringLaws.{fits-bound}
+use Rattle.transport.proofs.securing.fits.Statement.{statement}
+use Rattle.transport.proofs.securing.fits.Tie as tie
+
+returns : tie.Need-returns
+returns c = search fits-bound
+
+returns-2 : tie.Need-returns-2
+returns-2 c = rw (ne-eqb _ _ (c .if1 .left))
+
+pub fits-spec : {M : Type 1} → statement M
+fits-spec = tie.close (tie.spec returns returns-2)

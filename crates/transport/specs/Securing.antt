@@ -1,0 +1,103 @@
+-- An access message is secured and opened here (MP 3.6, document 01, "Transport" and the nonce table).
+--   applicationCandidates keys count e      the application keys of that AID bound to the opening network key
+--   securing key e m buf                    what a call that secures m into buf leaves
+--   unsecuring keys count device e c buf    what a call that opens c into buf leaves
+use mathlib.Core.Bool.{Bool, true, false, _&&_}
+use mathlib.Core.List.{List, []}
+use Prim.Native.Nat.{ℕ, _+_, _-_, min}
+use lib.Dec.{eqb, ltb}
+use lib.ListN.{length, getD}
+use Rattle.common.specs.Choice.{if_then_else_}
+use Rattle.common.specs.Lent.{Lent, lent}
+use Rattle.common.specs.Lists.{tab, onto}
+use Rattle.common.specs.Search.{first, picked}
+use Rattle.aes.specs.KeyExpansion.{keySchedule}
+use Rattle.modes.specs.declared.ccm.MicSize.{MicSize}
+use Rattle.modes.specs.declared.ccm.MicSize.the-variants.{Four, Eight}
+use Rattle.modes.specs.Ccm.{micOctets, sealed, opening}
+use Rattle.network.specs.Nonce.{applicationNonce, deviceNonce}
+use Rattle.transport.specs.declared.securing.ApplicationKey.{ApplicationKey}
+use Rattle.transport.specs.declared.securing.Envelope.{Envelope}
+use Rattle.transport.specs.declared.securing.MessageKey.{MessageKey}
+use Rattle.transport.specs.declared.securing.MessageKey.the-variants.{Application, Device}
+use Rattle.transport.specs.declared.securing.Opened.{Opened}
+use Rattle.transport.specs.declared.securing.Opened.the-variants.{Message, NotOpened, ShortBuffer}
+
+-- TransMIC: 4 octets, or 8 if SZMIC is 1
+abbrev pub transMic : Bool → MicSize
+transMic true = Eight
+transMic false = Four
+
+-- the second nonce: of an application key if AKF is 1, else of the device key
+unfoldable pub messageNonceOf : Envelope → List ℕ
+messageNonceOf e =
+    if e .akf then applicationNonce (e .szmic) (e .seq) (e .src) (e .dst) (e .iv) else
+    deviceNonce (e .szmic) (e .seq) (e .src) (e .dst) (e .iv)
+
+-- the message under a key: encrypted, and its TransMIC behind it
+unfoldable pub secured : List ℕ → Envelope → List ℕ → List ℕ
+secured key e m = sealed (keySchedule key) (messageNonceOf e) (transMic (e .szmic)) m
+
+-- what a key makes of a secured message: whether it authenticates, and what the buffer then holds
+unfoldable pub openedBy : List ℕ → Envelope → List ℕ → List ℕ → Lent Bool
+openedBy key e c buf = opening (keySchedule key) (messageNonceOf e) (transMic (e .szmic)) c buf
+
+-- where there is no key
+abbrev pub noApplicationKey : ApplicationKey
+noApplicationKey = record { key = []; aid = 0; bound = 0 }
+
+-- the key at a place of the list
+abbrev pub applicationKeyAt : List ApplicationKey → ℕ → ApplicationKey
+applicationKeyAt keys i = getD keys i noApplicationKey
+
+-- of that AID, and bound to the opening network key
+abbrev pub fitsKey : Envelope → ApplicationKey → Bool
+fitsKey e k = eqb (k .aid) (e .aid) && eqb (k .bound) (e .network)
+
+-- the places of the keys that fit, in their fixed order; at most four keys are held
+unfoldable pub applicationCandidates : List ApplicationKey → ℕ → Envelope → List ℕ
+applicationCandidates keys count e = picked (λ i. fitsKey e (applicationKeyAt keys i)) (tab (λ i. i) (min count 4))
+
+-- AKF 1: they are tried one by one, stopping at the first that authenticates; the number of trials is that key's place among them, from 1, or
+-- their number when none opens it
+unfoldable pub byApplicationKeys : List ApplicationKey → ℕ → Envelope → List ℕ → List ℕ → Lent Opened
+byApplicationKeys keys count e c buf =
+    let cs = applicationCandidates keys count e in
+    let p = first (λ i. openedBy (applicationKeyAt keys i .key) e c buf .answer) cs in
+    let i = getD cs p 0 in
+    if ltb p (length cs) then
+    lent (Message (Application i) (p + 1) (length c - micOctets (transMic (e .szmic)))) (openedBy (applicationKeyAt keys i .key) e c buf .buffer) else
+    lent (NotOpened (length cs)) buf
+
+-- AKF 0: the device key, which is not counted
+unfoldable pub byDeviceKey : List ℕ → Envelope → List ℕ → List ℕ → Lent Opened
+byDeviceKey device e c buf =
+    if openedBy device e c buf .answer then lent (Message Device 0 (length c - micOctets (transMic (e .szmic)))) (openedBy device e c buf .buffer) else
+    lent (NotOpened 0) buf
+
+-- 16: the message buffer is shorter than 384; 13: too short for payload and TransMIC, which is judged before any key; else by the keys
+unfoldable pub unsecuring : List ApplicationKey → ℕ → List ℕ → Envelope → List ℕ → List ℕ → Lent Opened
+unsecuring keys count device e c buf =
+    if ltb (length buf) 384 then lent ShortBuffer buf else
+    if ltb (length c) (1 + micOctets (transMic (e .szmic))) then lent (NotOpened 0) buf else
+    if e .akf then byApplicationKeys keys count e c buf else
+    byDeviceKey device e c buf
+
+-- this paper's number of each answer; 0 where nothing is refused
+abbrev pub paper : Opened → ℕ
+paper (Message key trials len) = 0
+paper (NotOpened trials) = 13
+paper ShortBuffer = 16
+
+-- the number of application keys tried
+abbrev pub trialsOf : Opened → ℕ
+trialsOf (Message key trials len) = trials
+trialsOf (NotOpened trials) = trials
+trialsOf ShortBuffer = 0
+
+-- securing into a lent buffer: false, and the buffer as it was, where m is longer than 384 octets or the buffer too short
+unfoldable pub securing : List ℕ → Envelope → List ℕ → List ℕ → Lent Bool
+securing key e m buf =
+    if ltb 384 (length m) then lent false buf else
+    if ltb (length buf) (length m + micOctets (transMic (e .szmic))) then lent false buf else
+    lent true (onto (secured key e m) buf)
