@@ -1,12 +1,13 @@
--- A loop that copies s onto the front of l: what l holds after i octets, and how that goes on. And two copies, one behind the other.
--- Assumes nothing.
+-- A loop that copies s onto the front of l: what l holds after i octets, and how that goes on. And two copies, one behind the other;
+-- and octets laid onto l from a place on, which are read back there and leave the rest as it was. Assumes nothing.
 use mathlib.Core.Path.{_≡_, refl, sym, ap, ap₂, _∙_}
 use mathlib.Core.List.{List, [], _∷_, _++_, append-assoc, append-nil}
 use Prim.Native.Nat.{ℕ, zero, suc, _+_, _-_, _≤_, _<_}
 use native.Mathlib.Omega.{arith}
 use native.Mathlib.Numerals.{add-one}
-use lib.ListN.{length, getD, take, drop, set, length-append, length-drop}
+use lib.ListN.{length, getD, take, drop, set, length-append, length-take, length-drop, List·getD-append}
 use lib.Seq.{take-suc, take-at, take-length, take-all, drop-cons, drop-at, drop-drop, drop-length, set-at, length-take-le}
+use lib.Seq.{take-append-seam, getD-take, getD-drop, getD-append-add}
 use Rattle.common.specs.Lists.{onto}
 
 -- what has room leaves the length
@@ -54,3 +55,29 @@ onto-before a b l x n ea e =
     ap (λ (j : ℕ). a ++ drop j x) ea
     ∙ ap (λ (z : List ℕ). a ++ z) (e ∙ ap (λ (z : List ℕ). b ++ z) (drop-drop (length b) n l))
     ∙ sym (append-assoc a b (drop (n + length b) l)) ∙ ap (λ (j : ℕ). (a ++ b) ++ drop j l) (sym both)
+
+-- ---- m laid onto l from octet `at` on
+module _ (m l : List ℕ) (at : ℕ) (fits : at + length m ≤ length l) where
+  front-length : length (take at l) ≡ at
+  front-length = length-take-le at l (omega arith)
+
+  -- the length stays
+  pub length-laid : length (take at l ++ onto m (drop at l)) ≡ length l
+  length-laid = simp (length-append, length-take, length-drop) (omega arith)
+
+  -- m is read back
+  pub laid-read : take (length m) (drop at (take at l ++ onto m (drop at l))) ≡ m
+  laid-read = rw (drop-at (take at l) (onto m (drop at l)) at front-length) (take-append-seam m (drop (length m) (drop at l)))
+
+  -- what is before and behind it stays
+  pub laid-before : (j : ℕ) → j < at → getD (take at l ++ onto m (drop at l)) j 0 ≡ getD l j 0
+  laid-before j h = List·getD-append (take at l) (onto m (drop at l)) 0 j (rw front-length h) ∙ getD-take at l j 0 h
+
+  pub laid-behind : (j : ℕ) → at + length m ≤ j → getD (take at l ++ onto m (drop at l)) j 0 ≡ getD l j 0
+  laid-behind j h =
+      let k = j - (at + length m) in
+      let e : length (take at l) + (length m + k) ≡ j = omega (arith, front-length) in
+      let f : at + (length m + k) ≡ j = omega arith in
+      ap (λ (n : ℕ). getD (take at l ++ onto m (drop at l)) n 0) (sym e)
+      ∙ getD-append-add (take at l) (onto m (drop at l)) (length m + k) 0 ∙ getD-append-add m (drop (length m) (drop at l)) k 0
+      ∙ getD-drop (length m) (drop at l) k 0 ∙ getD-drop at l (length m + k) 0 ∙ ap (λ (n : ℕ). getD l n 0) f

@@ -1,0 +1,11 @@
+-- The laws about the definitions of specs/.
+pub mod PairLaws
+pub mod ReplayLaws
+pub mod SessionLaws
+pub mod DecisionLaws
+pub mod OutgoingLaws
+pub mod CacheLaws
+pub mod ReplayMap
+pub mod SessionSlots
+pub mod Stored
+pub mod Within

@@ -1,0 +1,13 @@
+-- `memory::cache::is_seen` meets its contract: `seen` asks whether the place is below 16.
+-- Assumes nothing.
+use borrow.Author.Needs.{needs}
+use Rattle.memory.specs.Cache.{seen}
+use Rattle.memory.proofs.cache.is_seen.Statement.{statement}
+use Rattle.memory.proofs.cache.is_seen.Tie as tie
+
+returns : tie.Need-returns
+unfolding seen
+returns c = rw (c .place .ensures)
+
+pub is-seen-spec : {M : Type 1} → statement M
+is-seen-spec = tie.close (tie.spec (λ c κs. search needs) returns)

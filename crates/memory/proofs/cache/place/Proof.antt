@@ -1,0 +1,39 @@
+-- `memory::cache::place` meets its contract: no entry before i is it, so the first that is ends the search. The measure is what is left of the 16.
+-- Assumes nothing.
+use mathlib.Core.Bool.{and-false}
+use mathlib.Core.Logic.{⊎-elim}
+use Prim.Native.Nat.{_-_}
+use borrow.Author.Needs.{needs}
+use borrow.Author.Tests.{eq-eqb, ne-eqb}
+use Rattle.common.proofs.Search.{Seeking, seek-start, seek-here, seek-on, seek-past}
+use Rattle.memory.specs.Cache.{noSeen, isEntry}
+use Rattle.memory.proofs.cache.place.Statement.{statement}
+use Rattle.memory.proofs.cache.place.Tie as tie
+
+abbrev Inv-loop : tie.InvT-loop
+Inv-loop src seq entries i₀ i = Seeking (isEntry src seq) 16 entries i
+
+abbrev μ-loop : tie.MeasureT-loop
+μ-loop src seq entries i₀ i = 16 - i
+
+loop-holds : tie.Need-loop-holds Inv-loop μ-loop
+loop-holds c = seek-start _ _ _ (c .good .0 .1 .0 .1)
+
+loop-again : tie.Need-loop-again Inv-loop μ-loop
+loop-again c =
+    let t = c .before .before .before in
+    seek-on _ _ _ _ (t .before .loop .inv) noSeen (t .loop-test .taken)
+    (⊎-elim (λ w. simp (w .2 .left, and-false)) (λ w. rw (ne-eqb _ _ (w .left))) (c .if1 .came))
+
+returns : tie.Need-returns Inv-loop μ-loop
+returns c =
+    let t = c .before .before .before .before .before in
+    seek-here _ _ _ _ (t .before .loop .inv) noSeen (t .loop-test .taken) (rw (eq-eqb _ _ (c .before .before .if1 .taken), c .if2 .taken))
+
+returns-2 : tie.Need-returns-2 Inv-loop μ-loop
+returns-2 c = seek-past _ _ _ _ (c .before .loop .inv) (c .loop-test .left)
+
+pub place-spec : {M : Type 1} → statement M
+place-spec =
+    tie.close (tie.spec
+    Inv-loop μ-loop loop-holds (λ c. search needs) (λ c. search needs) returns (λ c. search needs) (λ c. search needs) loop-again returns-2)

@@ -1,0 +1,14 @@
+-- `memory::replay::hand_up` meets its contract: it inserts the very entry that `handedUp` does.
+-- Assumes nothing.
+use mathlib.Core.Path.{_∙_}
+use borrow.Author.Needs.{needs}
+use Rattle.memory.specs.Replay.{handedUp}
+use Rattle.memory.proofs.replay.hand_up.Statement.{statement}
+use Rattle.memory.proofs.replay.hand_up.Tie as tie
+
+returns : tie.Need-returns
+unfolding handedUp
+returns c = c .insert .ensures ∙ rw (c .before .raise .ensures, c .before .before .look-up .ensures)
+
+pub hand-up-spec : {M : Type 1} → statement M
+hand-up-spec = tie.close (tie.spec (λ c κs. search needs) (λ c κs. search needs) (λ c κs. search needs) returns)

@@ -1,0 +1,68 @@
+-- What becomes of a segment that has a SeqAuth (document 01, "Transport" and "Numbers of the refusals", 9 to 12).
+--   paper d                            the number of a decision
+--   decision replay sessions src seg   the decision
+use mathlib.Core.Bool.{Bool}
+use mathlib.Core.List.{List, []}
+use Prim.Native.Nat.{ℕ}
+use lib.Dec.{ltb}
+use lib.ListN.{getD}
+use Rattle.common.specs.Bits.{hasBit, allBits}
+use Rattle.common.specs.Choice.{if_then_else_}
+use Rattle.memory.specs.declared.pair.Pair.{Pair}
+use Rattle.memory.specs.declared.replay.Entry.{Entry}
+use Rattle.memory.specs.declared.session.Segment.{Segment}
+use Rattle.memory.specs.declared.session.Session.{Session}
+use Rattle.memory.specs.declared.decision.Decision.{Decision}
+use Rattle.memory.specs.declared.decision.Decision.the-variants.{Repeat, Join, Open, Stale, Differs, NoEntryLeft, NoSlotLeft}
+use Rattle.memory.specs.Pair.{newer, samePair}
+use Rattle.memory.specs.Replay.{lookUp, stale, hasRoom, isLast}
+use Rattle.memory.specs.Session.{noSession, sessionPlace, sameTerms}
+
+-- this paper's number of each decision; 0 where nothing is refused
+abbrev pub paper : Decision → ℕ
+paper (Repeat bits) = 0
+paper (Join slot) = 0
+paper (Open slot) = 0
+paper Stale = 9
+paper Differs = 10
+paper NoEntryLeft = 11
+paper NoSlotLeft = 12
+
+-- the slot's session; past the last slot nothing is held
+abbrev pub sessionAt : List Session → ℕ → Session
+sessionAt l i = getD l i (record { src = 0; auth = noSession .auth; terms = noSession .terms; filled = 0; len = 0; bytes = [] })
+
+-- a segment of the same SeqAuth joins: 10, 11, a place already filled, or its place is empty
+unfoldable pub joining : Session → ℕ → Bool → Segment → Decision
+joining s own room seg =
+    if sameTerms (s .terms) (seg .terms) then
+    (if room then (if hasBit (s .filled) (seg .sego) then Repeat (s .filled) else Join own) else
+    NoEntryLeft) else
+    Differs
+
+-- another SeqAuth: 9 by the entry or by the open session, 11, or it replaces the session in its source's slot
+unfoldable pub replacing : Entry → Pair → ℕ → Bool → Pair → Decision
+replacing e held own room auth =
+    if stale e auth then Stale else
+    if newer held auth then Stale else
+    if room then Open own else
+    NoEntryLeft
+
+-- no session: 9, 11, the lowest free slot, or 12
+unfoldable pub opening : Entry → ℕ → Bool → Pair → Decision
+opening e free room auth =
+    if stale e auth then Stale else
+    if room then (if ltb free 8 then Open free else NoSlotLeft) else
+    NoEntryLeft
+
+-- a segment of the last message handed up is a repeat with all bits set, open session or not
+unfoldable pub decision : List Entry → List Session → ℕ → Segment → Decision
+decision replay sessions src seg =
+    let e = lookUp replay src in
+    let own = sessionPlace sessions src in
+    let s = sessionAt sessions own in
+    let room = hasRoom replay src in
+    if isLast (e .last) (seg .auth) (seg .terms .segn) (seg .terms .dst) then Repeat (allBits (seg .terms .segn)) else
+    if ltb own 8 then
+    (if samePair (s .auth) (seg .auth) then joining s own room seg else replacing e (s .auth) own room (seg .auth)) else
+    opening e (sessionPlace sessions 0) room (seg .auth)
