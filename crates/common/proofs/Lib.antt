@@ -11,3 +11,4 @@ pub mod BitLaws
 pub mod Search
 pub mod Picked
 pub mod Places
+pub mod Parts

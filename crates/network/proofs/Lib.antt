@@ -1,5 +1,6 @@
 -- The laws about the definitions of specs/.
 pub mod OctetsLaws
+pub mod AddressLaws
 pub mod IvIndexLaws
 pub mod NonceLaws
 pub mod Examples

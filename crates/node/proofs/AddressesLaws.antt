@@ -1,0 +1,57 @@
+-- The addresses a node answers to, from the code's tests: elements stand behind the first one's address, and past 8 there are none.
+-- Assumes nothing.
+use mathlib.Core.Bool.{Bool, true, false}
+use mathlib.Core.Path.{_≡_}
+use Prim.Native.Nat.{ℕ, _+_, _-_, _≤_, _<_, min}
+use native.Mathlib.Omega.{arith}
+use borrow.Author.Tests.{lt-ltb, le-ltb, le-leb, lt-leb, ltb-true, ltb-false, eq-eqb, ne-eqb}
+use lib.Dec.{ltb}
+use Rattle.common.proofs.Tests.{by-test}
+use Rattle.node.specs.declared.addresses.Node.{Node}
+use Rattle.node.specs.Addresses.{isLocal, listens, forNode}
+
+module _ (node : Node) (a : ℕ) where
+  -- the address is below the first element's
+  pub local-low : a < node .first → false ≡ isLocal node a
+  unfolding isLocal
+  local-low h = simp (lt-leb (node .first) a h)
+
+  module _ (h : node .first ≤ a) where
+    -- at a place below 8 there is an element or there is none
+    pub local-near : a - node .first < 8 → ltb (a - node .first) (node .elements) ≡ isLocal node a
+    unfolding isLocal
+    local-near p =
+        let end = node .first + min (node .elements) 8 in
+        by-test (ltb (a - node .first) (node .elements))
+        (λ t. simp (t, le-leb (node .first) a h, lt-ltb a end (omega (arith, ltb-true (a - node .first) (node .elements) t))))
+        (λ t. simp (t, le-leb (node .first) a h, le-ltb a end (omega (arith, ltb-false (a - node .first) (node .elements) t))))
+
+    -- past 8 places there is none
+    pub local-far : 8 ≤ a - node .first → false ≡ isLocal node a
+    unfolding isLocal
+    local-far p = simp (le-leb (node .first) a h, le-ltb a (node .first + min (node .elements) 8) (omega arith))
+
+  -- ---- whether a PDU is for this node
+  module _ {b : Bool} (e : b ≡ isLocal node a) where
+    pub for-local : b ≡ true → true ≡ forNode node a
+    unfolding forNode
+    for-local t = simp (← e, t)
+
+    module _ (f : b ≡ false) where
+      pub for-all : a ≡ 0xFFFF → true ≡ forNode node a
+      unfolding forNode
+      for-all h = simp (← e, f, eq-eqb a 0xFFFF h)
+
+      module _ (n : a ≡ 0xFFFF → ⊥) where
+        pub for-relays : a ≡ 0xFFFE → node .relay ≡ true → true ≡ forNode node a
+        unfolding forNode
+        for-relays h t = simp (← e, f, ne-eqb a 0xFFFF n, eq-eqb a 0xFFFE h, t)
+
+        module _ {l : Bool} (q : l ≡ listens node a) where
+          pub for-listener : (a ≡ 0xFFFE → ⊥) → l ≡ forNode node a
+          unfolding forNode
+          for-listener h = simp (← e, f, ne-eqb a 0xFFFF n, ne-eqb a 0xFFFE h, ← q)
+
+          pub for-listener-only : a ≡ 0xFFFE → node .relay ≡ false → l ≡ forNode node a
+          unfolding forNode
+          for-listener-only h r = simp (← e, f, ne-eqb a 0xFFFF n, eq-eqb a 0xFFFE h, r, ← q)

@@ -1,0 +1,4 @@
+-- The laws about the definitions of specs/.
+pub mod AddressesLaws
+pub mod EveryLaws
+pub mod SetupLaws

@@ -1,0 +1,147 @@
+-- `MakesWell` and `LocalIsUnicast`: what `valid` tests is what the table allows, each place of the node's arrays is what its setup's place gives, and an element's
+-- address lies between the first one's and 0x7FFF. Assumes nothing.
+use mathlib.Core.Bool.{Bool, true, false, _&&_, not, false≢true}
+use mathlib.Core.List.{[]}
+use mathlib.Core.Path.{_≡_}
+use Prim.Native.Nat.{ℕ, _+_, _≤_, _<_, min}
+use native.Mathlib.Omega.{arith}
+use borrow.Author.Tests.{lt-ltb, leb-true, ltb-true, eqb-false, not-true}
+use lib.Dec.{leb, ltb, eqb}
+use lib.ListN.{getD}
+use Rattle.common.proofs.Lists.{length-tab, getD-tab}
+use Rattle.common.proofs.Tests.{by-test, and-first, and-second}
+use Rattle.keys.specs.Derivation.{k2, k4}
+use Rattle.network.proofs.AddressLaws.{unicast-range}
+use Rattle.node.specs.declared.setup.BoundKey.{BoundKey}
+use Rattle.node.specs.declared.setup.Setup.{Setup}
+use Rattle.node.specs.Addresses.{isLocal}
+use Rattle.node.specs.Setup.{every, boundWithin, keysValid, nextWithin, elementsValid, isGroup, groupsValid, indexValid, valid, givenAt, keysAt, secretAt, nextAt, groupAt, nodeOf, nextOf, making}
+use Rattle.node.specs.Made.{WellMade, NextWell, MakesWell, LocalIsUnicast}
+use Rattle.node.proofs.EveryLaws.{every-each}
+
+-- two tests that hold together
+both : (p q : Bool) → p && q ≡ true → (p ≡ true) × (q ≡ true)
+both p q e = (and-first p q e, and-second p q e)
+
+module _ (s : Setup) where
+  -- ---- what each part of `valid` allows
+  keys-allowed : keysValid s ≡ true → (1 ≤ s .networks) × (s .networks ≤ 4) × (s .applications ≤ 4) × (boundWithin s ≡ true)
+  unfolding keysValid
+  keys-allowed v =
+      let a = both (leb 1 (s .networks)) _ v in
+      let b = both (leb (s .networks) 4) _ (a .1) in
+      let c = both (leb (s .applications) 4) _ (b .1) in
+      (leb-true 1 (s .networks) (a .0), leb-true (s .networks) 4 (b .0), leb-true (s .applications) 4 (c .0), c .1)
+
+  elements-allowed :
+      elementsValid s ≡ true → (1 ≤ s .elements) × (s .elements ≤ 8) × (1 ≤ s .first) × (s .first + s .elements ≤ 0x8000) × (nextWithin s ≡ true)
+  unfolding elementsValid
+  elements-allowed v =
+      let a = both (leb 1 (s .elements)) _ v in
+      let b = both (leb (s .elements) 8) _ (a .1) in
+      let c = both (leb 1 (s .first)) _ (b .1) in
+      let d = both (leb (s .first + s .elements) 0x8000) _ (c .1) in (
+        leb-true 1 (s .elements) (a .0),
+        leb-true (s .elements) 8 (b .0),
+        leb-true 1 (s .first) (c .0),
+        leb-true (s .first + s .elements) 0x8000 (d .0),
+        d .1,
+      )
+
+  groups-allowed : groupsValid s ≡ true → (s .listened ≤ 8) × (every isGroup (s .listened) (s .groups) ≡ true)
+  unfolding groupsValid
+  groups-allowed v = let a = both (leb (s .listened) 8) _ v in (leb-true (s .listened) 8 (a .0), a .1)
+
+  index-allowed : indexValid s ≡ true → s .flag ≡ true → 1 ≤ s .iv
+  unfolding indexValid
+  index-allowed v f =
+      let n : not (eqb (s .iv) 0) ≡ true = rw f at v in
+      omega (arith, eqb-false (s .iv) 0 (not-true (eqb (s .iv) 0) n))
+
+  -- ---- what stands at a place that is used
+  keys-used : (i : ℕ) → i < s .networks → keysAt s i ≡ k2 (givenAt s i .octets)
+  unfolding keysAt givenAt
+  keys-used i h = simp (lt-ltb i (s .networks) h)
+
+  aid-used : (i : ℕ) → i < s .applications → secretAt s i .aid ≡ k4 (secretAt s i .key)
+  unfolding secretAt
+  aid-used i h = simp (lt-ltb i (s .applications) h)
+
+  bound-used : boundWithin s ≡ true → (i : ℕ) → i < s .applications → secretAt s i .bound < s .networks
+  unfolding boundWithin secretAt
+  bound-used v i h =
+      let d : BoundKey = record { key = []; network = 0 } in
+      let b = every-each (λ (b : BoundKey). ltb (b .network) (s .networks)) (s .applications) (s .secrets) v i d h in
+      rw (lt-ltb i (s .applications) h) (ltb-true (getD (s .secrets) i d .network) (s .networks) b)
+
+  next-used : nextWithin s ≡ true → (i : ℕ) → i < s .elements → nextAt s i ≤ 0x1000000
+  unfolding nextWithin nextAt
+  next-used v i h =
+      rw (lt-ltb i (s .elements) h)
+      (leb-true (getD (s .next) i 0) 0x1000000 (every-each (λ q. leb q 0x1000000) (s .elements) (s .next) v i 0 h))
+
+  group-used : every isGroup (s .listened) (s .groups) ≡ true → (i : ℕ) → i < s .listened → isGroup (groupAt s i) ≡ true
+  unfolding groupAt
+  group-used v i h = rw (lt-ltb i (s .listened) h) (every-each isGroup (s .listened) (s .groups) v i 0 h)
+
+  -- ---- the node and its next SEQs
+  module _ (v : valid s ≡ true) where
+    parts : (keysValid s ≡ true) × (elementsValid s ≡ true) × (groupsValid s ≡ true) × (indexValid s ≡ true)
+    unfolding valid
+    parts =
+        let a = both (keysValid s) _ v in
+        let b = both (elementsValid s) _ (a .1) in
+        let c = both (groupsValid s) _ (b .1) in
+        (a .0, b .0, c .0, c .1)
+
+    pub node-well-made : WellMade (nodeOf s)
+    unfolding nodeOf
+    node-well-made =
+        let (n1, n4, a4, b) = keys-allowed (parts .0) in
+        let (e1, e8, f1, f8, _) = elements-allowed (parts .1) in
+        let (l8, g) = groups-allowed (parts .2) in
+        record {
+          networks-least = n1;
+          networks-most = n4;
+          applications-most = a4;
+          elements-least = e1;
+          elements-most = e8;
+          listened-most = l8;
+          given-places = length-tab (givenAt s) 4;
+          keys-places = length-tab (keysAt s) 4;
+          secrets-places = length-tab (secretAt s) 4;
+          groups-places = length-tab (groupAt s) 8;
+          derived =
+              λ i h.
+              rw (getD-tab (keysAt s) 4 i _ (omega (arith, h, n4)), getD-tab (givenAt s) 4 i _ (omega (arith, h, n4))) (keys-used i h);
+          aid-derived = λ i h. rw (getD-tab (secretAt s) 4 i _ (omega (arith, h, a4))) (aid-used i h);
+          bound = λ i h. rw (getD-tab (secretAt s) 4 i _ (omega (arith, h, a4))) (bound-used b i h);
+          first-least = f1;
+          last-most = f8;
+          groups-only = λ i h. rw (getD-tab (groupAt s) 8 i 0 (omega (arith, h, l8))) (group-used g i h);
+          index-least = index-allowed (parts .3);
+        }
+
+    pub next-well : NextWell (nodeOf s .elements) (nextOf s)
+    unfolding nodeOf nextOf
+    next-well =
+        let (_, e8, _, _, q) = elements-allowed (parts .1) in
+        record {
+          places = length-tab (nextAt s) 8;
+          most = λ i h. rw (getD-tab (nextAt s) 8 i 0 (omega (arith, h, e8))) (next-used q i h);
+        }
+
+pub makes-well : MakesWell
+unfolding making
+makes-well s e =
+    by-test (valid s)
+    (λ t. rw t (node-well-made s t, next-well s t))
+    (λ t. absurd (false≢true (rw t at e)))
+
+pub local-is-unicast : LocalIsUnicast
+unfolding isLocal
+local-is-unicast node w a e =
+    let (l, h) = both (leb (node .first) a) _ e in
+    unicast-range a
+    (omega (arith, w .first-least, leb-true (node .first) a l))
+    (omega (arith, w .last-most, w .elements-most, ltb-true a (node .first + min (node .elements) 8) h))

@@ -1,0 +1,22 @@
+-- Which addresses a node answers to (document 01, "The Network PDU").
+--   isLocal node a    a is a local unicast address
+--   listens node a    a is a group listened to
+--   forNode node a    a PDU to a is for this node
+use mathlib.Core.Bool.{Bool, _&&_, _||_}
+use mathlib.Core.List.{List}
+use Prim.Native.Nat.{ℕ, _+_, min}
+use lib.Dec.{eqb, leb, ltb}
+use Rattle.common.specs.Search.{first}
+use Rattle.node.specs.declared.addresses.Node.{Node}
+
+-- elements have consecutive addresses, and are at most 8
+unfoldable pub isLocal : Node → ℕ → Bool
+isLocal node a = leb (node .first) a && ltb a (node .first + min (node .elements) 8)
+
+-- one of the groups is it, and they are at most 8
+unfoldable pub listens : Node → ℕ → Bool
+listens node a = ltb (first (λ g. eqb g a) (node .groups)) (min (node .listened) 8)
+
+-- a local unicast address, 0xFFFF, 0xFFFE with relay on, or a group listened to
+unfoldable pub forNode : Node → ℕ → Bool
+forNode node a = isLocal node a || (eqb a 0xFFFF || ((eqb a 0xFFFE && node .relay) || listens node a))

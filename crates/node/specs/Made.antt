@@ -1,0 +1,58 @@
+-- Promise: a node that setup makes holds what document 01's table allows, and its derived keys are derived from the keys given; so a local address is unicast.
+use mathlib.Core.Bool.{true}
+use mathlib.Core.List.{List, []}
+use mathlib.Core.Path.{_≡_}
+use Prim.Native.Nat.{ℕ, _+_, _≤_, _<_}
+use lib.ListN.{length, getD}
+use Rattle.keys.specs.Derivation.{k2, k4}
+use Rattle.network.specs.Address.{isUnicast}
+use Rattle.network.specs.Candidates.{keyAt}
+use Rattle.transport.specs.Securing.{applicationKeyAt}
+use Rattle.node.specs.declared.addresses.Node.{Node}
+use Rattle.node.specs.declared.setup.Setup.{Setup}
+use Rattle.node.specs.Addresses.{isLocal}
+use Rattle.node.specs.Setup.{isGroup, making}
+
+-- what holds of a node that setup made
+pub record WellMade (node : Node) : Type 0 where
+  -- network keys: 1 to 4
+  pub networks-least : 1 ≤ node .networks
+  pub networks-most : node .networks ≤ 4
+  -- application keys: 0 to 4
+  pub applications-most : node .applications ≤ 4
+  -- elements: 1 to 8
+  pub elements-least : 1 ≤ node .elements
+  pub elements-most : node .elements ≤ 8
+  -- group addresses listened to: 0 to 8
+  pub listened-most : node .listened ≤ 8
+  -- each array has all its places
+  pub given-places : length (node .given) ≡ 4
+  pub keys-places : length (node .keys) ≡ 4
+  pub secrets-places : length (node .secrets) ≡ 4
+  pub groups-places : length (node .groups) ≡ 8
+  -- NID, encryption key and privacy key are derived from the network key
+  pub derived : (i : ℕ) → i < node .networks → keyAt (node .keys) i ≡ k2 (getD (node .given) i (record { octets = [] }) .octets)
+  -- AID is derived from the application key
+  pub aid-derived : (i : ℕ) → i < node .applications → applicationKeyAt (node .secrets) i .aid ≡ k4 (applicationKeyAt (node .secrets) i .key)
+  -- each application key is bound to one network key
+  pub bound : (i : ℕ) → i < node .applications → applicationKeyAt (node .secrets) i .bound < node .networks
+  -- consecutive unicast addresses, all at most 0x7FFF
+  pub first-least : 1 ≤ node .first
+  pub last-most : node .first + node .elements ≤ 0x8000
+  -- what is listened to are group addresses
+  pub groups-only : (i : ℕ) → i < node .listened → isGroup (getD (node .groups) i 0) ≡ true
+  -- flag 1 with IV Index 0 is refused
+  pub index-least : node .flag ≡ true → 1 ≤ node .iv
+
+-- each element's next SEQ: with 0x1000000 none is left
+pub record NextWell (elements : ℕ) (next : List ℕ) : Type 0 where
+  pub places : length next ≡ 8
+  pub most : (i : ℕ) → i < elements → getD next i 0 ≤ 0x1000000
+
+-- what setup makes is well made
+abbrev pub MakesWell : Type 0
+MakesWell = (s : Setup) → making s .ok ≡ true → WellMade (making s .node) × NextWell (making s .node .elements) (making s .next)
+
+-- a local address is unicast
+abbrev pub LocalIsUnicast : Type 0
+LocalIsUnicast = (node : Node) → WellMade node → (a : ℕ) → isLocal node a ≡ true → isUnicast a ≡ true

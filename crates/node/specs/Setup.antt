@@ -1,0 +1,142 @@
+-- Setup (document 01, "What the receiver holds"): what is outside the numbers of the table makes no node.
+--   valid s      everything is within the table
+--   nodeOf s     the node: unused places zero, derived keys worked out
+--   nextOf s     each element's next SEQ
+--   making s     what a call leaves
+use mathlib.Core.Bool.{Bool, true, false, _&&_, not}
+use mathlib.Core.List.{List, []}
+use Prim.Native.Nat.{ℕ, _+_}
+use lib.Dec.{eqb, leb, ltb}
+use lib.ListN.{getD, replicate}
+use Rattle.common.specs.Choice.{if_then_else_}
+use Rattle.common.specs.Lists.{tab}
+use Rattle.common.specs.Search.{first}
+use Rattle.keys.specs.declared.NetworkKeys.{NetworkKeys}
+use Rattle.keys.specs.Derivation.{k2, k4}
+use Rattle.network.specs.declared.address.AddressKind.{AddressKind}
+use Rattle.network.specs.declared.address.AddressKind.the-variants.{Unassigned, Unicast, Virtual, Group}
+use Rattle.network.specs.Address.{kindOf}
+use Rattle.transport.specs.declared.securing.ApplicationKey.{ApplicationKey}
+use Rattle.node.specs.declared.addresses.Key.{Key}
+use Rattle.node.specs.declared.addresses.Node.{Node}
+use Rattle.node.specs.declared.setup.BoundKey.{BoundKey}
+use Rattle.node.specs.declared.setup.Made.{Made}
+use Rattle.node.specs.declared.setup.Setup.{Setup}
+
+-- none of the first n fails
+abbrev pub every : {A : Type 0} → (A → Bool) → ℕ → List A → Bool
+every p n l = leb n (first (λ x. not (p x)) l)
+
+-- each application key is bound to one network key
+unfoldable pub boundWithin : Setup → Bool
+boundWithin s = every (λ (b : BoundKey). ltb (b .network) (s .networks)) (s .applications) (s .secrets)
+
+-- network keys 1 to 4, application keys 0 to 4
+unfoldable pub keysValid : Setup → Bool
+keysValid s = leb 1 (s .networks) && (leb (s .networks) 4 && (leb (s .applications) 4 && boundWithin s))
+
+-- each element's next SEQ: with 0x1000000 none is left
+unfoldable pub nextWithin : Setup → Bool
+nextWithin s = every (λ q. leb q 0x1000000) (s .elements) (s .next)
+
+-- elements 1 to 8, consecutive unicast addresses, all at most 0x7FFF
+unfoldable pub elementsValid : Setup → Bool
+elementsValid s =
+    leb 1 (s .elements) && (leb (s .elements) 8 && (leb 1 (s .first) && (leb (s .first + s .elements) 0x8000 && nextWithin s)))
+
+abbrev pub groupKind : AddressKind → Bool
+groupKind Unassigned = false
+groupKind Unicast = false
+groupKind Virtual = false
+groupKind Group = true
+
+abbrev pub isGroup : ℕ → Bool
+isGroup a = groupKind (kindOf a)
+
+-- group addresses 0 to 8
+unfoldable pub groupsValid : Setup → Bool
+groupsValid s = leb (s .listened) 8 && every isGroup (s .listened) (s .groups)
+
+-- flag 1 with IV Index 0 is refused
+unfoldable pub indexValid : Setup → Bool
+indexValid s = not (s .flag && eqb (s .iv) 0)
+
+unfoldable pub valid : Setup → Bool
+valid s = keysValid s && (elementsValid s && (groupsValid s && indexValid s))
+
+-- zeros
+abbrev pub zeroKey : Key
+zeroKey = record { octets = replicate 16 0 }
+
+abbrev pub zeroKeys : NetworkKeys
+zeroKeys = record { nid = 0; encryption = replicate 16 0; privacy = replicate 16 0 }
+
+abbrev pub zeroSecret : ApplicationKey
+zeroSecret = record { key = replicate 16 0; aid = 0; bound = 0 }
+
+-- the places of each array: those used, and zeros behind them
+unfoldable pub givenAt : Setup → ℕ → Key
+givenAt s i = if ltb i (s .networks) then getD (s .keys) i (record { octets = [] }) else zeroKey
+
+-- NID, encryption key and privacy key are derived once
+unfoldable pub keysAt : Setup → ℕ → NetworkKeys
+keysAt s i = if ltb i (s .networks) then k2 (getD (s .keys) i (record { octets = [] }) .octets) else zeroKeys
+
+-- and so is AID
+unfoldable pub secretAt : Setup → ℕ → ApplicationKey
+secretAt s i =
+    let b = getD (s .secrets) i (record { key = []; network = 0 }) in
+    if ltb i (s .applications) then record { key = b .key; aid = k4 (b .key); bound = b .network } else
+    zeroSecret
+
+unfoldable pub nextAt : Setup → ℕ → ℕ
+nextAt s i = if ltb i (s .elements) then getD (s .next) i 0 else 0
+
+unfoldable pub groupAt : Setup → ℕ → ℕ
+groupAt s i = if ltb i (s .listened) then getD (s .groups) i 0 else 0
+
+unfoldable pub nodeOf : Setup → Node
+nodeOf s =
+    record {
+      networks = s .networks;
+      given = tab (givenAt s) 4;
+      keys = tab (keysAt s) 4;
+      applications = s .applications;
+      secrets = tab (secretAt s) 4;
+      device = s .device;
+      first = s .first;
+      elements = s .elements;
+      listened = s .listened;
+      groups = tab (groupAt s) 8;
+      iv = s .iv;
+      flag = s .flag;
+      relay = s .relay;
+    }
+
+unfoldable pub nextOf : Setup → List ℕ
+nextOf s = tab (nextAt s) 8
+
+-- zeros
+abbrev pub noNode : Node
+noNode =
+    record {
+      networks = 0;
+      given = replicate 4 zeroKey;
+      keys = replicate 4 zeroKeys;
+      applications = 0;
+      secrets = replicate 4 zeroSecret;
+      device = replicate 16 0;
+      first = 0;
+      elements = 0;
+      listened = 0;
+      groups = replicate 8 0;
+      iv = 0;
+      flag = false;
+      relay = false;
+    }
+
+-- the node of a valid setup; of any other zeros
+unfoldable pub making : Setup → Made
+making s =
+    if valid s then record { ok = true; node = nodeOf s; next = nextOf s } else
+    record { ok = false; node = noNode; next = replicate 8 0 }

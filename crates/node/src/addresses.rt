@@ -1,0 +1,73 @@
+// The node: what is fixed at setup, and which addresses it answers to.
+use keys::NetworkKeys;
+use transport::securing::ApplicationKey;
+ghost use mathlib.Core.Path.{_≡_};
+ghost use Rattle.node.specs.Addresses.{isLocal, listens, forNode};
+
+// Sixteen octets of a key.
+pub struct Key {
+    pub octets: [u8; 16],
+}
+
+// Each number of keys, elements or groups is read as at most the places that its array has.
+pub struct Node {
+    // How many network keys there are, in their fixed order; the keys as given, and what is derived from them.
+    pub networks: usize,
+    pub given: [Key; 4],
+    pub keys: [NetworkKeys; 4],
+    // How many application keys there are.
+    pub applications: usize,
+    pub secrets: [ApplicationKey; 4],
+    pub device: [u8; 16],
+    // The first element's address, and how many elements there are.
+    pub first: u16,
+    pub elements: usize,
+    // How many group addresses are listened to.
+    pub listened: usize,
+    pub groups: [u16; 8],
+    pub iv: u32,
+    pub flag: bool,
+    pub relay: bool,
+}
+
+// Whether an address is that of an element.
+pub fn is_local(node: Node, address: u16) -> bool
+    ensures { λ r. ⌜ r ≡ isLocal node address ⌝ }
+{
+    if address < node.first {
+        return false;
+    }
+    let place = (address - node.first) as usize;
+    place < 8 && place < node.elements
+}
+
+// Whether a group address is listened to.
+fn is_listened(node: Node, address: u16) -> bool
+    ensures { λ r. ⌜ r ≡ listens node address ⌝ }
+{
+    let groups = node.groups;
+    let mut i: usize = 0;
+    while i < 8 && i < node.listened {
+        if groups[i] == address {
+            return true;
+        }
+        i += 1;
+    }
+    false
+}
+
+// Whether a PDU to this DST is for this node.
+pub fn is_for(node: Node, dst: u16) -> bool
+    ensures { λ r. ⌜ r ≡ forNode node dst ⌝ }
+{
+    if is_local(node, dst) {
+        return true;
+    }
+    if dst == 0xFFFF {
+        return true;
+    }
+    if dst == 0xFFFE && node.relay {
+        return true;
+    }
+    is_listened(node, dst)
+}

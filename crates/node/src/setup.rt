@@ -1,0 +1,358 @@
+// A node is made from keys, addresses and the IV Index: everything unused is zero, and what is derived from keys is worked out once.
+use super::addresses::Key;
+use super::addresses::Node;
+use keys::NetworkKeys;
+use network::address::AddressKind;
+use transport::securing::ApplicationKey;
+ghost use mathlib.Core.Path.{_≡_};
+ghost use Prim.Native.Nat.{_<_, _≤_};
+ghost use Rattle.common.specs.Lists.{tab};
+ghost use Rattle.node.specs.Setup.{groupKind, boundWithin, keysValid, nextWithin, elementsValid, groupsValid, indexValid, valid, givenAt, keysAt, secretAt, nextAt, groupAt, nodeOf, nextOf, noNode, making};
+
+// An application key, and the place of the network key that it is bound to.
+pub struct BoundKey {
+    pub key: [u8; 16],
+    pub network: usize,
+}
+
+pub struct Setup {
+    // How many network keys there are: 1 to 4.
+    pub networks: usize,
+    pub keys: [Key; 4],
+    // How many application keys there are: 0 to 4.
+    pub applications: usize,
+    pub secrets: [BoundKey; 4],
+    pub device: [u8; 16],
+    // The first element's address, and how many elements there are: 1 to 8, each with its next SEQ.
+    pub first: u16,
+    pub elements: usize,
+    pub next: [u32; 8],
+    // How many group addresses are listened to: 0 to 8.
+    pub listened: usize,
+    pub groups: [u16; 8],
+    pub iv: u32,
+    pub flag: bool,
+    pub relay: bool,
+}
+
+// The node, with each element's next SEQ.
+pub struct Made {
+    // False where the setup is outside the rules: then all is zero.
+    pub ok: bool,
+    pub node: Node,
+    pub next: [u32; 8],
+}
+
+// Whether each application key is bound to a network key that there is.
+fn is_bound(s: Setup) -> bool
+    requires { ⌜ s .applications ≤ 4 ⌝ }
+    ensures { λ r. ⌜ r ≡ boundWithin s ⌝ }
+{
+    let secrets = s.secrets;
+    let mut i: usize = 0;
+    while i < s.applications {
+        let b = secrets[i];
+        if s.networks <= b.network {
+            return false;
+        }
+        i += 1;
+    }
+    true
+}
+
+fn keys_valid(s: Setup) -> bool
+    ensures { λ r. ⌜ r ≡ keysValid s ⌝ }
+{
+    if s.networks < 1 {
+        return false;
+    }
+    if 4 < s.networks {
+        return false;
+    }
+    if 4 < s.applications {
+        return false;
+    }
+    is_bound(s)
+}
+
+// Whether each element's next SEQ is at most 0x1000000: with that one no SEQ is left.
+fn next_within(s: Setup) -> bool
+    requires { ⌜ s .elements ≤ 8 ⌝ }
+    ensures { λ r. ⌜ r ≡ nextWithin s ⌝ }
+{
+    let next = s.next;
+    let mut i: usize = 0;
+    while i < s.elements {
+        if 0x1000000 < next[i] {
+            return false;
+        }
+        i += 1;
+    }
+    true
+}
+
+fn elements_valid(s: Setup) -> bool
+    ensures { λ r. ⌜ r ≡ elementsValid s ⌝ }
+{
+    if s.elements < 1 {
+        return false;
+    }
+    if 8 < s.elements {
+        return false;
+    }
+    if s.first < 1 {
+        return false;
+    }
+    if 0x8000 < s.first as usize + s.elements {
+        return false;
+    }
+    next_within(s)
+}
+
+fn group(kind: AddressKind) -> bool
+    ensures { λ r. ⌜ r ≡ groupKind kind ⌝ }
+{
+    match kind {
+        AddressKind::Unassigned => false,
+        AddressKind::Unicast => false,
+        AddressKind::Virtual => false,
+        AddressKind::Group => true,
+    }
+}
+
+fn groups_valid(s: Setup) -> bool
+    ensures { λ r. ⌜ r ≡ groupsValid s ⌝ }
+{
+    if 8 < s.listened {
+        return false;
+    }
+    let groups = s.groups;
+    let mut i: usize = 0;
+    while i < s.listened {
+        if !group(network::address::kind(groups[i])) {
+            return false;
+        }
+        i += 1;
+    }
+    true
+}
+
+// Flag 1 with IV Index 0 is refused.
+fn index_valid(s: Setup) -> bool
+    ensures { λ r. ⌜ r ≡ indexValid s ⌝ }
+{
+    if s.flag {
+        return s.iv != 0;
+    }
+    true
+}
+
+fn is_valid(s: Setup) -> bool
+    ensures { λ r. ⌜ r ≡ valid s ⌝ }
+{
+    if !keys_valid(s) {
+        return false;
+    }
+    if !elements_valid(s) {
+        return false;
+    }
+    if !groups_valid(s) {
+        return false;
+    }
+    index_valid(s)
+}
+
+fn given_at(s: Setup, i: usize) -> Key
+    requires { ⌜ i < 4 ⌝ }
+    ensures { λ r. ⌜ r ≡ givenAt s i ⌝ }
+{
+    let keys = s.keys;
+    if i < s.networks {
+        return keys[i];
+    }
+    Key { octets: [0u8; 16] }
+}
+
+fn keys_at(s: Setup, i: usize) -> NetworkKeys
+    requires { ⌜ i < 4 ⌝ }
+    ensures { λ r. ⌜ r ≡ keysAt s i ⌝ }
+{
+    let given = s.keys;
+    if i < s.networks {
+        let key = given[i];
+        let octets = key.octets;
+        return keys::k2(octets);
+    }
+    NetworkKeys {
+        nid: 0,
+        encryption: [0u8; 16],
+        privacy: [0u8; 16],
+    }
+}
+
+fn secret_at(s: Setup, i: usize) -> ApplicationKey
+    requires { ⌜ i < 4 ⌝ }
+    ensures { λ r. ⌜ r ≡ secretAt s i ⌝ }
+{
+    let secrets = s.secrets;
+    if i < s.applications {
+        let b = secrets[i];
+        let key = b.key;
+        return ApplicationKey {
+            key,
+            aid: keys::k4(key),
+            bound: b.network,
+        };
+    }
+    ApplicationKey {
+        key: [0u8; 16],
+        aid: 0,
+        bound: 0,
+    }
+}
+
+fn next_at(s: Setup, i: usize) -> u32
+    requires { ⌜ i < 8 ⌝ }
+    ensures { λ r. ⌜ r ≡ nextAt s i ⌝ }
+{
+    let next = s.next;
+    if i < s.elements { next[i] } else { 0 }
+}
+
+fn group_at(s: Setup, i: usize) -> u16
+    requires { ⌜ i < 8 ⌝ }
+    ensures { λ r. ⌜ r ≡ groupAt s i ⌝ }
+{
+    let groups = s.groups;
+    if i < s.listened { groups[i] } else { 0 }
+}
+
+// The places of each array together.
+fn given_of(s: Setup) -> [Key; 4]
+    ensures { λ r. ⌜ r ≡ tab (givenAt s) 4 ⌝ }
+{
+    [
+        given_at(s, 0),
+        given_at(s, 1),
+        given_at(s, 2),
+        given_at(s, 3),
+    ]
+}
+
+fn keys_of(s: Setup) -> [NetworkKeys; 4]
+    ensures { λ r. ⌜ r ≡ tab (keysAt s) 4 ⌝ }
+{
+    [keys_at(s, 0), keys_at(s, 1), keys_at(s, 2), keys_at(s, 3)]
+}
+
+fn secrets_of(s: Setup) -> [ApplicationKey; 4]
+    ensures { λ r. ⌜ r ≡ tab (secretAt s) 4 ⌝ }
+{
+    [
+        secret_at(s, 0),
+        secret_at(s, 1),
+        secret_at(s, 2),
+        secret_at(s, 3),
+    ]
+}
+
+fn groups_of(s: Setup) -> [u16; 8]
+    ensures { λ r. ⌜ r ≡ tab (groupAt s) 8 ⌝ }
+{
+    [
+        group_at(s, 0),
+        group_at(s, 1),
+        group_at(s, 2),
+        group_at(s, 3),
+        group_at(s, 4),
+        group_at(s, 5),
+        group_at(s, 6),
+        group_at(s, 7),
+    ]
+}
+
+fn node_of(s: Setup) -> Node
+    ensures { λ r. ⌜ r ≡ nodeOf s ⌝ }
+{
+    let device = s.device;
+    Node {
+        networks: s.networks,
+        given: given_of(s),
+        keys: keys_of(s),
+        applications: s.applications,
+        secrets: secrets_of(s),
+        device,
+        first: s.first,
+        elements: s.elements,
+        listened: s.listened,
+        groups: groups_of(s),
+        iv: s.iv,
+        flag: s.flag,
+        relay: s.relay,
+    }
+}
+
+fn zero_node() -> Node
+    ensures { λ r. ⌜ r ≡ noNode ⌝ }
+{
+    let key = Key { octets: [0u8; 16] };
+    let derived = NetworkKeys {
+        nid: 0,
+        encryption: [0u8; 16],
+        privacy: [0u8; 16],
+    };
+    let secret = ApplicationKey {
+        key: [0u8; 16],
+        aid: 0,
+        bound: 0,
+    };
+    Node {
+        networks: 0,
+        given: [key; 4],
+        keys: [derived; 4],
+        applications: 0,
+        secrets: [secret; 4],
+        device: [0u8; 16],
+        first: 0,
+        elements: 0,
+        listened: 0,
+        groups: [0u16; 8],
+        iv: 0,
+        flag: false,
+        relay: false,
+    }
+}
+
+fn next_of(s: Setup) -> [u32; 8]
+    ensures { λ r. ⌜ r ≡ nextOf s ⌝ }
+{
+    [
+        next_at(s, 0),
+        next_at(s, 1),
+        next_at(s, 2),
+        next_at(s, 3),
+        next_at(s, 4),
+        next_at(s, 5),
+        next_at(s, 6),
+        next_at(s, 7),
+    ]
+}
+
+// Makes the node of a setup.
+pub fn make(s: Setup) -> Made
+    ensures { λ m. ⌜ m ≡ making s ⌝ }
+{
+    if !is_valid(s) {
+        return Made {
+            ok: false,
+            node: zero_node(),
+            next: [0u32; 8],
+        };
+    }
+    let next = next_of(s);
+    Made {
+        ok: true,
+        node: node_of(s),
+        next,
+    }
+}

@@ -1,0 +1,157 @@
+-- The rules of hearing one PDU: one for each answer, its conditions in the order of the code's tests.
+-- Assumes nothing.
+use mathlib.Core.Bool.{Bool, true, false, not}
+use mathlib.Core.List.{List}
+use mathlib.Core.Path.{_≡_, sym, ap, _∙_}
+use Prim.Native.Nat.{ℕ, _≤_, _<_}
+use borrow.Author.Tests.{not-true, not-false, lt-ltb, le-ltb}
+use lib.ListN.{length}
+use Rattle.common.specs.Lent.{Lent, lent}
+use Rattle.network.specs.declared.header.Header.{Header}
+use Rattle.network.specs.declared.opening.Answer.{Answer}
+use Rattle.network.specs.declared.opening.Answer.the-variants as network
+use Rattle.network.specs.declared.opening.Opening.{Opening}
+use Rattle.network.specs.declared.sealing.Answer as sealing-answer
+use Rattle.network.specs.declared.sealing.Answer.the-variants as sealing
+use Rattle.network.specs.Opening.{opening}
+use Rattle.network.specs.Sealing.{forwards, forwarding}
+use Rattle.transport.specs.declared.form.Form.{Form}
+use Rattle.transport.specs.declared.form.Form.the-variants as form
+use Rattle.transport.specs.Form.{formOf}
+use Rattle.memory.specs.declared.cache.Cache.{Cache}
+use Rattle.memory.specs.Cache.{seen, remembered}
+use Rattle.node.specs.declared.addresses.Node.{Node}
+use Rattle.node.specs.Addresses.{isLocal, forNode}
+use Rattle.receiver.specs.declared.answer.Heard.{Heard}
+use Rattle.receiver.specs.declared.answer.Refusal.the-variants as refusal
+use Rattle.receiver.specs.declared.answer.Taken.{Taken}
+use Rattle.receiver.specs.declared.state.Receiver.{Receiver}
+use Rattle.receiver.specs.Segmented.{segmented}
+use Rattle.receiver.specs.State.{withCache}
+use Rattle.receiver.specs.Whole.{refusedAt, wholeAccess, wholeControl, wholeAcknowledgement}
+use Rattle.receiver.specs.Hearing.{outcome, refusedHeard, relayed, takenAs, taken, passed, uncached, openedAs, hearing}
+
+-- ---- forwarding
+module _ (node : Node) (h : Header) (fwd : List ℕ) (local : Bool) (el : local ≡ isLocal node (h .dst)) (on : Bool) (eo : on ≡ forwards (node .relay) local h) where
+  pub relayed-not : not on ≡ true → lent 0 fwd ≡ relayed node h fwd
+  unfolding relayed
+  relayed-not t = rw (← el, ← eo, not-true on t)
+
+  module _ (t : not on ≡ false) (a : sealing-answer.Answer) (left : List ℕ) (ea : lent a left ≡ forwarding (node .keys) h fwd) where
+    pub relayed-sealed : (n : ℕ) → a ≡ sealing.Sealed n → lent n left ≡ relayed node h fwd
+    unfolding relayed
+    relayed-sealed n k = rw (← el, ← eo, not-false on t, ← ea, k)
+
+    pub relayed-outside : a ≡ sealing.OutsideRules → lent 0 left ≡ relayed node h fwd
+    unfolding relayed
+    relayed-outside k = rw (← el, ← eo, not-false on t, ← ea, k)
+
+    pub relayed-short : a ≡ sealing.ShortBuffer → lent 0 left ≡ relayed node h fwd
+    unfolding relayed
+    relayed-short k = rw (← el, ← eo, not-false on t, ← ea, k)
+
+pub ruleset relayed-rules = (relayed-not, relayed-sealed, relayed-outside, relayed-short)
+
+-- ---- by the transport form
+module _ (r : Receiver) (h : Header) (msg : List ℕ) (f : Form) (e : f ≡ formOf h) (t : Taken) (left : List ℕ) where
+  pub form-wrong : f ≡ form.Wrong → t ≡ refusedAt r refusal.WrongForm 0 → lent t msg ≡ takenAs (formOf h) r h msg
+  unfolding takenAs
+  form-wrong k et = rw (← e, k, et)
+
+  pub form-access : (akf : Bool) (aid : ℕ) → f ≡ form.Access akf aid → lent t left ≡ wholeAccess r h akf aid msg → lent t left ≡ takenAs (formOf h) r h msg
+  unfolding takenAs
+  form-access akf aid k et = rw (← e, k) et
+
+  pub form-control : (opcode : ℕ) → f ≡ form.Control opcode → lent t left ≡ wholeControl r h opcode msg → lent t left ≡ takenAs (formOf h) r h msg
+  unfolding takenAs
+  form-control opcode k et = rw (← e, k) et
+
+  pub form-acknowledgement :
+      (obo : Bool) (seqZero bits : ℕ) → f ≡ form.Acknowledgement obo seqZero bits → t ≡ wholeAcknowledgement r h obo seqZero bits
+      → lent t msg ≡ takenAs (formOf h) r h msg
+  unfolding takenAs
+  form-acknowledgement obo seqZero bits k et = rw (← e, k, et)
+
+  pub form-access-segment :
+      (akf : Bool) (aid : ℕ) (szmic : Bool) (seqZero segO segN : ℕ) → f ≡ form.AccessSegment akf aid szmic seqZero segO segN
+      → lent t left ≡ segmented r h szmic seqZero segO segN msg → lent t left ≡ takenAs (formOf h) r h msg
+  unfolding takenAs
+  form-access-segment akf aid szmic seqZero segO segN k et = rw (← e, k) et
+
+  pub form-control-segment :
+      (opcode seqZero segO segN : ℕ) → f ≡ form.ControlSegment opcode seqZero segO segN
+      → lent t left ≡ segmented r h false seqZero segO segN msg → lent t left ≡ takenAs (formOf h) r h msg
+  unfolding takenAs
+  form-control-segment opcode seqZero segO segN k et = rw (← e, k) et
+
+pub ruleset form-rules = (form-wrong, form-access, form-control, form-acknowledgement, form-access-segment, form-control-segment)
+
+-- ---- 6
+module _ (r : Receiver) (h : Header) (msg : List ℕ) (ours : Bool) (e : ours ≡ forNode (r .node) (h .dst)) (t : Taken) where
+  pub taken-ours : ours ≡ true → (left : List ℕ) → lent t left ≡ takenAs (formOf h) r h msg → lent t left ≡ taken r h msg
+  unfolding taken
+  taken-ours k left et = rw (← e, k) et
+
+  pub taken-not : ours ≡ false → t ≡ refusedAt r refusal.NotForNode 0 → lent t msg ≡ taken r h msg
+  unfolding taken
+  taken-not k et = rw (← e, k, et)
+
+pub ruleset taken-rules = (taken-ours, taken-not)
+
+-- ---- cached, forwarded, taken
+pub passed-is :
+    (r : Receiver) (h : Header) (trials : ℕ) (fwd msg : List ℕ)
+    {c : Cache} → c ≡ remembered (r .cache) (h .src) (h .seq) → {q : Receiver} → q ≡ withCache r c
+    → {n : ℕ} {fwd' : List ℕ} → lent n fwd' ≡ relayed (r .node) h fwd → {t : Taken} {msg' : List ℕ} → lent t msg' ≡ taken q h msg
+    → outcome (record { answer = t .answer; network = trials; application = t .trials; forwarded = n; receiver = t .receiver }) fwd' msg' ≡ passed r h trials fwd msg
+unfolding passed
+passed-is r h trials fwd msg ec eq ef et = rw (← ec, ← eq, ← ef, ← et)
+
+-- ---- 5
+module _ (r : Receiver) (h : Header) (trials : ℕ) (fwd msg : List ℕ) (was : Bool) (e : was ≡ seen (r .cache) (h .src) (h .seq)) (t : Heard) where
+  pub uncached-seen : was ≡ true → t ≡ refusedHeard r refusal.Cached trials → outcome t fwd msg ≡ uncached r h trials fwd msg
+  unfolding uncached
+  uncached-seen k et = rw (← e, k, et)
+
+  pub uncached-new :
+      was ≡ false → (fwd' msg' : List ℕ) → outcome t fwd' msg' ≡ passed r h trials fwd msg → outcome t fwd' msg' ≡ uncached r h trials fwd msg
+  unfolding uncached
+  uncached-new k fwd' msg' et = rw (← e, k) et
+
+pub ruleset uncached-rules = (uncached-seen, uncached-new)
+
+-- ---- 16, 1 to 4
+module _ (r : Receiver) (pdu fwd msg : List ℕ) (t : Heard) where
+  pub hear-short-forward : length fwd < 29 → t ≡ refusedHeard r refusal.ShortBuffer 0 → outcome t fwd msg ≡ hearing r pdu fwd msg
+  unfolding hearing
+  hear-short-forward l et = rw (lt-ltb (length fwd) 29 l, et)
+
+  module _ (lf : 29 ≤ length fwd) where
+    pub hear-short-message : length msg < 384 → t ≡ refusedHeard r refusal.ShortBuffer 0 → outcome t fwd msg ≡ hearing r pdu fwd msg
+    unfolding hearing
+    hear-short-message l et = rw (le-ltb (length fwd) 29 lf, lt-ltb (length msg) 384 l, et)
+
+    module _ (lm : 384 ≤ length msg) (o : Opening) (e : o ≡ opening (r .node .keys) (r .node .networks) (r .node .iv) pdu) where
+      pub hear-length : o .answer ≡ network.WrongLength → t ≡ refusedHeard r refusal.WrongLength (o .trials) → outcome t fwd msg ≡ hearing r pdu fwd msg
+      unfolding hearing openedAs
+      hear-length k et = rw (le-ltb (length fwd) 29 lf, le-ltb (length msg) 384 lm, ← e, k, et)
+
+      pub hear-candidate : o .answer ≡ network.NoCandidate → t ≡ refusedHeard r refusal.NoCandidate (o .trials) → outcome t fwd msg ≡ hearing r pdu fwd msg
+      unfolding hearing openedAs
+      hear-candidate k et = rw (le-ltb (length fwd) 29 lf, le-ltb (length msg) 384 lm, ← e, k, et)
+
+      pub hear-authentic : o .answer ≡ network.NotAuthentic → t ≡ refusedHeard r refusal.NotAuthentic (o .trials) → outcome t fwd msg ≡ hearing r pdu fwd msg
+      unfolding hearing openedAs
+      hear-authentic k et = rw (le-ltb (length fwd) 29 lf, le-ltb (length msg) 384 lm, ← e, k, et)
+
+      pub hear-address : o .answer ≡ network.WrongAddress → t ≡ refusedHeard r refusal.WrongAddress (o .trials) → outcome t fwd msg ≡ hearing r pdu fwd msg
+      unfolding hearing openedAs
+      hear-address k et = rw (le-ltb (length fwd) 29 lf, le-ltb (length msg) 384 lm, ← e, k, et)
+
+      pub hear-opened :
+          o .answer ≡ network.Opened → (fwd' msg' : List ℕ) → outcome t fwd' msg' ≡ uncached r (o .header) (o .trials) fwd msg
+          → outcome t fwd' msg' ≡ hearing r pdu fwd msg
+      unfolding hearing openedAs
+      hear-opened k fwd' msg' et = rw (le-ltb (length fwd) 29 lf, le-ltb (length msg) 384 lm, ← e, k) et
+
+pub ruleset hear-rules = (hear-short-forward, hear-short-message, hear-length, hear-candidate, hear-authentic, hear-address, hear-opened)

@@ -1,0 +1,103 @@
+-- One PDU is heard: refusals 16, 1 to 13 in order, each exactly when the table says and leaving what it says (document 01, "Numbers of the refusals").
+--   relayed node h fwd        what forwarding leaves
+--   taken r h msg             6, then by the transport form: what a PDU in the cache leaves
+--   hearing r pdu fwd msg     what a call leaves
+use mathlib.Core.Bool.{Bool, false}
+use mathlib.Core.List.{List}
+use Prim.Native.Nat.{ℕ}
+use lib.Dec.{ltb}
+use lib.ListN.{length}
+use Rattle.common.specs.Choice.{if_then_else_}
+use Rattle.common.specs.Lent.{Lent, lent}
+use Rattle.network.specs.declared.header.Header.{Header}
+use Rattle.network.specs.declared.opening.Answer.the-variants as network
+use Rattle.network.specs.declared.opening.Answer.{Answer}
+use Rattle.network.specs.Opening.{opening}
+use Rattle.network.specs.Sealing.{sealedLength, forwards, forwarding}
+use Rattle.transport.specs.declared.form.Form.{Form}
+use Rattle.transport.specs.declared.form.Form.the-variants as form
+use Rattle.transport.specs.Form.{formOf}
+use Rattle.memory.specs.Cache.{seen, remembered}
+use Rattle.receiver.specs.declared.answer.Answer.the-variants.{Refused}
+use Rattle.receiver.specs.declared.answer.Heard.{Heard}
+use Rattle.receiver.specs.declared.answer.Refusal.{Refusal}
+use Rattle.receiver.specs.declared.answer.Refusal.the-variants as refusal
+use Rattle.receiver.specs.declared.answer.Taken.{Taken}
+use Rattle.node.specs.declared.addresses.Node.{Node}
+use Rattle.receiver.specs.declared.state.Receiver.{Receiver}
+use Rattle.node.specs.Addresses.{isLocal, forNode}
+use Rattle.receiver.specs.Segmented.{segmented}
+use Rattle.receiver.specs.State.{withCache}
+use Rattle.receiver.specs.Whole.{refusedAt, wholeAccess, wholeControl, wholeAcknowledgement}
+
+-- what a call leaves: its answer with the new state, and both lent buffers
+pub record Outcome : Type 0 where
+  pub heard : Heard
+  pub forward : List ℕ
+  pub message : List ℕ
+
+abbrev pub outcome : Heard → List ℕ → List ℕ → Outcome
+outcome t fwd msg = record { heard = t; forward = fwd; message = msg }
+
+-- a refusal that leaves everything, with its number of trials
+abbrev pub refusedHeard : Receiver → Refusal → ℕ → Heard
+refusedHeard r n trials = record { answer = Refused n; network = trials; application = 0; forwarded = 0; receiver = r }
+
+-- forwarded exactly when relay is on, TTL is at least 2 and DST is no local unicast address; else the forward buffer stays
+unfoldable pub relayed : Node → Header → List ℕ → Lent ℕ
+relayed node h fwd =
+    let f = forwarding (node .keys) h fwd in
+    if forwards (node .relay) (isLocal node (h .dst)) h then lent (sealedLength (f .answer)) (f .buffer) else
+    lent 0 fwd
+
+-- 7: transport form is wrong; else by the form
+unfoldable pub takenAs : Form → Receiver → Header → List ℕ → Lent Taken
+takenAs form.Wrong r h msg = lent (refusedAt r refusal.WrongForm 0) msg
+takenAs (form.Access akf aid) r h msg = wholeAccess r h akf aid msg
+takenAs (form.AccessSegment akf aid szmic seqZero segO segN) r h msg = segmented r h szmic seqZero segO segN msg
+takenAs (form.Control opcode) r h msg = wholeControl r h opcode msg
+takenAs (form.ControlSegment opcode seqZero segO segN) r h msg = segmented r h false seqZero segO segN msg
+takenAs (form.Acknowledgement obo seqZero bits) r h msg = lent (wholeAcknowledgement r h obo seqZero bits) msg
+
+-- 6: not for this node
+unfoldable pub taken : Receiver → Header → List ℕ → Lent Taken
+taken r h msg =
+    if forNode (r .node) (h .dst) then takenAs (formOf h) r h msg else
+    lent (refusedAt r refusal.NotForNode 0) msg
+
+-- what passes refusals 1 to 5 is cached, perhaps forwarded, and taken; a later refusal does not alter this
+unfoldable pub passed : Receiver → Header → ℕ → List ℕ → List ℕ → Outcome
+passed r h trials fwd msg =
+    let f = relayed (r .node) h fwd in
+    let t = taken (withCache r (remembered (r .cache) (h .src) (h .seq))) h msg in
+    outcome
+    (record {
+      answer = t .answer .answer;
+      network = trials;
+      application = t .answer .trials;
+      forwarded = f .answer;
+      receiver = t .answer .receiver;
+    })
+    (f .buffer) (t .buffer)
+
+-- 5: in the cache
+unfoldable pub uncached : Receiver → Header → ℕ → List ℕ → List ℕ → Outcome
+uncached r h trials fwd msg =
+    if seen (r .cache) (h .src) (h .seq) then outcome (refusedHeard r refusal.Cached trials) fwd msg else
+    passed r h trials fwd msg
+
+-- 1 to 4 are those of opening a Network PDU
+unfoldable pub openedAs : Answer → Receiver → Header → ℕ → List ℕ → List ℕ → Outcome
+openedAs network.WrongLength r h trials fwd msg = outcome (refusedHeard r refusal.WrongLength trials) fwd msg
+openedAs network.NoCandidate r h trials fwd msg = outcome (refusedHeard r refusal.NoCandidate trials) fwd msg
+openedAs network.NotAuthentic r h trials fwd msg = outcome (refusedHeard r refusal.NotAuthentic trials) fwd msg
+openedAs network.WrongAddress r h trials fwd msg = outcome (refusedHeard r refusal.WrongAddress trials) fwd msg
+openedAs network.Opened r h trials fwd msg = uncached r h trials fwd msg
+
+-- 16: a buffer lent for writing is shorter than 29 (PDU) or 384 (message)
+unfoldable pub hearing : Receiver → List ℕ → List ℕ → List ℕ → Outcome
+hearing r pdu fwd msg =
+    let o = opening (r .node .keys) (r .node .networks) (r .node .iv) pdu in
+    if ltb (length fwd) 29 then outcome (refusedHeard r refusal.ShortBuffer 0) fwd msg else
+    if ltb (length msg) 384 then outcome (refusedHeard r refusal.ShortBuffer 0) fwd msg else
+    openedAs (o .answer) r (o .header) (o .trials) fwd msg

@@ -1,0 +1,115 @@
+-- A segment of a longer message (document 01, "Transport"; refusals 8 to 13).
+--   segmentOf h szmic auth segO segN             a segment as header and form tell it
+--   gathered r slot s msg                        the session with a segment more: stored, or complete
+--   placed r h seg msg                           what a segment with a SeqAuth leaves
+--   segmented r h szmic seqZero segO segN msg    what a segment leaves
+use mathlib.Core.Bool.{Bool, true, false}
+use mathlib.Core.List.{List}
+use Prim.Native.Nat.{ℕ, _%_}
+use lib.Dec.{leb}
+use lib.ListN.{length, getD, take}
+use Rattle.common.specs.Choice.{if_then_else_}
+use Rattle.common.specs.Lent.{Lent, lent}
+use Rattle.common.specs.Lists.{onto}
+use Rattle.network.specs.declared.header.Header.{Header}
+use Rattle.transport.specs.declared.securing.Envelope.{Envelope}
+use Rattle.transport.specs.declared.securing.Opened.{Opened}
+use Rattle.transport.specs.declared.securing.Opened.the-variants.{Message, NotOpened, ShortBuffer}
+use Rattle.transport.specs.declared.seq_auth.SeqAuth.{SeqAuth}
+use Rattle.transport.specs.declared.seq_auth.SeqAuth.the-variants.{At, Nowhere}
+use Rattle.transport.specs.Fields.{akf, aid, opcode}
+use Rattle.transport.specs.Securing.{unsecuring}
+use Rattle.transport.specs.SeqAuth.{seqAuth}
+use Rattle.memory.specs.declared.decision.Decision.{Decision}
+use Rattle.memory.specs.declared.decision.Decision.the-variants as decision'
+use Rattle.memory.specs.declared.session.Segment.{Segment}
+use Rattle.memory.specs.declared.session.Session.{Session}
+use Rattle.memory.specs.Decision.{sessionAt, decision}
+use Rattle.memory.specs.Replay.{handedUp}
+use Rattle.memory.specs.Session.{noSession, begun, stored, complete, blockAck}
+use Rattle.receiver.specs.declared.answer.Answer.the-variants.{Stored, Repeated, Access, Control}
+use Rattle.receiver.specs.declared.answer.Refusal.the-variants as refusal
+use Rattle.receiver.specs.declared.answer.Taken.{Taken}
+use Rattle.receiver.specs.declared.state.Receiver.{Receiver}
+use Rattle.receiver.specs.State.{withReplay, withSession}
+use Rattle.receiver.specs.Whole.{refusedAt}
+
+-- a segment as header and form tell it: SeqAuth is the IV Index followed by the number found
+abbrev pub segmentOf : Header → Bool → ℕ → ℕ → ℕ → Segment
+segmentOf h szmic auth segO segN =
+    record {
+      auth = record { iv = h .iv; seq = auth };
+      terms = record { ctl = h .ctl; first = getD (h .transport) 0 0; szmic = szmic; segn = segN; dst = h .dst; key = h .key };
+      sego = segO;
+    }
+
+-- when a segmented message is handed up its SeqAuth, SegN and DST are kept with the replay entry
+unfoldable pub upgraded : Receiver → Session → Receiver
+upgraded r s = withReplay r (handedUp (r .replay) (s .src) (s .auth) (s .terms .segn) (s .terms .dst))
+
+-- the bytes in SegO order
+unfoldable pub messageOf : Session → List ℕ
+messageOf s = take (s .len) (s .bytes)
+
+-- the second nonce takes its SEQ from SeqAuth
+abbrev pub sessionEnvelope : Session → Envelope
+sessionEnvelope s =
+    record {
+      network = s .terms .key;
+      akf = akf (s .terms .first);
+      aid = aid (s .terms .first);
+      szmic = s .terms .szmic;
+      iv = s .auth .iv;
+      seq = s .auth .seq;
+      src = s .src;
+      dst = s .terms .dst;
+    }
+
+-- control: handed up
+unfoldable pub controlUp : Receiver → Session → List ℕ → Lent Taken
+controlUp r s msg =
+    let m = messageOf s in
+    lent
+    (record { answer = Control (s .src) (s .terms .dst) (s .terms .key) (opcode (s .terms .first)) (s .auth) (length m); trials = 0; receiver = upgraded r s })
+    (onto m msg)
+
+-- access: opened; 13 where no fitting key does
+unfoldable pub accessUpAs : Receiver → Session → Opened → Taken
+accessUpAs r s (Message key trials len) =
+    record { answer = Access (s .src) (s .terms .dst) (s .terms .key) key (s .auth) len; trials = trials; receiver = upgraded r s }
+accessUpAs r s (NotOpened trials) = refusedAt r refusal.NotOpened trials
+accessUpAs r s ShortBuffer = refusedAt r refusal.ShortBuffer 0
+
+unfoldable pub accessUp : Receiver → Session → List ℕ → Lent Taken
+accessUp r s msg =
+    let o = unsecuring (r .node .secrets) (r .node .applications) (r .node .device) (sessionEnvelope s) (messageOf s) msg in
+    lent (accessUpAs r s (o .answer)) (o .buffer)
+
+-- the last missing segment completes it, and the slot is freed, whatever becomes of the message; else it is stored
+unfoldable pub gathered : Receiver → ℕ → Session → List ℕ → Lent Taken
+gathered r slot s msg =
+    if complete s then
+    (if s .terms .ctl then controlUp (withSession r slot noSession) s msg else accessUp (withSession r slot noSession) s msg) else
+    lent (record { answer = Stored (s .src) (s .auth) (blockAck s); trials = 0; receiver = withSession r slot s }) msg
+
+-- 9 to 12, repeat, join, or open a session: one that is replaced or new is zeroed first
+unfoldable pub placedAs : Decision → Receiver → Header → Segment → List ℕ → Lent Taken
+placedAs decision'.Stale r h seg msg = lent (refusedAt r refusal.Replayed 0) msg
+placedAs decision'.Differs r h seg msg = lent (refusedAt r refusal.Differs 0) msg
+placedAs decision'.NoEntryLeft r h seg msg = lent (refusedAt r refusal.NoEntryLeft 0) msg
+placedAs decision'.NoSlotLeft r h seg msg = lent (refusedAt r refusal.NoSlotLeft 0) msg
+placedAs (decision'.Repeat bits) r h seg msg =
+    lent (record { answer = Repeated (h .src) (seg .auth) bits; trials = 0; receiver = r }) msg
+placedAs (decision'.Join slot) r h seg msg = gathered r slot (stored (sessionAt (r .sessions) slot) h (seg .sego)) msg
+placedAs (decision'.Open slot) r h seg msg = gathered r slot (stored (begun (h .src) seg) h (seg .sego)) msg
+
+unfoldable pub placed : Receiver → Header → Segment → List ℕ → Lent Taken
+placed r h seg msg = placedAs (decision (r .replay) (r .sessions) (h .src) seg) r h seg msg
+
+-- 8: no SeqAuth exists
+unfoldable pub segmentedAs : SeqAuth → Receiver → Header → Bool → ℕ → ℕ → List ℕ → Lent Taken
+segmentedAs Nowhere r h szmic segO segN msg = lent (refusedAt r refusal.NoSeqAuth 0) msg
+segmentedAs (At auth) r h szmic segO segN msg = placed r h (segmentOf h szmic auth segO segN) msg
+
+unfoldable pub segmented : Receiver → Header → Bool → ℕ → ℕ → ℕ → List ℕ → Lent Taken
+segmented r h szmic seqZero segO segN msg = segmentedAs (seqAuth (h .seq) seqZero) r h szmic segO segN msg

@@ -1,0 +1,63 @@
+// A receiver is set up: fresh, it has heard and sent nothing.
+use super::answer::Refusal;
+use super::state::Receiver;
+use node::addresses::Node;
+use node::setup::Setup;
+ghost use mathlib.Core.Path.{_≡_};
+ghost use Rattle.receiver.specs.Fresh.{paper, fresh, settingUp};
+
+pub enum Answer {
+    // The receiver stands beside.
+    Ready,
+    Refused(Refusal),
+}
+
+pub struct Ready {
+    pub answer: Answer,
+    pub receiver: Receiver,
+}
+
+// Document 01's number of an answer; 0 where nothing is refused.
+pub fn number(answer: Answer) -> u32
+    ensures { λ r. ⌜ r ≡ paper answer ⌝ }
+{
+    match answer {
+        Answer::Ready => 0,
+        Answer::Refused(refusal) => super::answer::number(refusal),
+    }
+}
+
+// A receiver that has heard and sent nothing.
+fn receiver(node: Node, next: [u32; 8]) -> Receiver
+    ensures { λ r. ⌜ r ≡ fresh node next ⌝ }
+{
+    let replay = [memory::replay::none(); 32];
+    let sessions = [memory::session::none(); 8];
+    Receiver {
+        node,
+        next,
+        cache: memory::cache::none(),
+        replay,
+        sessions,
+        out: memory::outgoing::none(),
+    }
+}
+
+// Sets a receiver up; beside a refusal all is zero.
+pub fn set_up(s: Setup) -> Ready
+    ensures { λ m. ⌜ m ≡ settingUp s ⌝ }
+{
+    let m = node::setup::make(s);
+    let node = m.node;
+    let next = m.next;
+    if m.ok {
+        return Ready {
+            answer: Answer::Ready,
+            receiver: receiver(node, next),
+        };
+    }
+    Ready {
+        answer: Answer::Refused(Refusal::OutsideRules),
+        receiver: receiver(node, next),
+    }
+}

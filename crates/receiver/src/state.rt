@@ -1,0 +1,83 @@
+// The receiver's whole state, by value.
+use node::addresses::Node;
+use memory::cache::Cache;
+use memory::outgoing::Outgoing;
+use memory::replay::Entry;
+use memory::session::Session;
+ghost use mathlib.Core.Path.{_≡_};
+ghost use Prim.Native.Nat.{_<_};
+ghost use Rattle.receiver.specs.State.{withCache, withReplay, withSession, withOutgoing};
+
+pub struct Receiver {
+    pub node: Node,
+    // Each element's next SEQ.
+    pub next: [u32; 8],
+    pub cache: Cache,
+    pub replay: [Entry; 32],
+    pub sessions: [Session; 8],
+    // The outgoing segmented message.
+    pub out: Outgoing,
+}
+
+pub(crate) fn with_cache(r: Receiver, cache: Cache) -> Receiver
+    ensures { λ q. ⌜ q ≡ withCache r cache ⌝ }
+{
+    let node = r.node;
+    let next = r.next;
+    let replay = r.replay;
+    let sessions = r.sessions;
+    let out = r.out;
+    Receiver {
+        node,
+        next,
+        cache,
+        replay,
+        sessions,
+        out,
+    }
+}
+
+pub(crate) fn with_replay(r: Receiver, replay: [Entry; 32]) -> Receiver
+    ensures { λ q. ⌜ q ≡ withReplay r replay ⌝ }
+{
+    let node = r.node;
+    let next = r.next;
+    let cache = r.cache;
+    let sessions = r.sessions;
+    let out = r.out;
+    Receiver {
+        node,
+        next,
+        cache,
+        replay,
+        sessions,
+        out,
+    }
+}
+
+pub(crate) fn with_session(r: Receiver, slot: usize, s: Session) -> Receiver
+    requires { ⌜ slot < 8 ⌝ }
+    ensures { λ q. ⌜ q ≡ withSession r slot s ⌝ }
+{
+    let mut q = r;
+    q.sessions[slot] = s;
+    q
+}
+
+pub(crate) fn with_outgoing(r: Receiver, out: Outgoing) -> Receiver
+    ensures { λ q. ⌜ q ≡ withOutgoing r out ⌝ }
+{
+    let node = r.node;
+    let next = r.next;
+    let cache = r.cache;
+    let replay = r.replay;
+    let sessions = r.sessions;
+    Receiver {
+        node,
+        next,
+        cache,
+        replay,
+        sessions,
+        out,
+    }
+}
