@@ -1,10 +1,14 @@
 // One PDU is heard: opened, looked up in the cache, forwarded, and its message handed up or refused.
-use super::answer::{Answer, Heard, Refusal, Taken};
-use node::addresses::Node;
+use super::answer::Answer;
+use super::answer::Heard;
+use super::answer::Refusal;
+use super::answer::Taken;
 use super::state::Receiver;
 use network::header::Header;
-use network::opening::{Answer as Network, Opening};
+use network::opening::Answer as Network;
+use network::opening::Opening;
 use network::sealing::Answer as Sealing;
+use node::addresses::Node;
 use transport::form::Form;
 ghost use mathlib.Core.Path.{_≡_};
 ghost use Prim.Native.Nat.{_≤_};
@@ -86,13 +90,7 @@ fn take(r: Receiver, h: Header, message: &mut [u8]) -> Taken
 }
 
 // A PDU that passed refusals 1 to 5 is cached, forwarded, and taken.
-fn pass(
-    r: Receiver,
-    h: Header,
-    trials: usize,
-    forward: &mut [u8],
-    message: &mut [u8],
-) -> Heard
+fn pass(r: Receiver, h: Header, trials: usize, forward: &mut [u8], message: &mut [u8]) -> Heard
     requires { ⌜ 384 ≤ length (now message) ⌝ }
     ensures { λ t. ⌜ outcome t (now (forward .exit)) (now (message .exit)) ≡ passed r h trials (now (forward .entry)) (now (message .entry)) ⌝ }
 {
@@ -115,13 +113,7 @@ fn pass(
 }
 
 // An opened PDU: 5 where it is in the cache.
-fn pass_new(
-    r: Receiver,
-    h: Header,
-    trials: usize,
-    forward: &mut [u8],
-    message: &mut [u8],
-) -> Heard
+fn pass_new(r: Receiver, h: Header, trials: usize, forward: &mut [u8], message: &mut [u8]) -> Heard
     requires { ⌜ 384 ≤ length (now message) ⌝ }
     ensures { λ t. ⌜ outcome t (now (forward .exit)) (now (message .exit)) ≡ uncached r h trials (now (forward .entry)) (now (message .entry)) ⌝ }
 {

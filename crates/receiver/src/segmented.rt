@@ -1,13 +1,18 @@
 // A segment of a longer message: stored, repeated, refused, or the last that was missing.
-use super::answer::{Answer, Refusal, Taken};
-use node::addresses::Node;
+use super::answer::Answer;
+use super::answer::Refusal;
+use super::answer::Taken;
 use super::state::Receiver;
 use super::whole::refuse;
 use memory::decision::Decision;
 use memory::pair::Pair;
-use memory::session::{Segment, Session, Terms};
+use memory::session::Segment;
+use memory::session::Session;
+use memory::session::Terms;
 use network::header::Header;
-use transport::securing::{Envelope, Opened};
+use node::addresses::Node;
+use transport::securing::Envelope;
+use transport::securing::Opened;
 use transport::seq_auth::SeqAuth;
 ghost use mathlib.Core.Path.{_≡_};
 ghost use Prim.Native.Nat.{_≤_, _<_};
@@ -184,7 +189,12 @@ fn join(r: Receiver, h: Header, seg: Segment, slot: usize, message: &mut [u8]) -
     ensures { λ t. ⌜ lent t (now (message .exit)) ≡ gathered r slot (stored (sessionAt (r .sessions) slot) h (seg .sego)) (now (message .entry)) ⌝ }
 {
     let sessions = r.sessions;
-    gather(r, slot, memory::session::store(sessions[slot], h, seg.sego), message)
+    gather(
+        r,
+        slot,
+        memory::session::store(sessions[slot], h, seg.sego),
+        message,
+    )
 }
 
 // What becomes of a segment that has a SeqAuth.

@@ -1,9 +1,9 @@
 // The receiver's whole state, by value.
-use node::addresses::Node;
 use memory::cache::Cache;
 use memory::outgoing::Outgoing;
 use memory::replay::Entry;
 use memory::session::Session;
+use node::addresses::Node;
 ghost use mathlib.Core.Path.{_≡_};
 ghost use Prim.Native.Nat.{_<_};
 ghost use Rattle.receiver.specs.State.{withCache, withReplay, withSession, withOutgoing};

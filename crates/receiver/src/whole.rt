@@ -1,11 +1,14 @@
 // A message that comes whole, in one PDU: access, control or acknowledgement. It must be newer than its source's replay entry.
-use super::answer::{Answer, Refusal, Taken};
-use node::addresses::Node;
+use super::answer::Answer;
+use super::answer::Refusal;
+use super::answer::Taken;
 use super::state::Receiver;
 use memory::pair::Pair;
 use memory::replay::Entry;
 use network::header::Header;
-use transport::securing::{Envelope, Opened};
+use node::addresses::Node;
+use transport::securing::Envelope;
+use transport::securing::Opened;
 ghost use mathlib.Core.Path.{_≡_};
 ghost use Prim.Native.Nat.{_+_, _≤_};
 ghost use lib.ListN.{length, drop};

@@ -1,3 +1,5 @@
+-- `receiver::fresh::receiver` meets its contract: each empty part is what its own function gives.
+-- Assumes nothing.
 use borrow.Author.Needs.{needs}
 use Rattle.receiver.proofs.fresh.receiver.Statement.{statement}
 use Rattle.receiver.proofs.fresh.receiver.Tie as tie

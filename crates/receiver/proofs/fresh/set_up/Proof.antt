@@ -1,3 +1,5 @@
+-- `receiver::fresh::set_up` meets its contract: whether the node was made says which rule.
+-- Assumes nothing.
 use borrow.Author.Needs.{needs}
 use Rattle.receiver.proofs.FreshLaws.{set-up-rules}
 use Rattle.receiver.proofs.fresh.set_up.Statement.{statement}

@@ -1,3 +1,5 @@
+-- `receiver::give_up::session` meets its contract: each return is one rule of `givingUp`.
+-- Assumes nothing.
 use borrow.Author.Needs.{needs}
 use Rattle.receiver.proofs.FreshLaws.{give-up-rules}
 use Rattle.receiver.proofs.give_up.session.Statement.{statement}

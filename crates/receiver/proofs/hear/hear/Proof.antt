@@ -1,3 +1,5 @@
+-- `receiver::hear::hear` meets its contract: each return is one rule of `hearing`, and the tests before it say which.
+-- Assumes nothing.
 use borrow.Author.Needs.{needs}
 use Rattle.receiver.proofs.HearingLaws.{hear-rules}
 use Rattle.receiver.proofs.hear.hear.Statement.{statement}

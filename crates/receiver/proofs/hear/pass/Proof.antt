@@ -1,3 +1,5 @@
+-- `receiver::hear::pass` meets its contract: what is forwarded and what is taken do not touch each other.
+-- Assumes nothing.
 use borrow.Author.Needs.{needs}
 use Rattle.receiver.proofs.HearingLaws.{passed-is}
 use Rattle.receiver.proofs.hear.pass.Statement.{statement}

@@ -1,3 +1,5 @@
+-- `receiver::hear::pass_new` meets its contract: refusal 5, or it passes.
+-- Assumes nothing.
 use borrow.Author.Needs.{needs}
 use Rattle.receiver.proofs.HearingLaws.{uncached-rules}
 use Rattle.receiver.proofs.hear.pass_new.Statement.{statement}

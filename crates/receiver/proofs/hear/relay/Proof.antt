@@ -1,3 +1,5 @@
+-- `receiver::hear::relay` meets its contract: whether it forwards, and what resealing answers, say which rule.
+-- Assumes nothing.
 use borrow.Author.Needs.{needs}
 use Rattle.receiver.proofs.HearingLaws.{relayed-rules}
 use Rattle.receiver.proofs.hear.relay.Statement.{statement}

@@ -1,3 +1,5 @@
+-- `receiver::hear::take` meets its contract: refusal 6, or what the form gives.
+-- Assumes nothing.
 use borrow.Author.Needs.{needs}
 use Rattle.receiver.proofs.HearingLaws.{taken-rules}
 use Rattle.receiver.proofs.hear.take.Statement.{statement}

@@ -1,3 +1,5 @@
+-- `receiver::hear::take_form` meets its contract: one rule for each transport form.
+-- Assumes nothing.
 use borrow.Author.Needs.{needs}
 use Rattle.receiver.proofs.HearingLaws.{form-rules}
 use Rattle.receiver.proofs.hear.take_form.Statement.{statement}

@@ -1,3 +1,5 @@
+-- `receiver::segmented::access_up` meets its contract: one rule for each answer of the keys.
+-- Assumes nothing.
 use borrow.Author.Needs.{needs}
 use Rattle.receiver.proofs.SegmentedLaws.{up-rules}
 use Rattle.receiver.proofs.segmented.access_up.Statement.{statement}

@@ -1,3 +1,5 @@
+-- `receiver::segmented::control_up` meets its contract: what was copied is the message.
+-- Assumes nothing.
 use borrow.Author.Needs.{needs}
 use Rattle.receiver.proofs.SegmentedLaws.{control-up}
 use Rattle.receiver.proofs.segmented.control_up.Statement.{statement}

@@ -1,3 +1,5 @@
+-- `receiver::segmented::copy_message` meets its contract: the buffer has room for all of a session.
+-- Assumes nothing.
 use borrow.Author.Needs.{needs}
 use Rattle.receiver.proofs.SegmentedLaws.{message-within, message-front, message-copied}
 use Rattle.receiver.proofs.segmented.copy_message.Statement.{statement}

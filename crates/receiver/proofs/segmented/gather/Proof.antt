@@ -1,3 +1,5 @@
+-- `receiver::segmented::gather` meets its contract: stored, or complete with its slot freed.
+-- Assumes nothing.
 use borrow.Author.Needs.{needs}
 use Rattle.receiver.proofs.SegmentedLaws.{gathered-rules}
 use Rattle.receiver.proofs.segmented.gather.Statement.{statement}

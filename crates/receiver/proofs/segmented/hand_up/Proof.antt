@@ -1,3 +1,5 @@
+-- `receiver::segmented::hand_up` meets its contract: the replay list is raised, and the rest stays.
+-- Assumes nothing.
 use borrow.Author.Needs.{needs}
 use Rattle.receiver.specs.Segmented.{upgraded}
 use Rattle.receiver.proofs.segmented.hand_up.Statement.{statement}

@@ -1,3 +1,5 @@
+-- `receiver::segmented::join` meets its contract: the session is that in the slot, with the segment stored.
+-- Assumes nothing.
 use borrow.Author.Needs.{needs}
 use Rattle.receiver.proofs.SegmentedLaws.{joined}
 use Rattle.receiver.proofs.segmented.join.Statement.{statement}

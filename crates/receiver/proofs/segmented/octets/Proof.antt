@@ -1,3 +1,5 @@
+-- `receiver::segmented::octets` meets its contract: a session has 384 octets, and its length is read clamped.
+-- Assumes nothing.
 use borrow.Author.Needs.{needs}
 use Rattle.receiver.proofs.SegmentedLaws.{octets-most, octets-own}
 use Rattle.receiver.proofs.segmented.octets.Statement.{statement}

@@ -1,3 +1,5 @@
+-- `receiver::segmented::open` meets its contract: the part that is opened is the message.
+-- Assumes nothing.
 use borrow.Author.Needs.{needs}
 use Rattle.receiver.proofs.SegmentedLaws.{message-within, message-front, message-opened}
 use Rattle.receiver.proofs.segmented.open.Statement.{statement}

@@ -1,3 +1,5 @@
+-- `receiver::segmented::place` meets its contract: one rule for each decision, whose slot is one of the eight.
+-- Assumes nothing.
 use borrow.Author.Needs.{needs}
 use Rattle.receiver.proofs.SegmentedLaws.{placed-rules, join-slot, open-slot}
 use Rattle.receiver.proofs.segmented.place.Statement.{statement}

@@ -1,3 +1,5 @@
+-- `receiver::segmented::segment` meets its contract: refusal 8, or what becomes of the segment.
+-- Assumes nothing.
 use borrow.Author.Needs.{needs}
 use Rattle.receiver.proofs.SegmentedLaws.{segmented-rules}
 use Rattle.receiver.proofs.segmented.segment.Statement.{statement}

@@ -1,3 +1,5 @@
+-- `receiver::whole::accept` meets its contract: the replay list is raised, and the rest stays.
+-- Assumes nothing.
 use borrow.Author.Needs.{needs}
 use Rattle.receiver.specs.Whole.{admitted}
 use Rattle.receiver.proofs.whole.accept.Statement.{statement}

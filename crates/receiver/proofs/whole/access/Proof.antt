@@ -1,3 +1,5 @@
+-- `receiver::whole::access` meets its contract: one rule for each admission.
+-- Assumes nothing.
 use borrow.Author.Needs.{needs}
 use Rattle.receiver.proofs.WholeLaws.{access-rules}
 use Rattle.receiver.proofs.whole.access.Statement.{statement}

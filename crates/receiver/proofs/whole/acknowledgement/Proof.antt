@@ -1,3 +1,5 @@
+-- `receiver::whole::acknowledgement` meets its contract: one rule for each admission.
+-- Assumes nothing.
 use borrow.Author.Needs.{needs}
 use Rattle.receiver.proofs.WholeLaws.{ack-rules}
 use Rattle.receiver.proofs.whole.acknowledgement.Statement.{statement}

@@ -1,3 +1,5 @@
+-- `receiver::whole::act` meets its contract: the acknowledgement is accepted, and acts on the outgoing message.
+-- Assumes nothing.
 use borrow.Author.Needs.{needs}
 use Rattle.receiver.proofs.WholeLaws.{acted-is}
 use Rattle.receiver.proofs.whole.act.Statement.{statement}

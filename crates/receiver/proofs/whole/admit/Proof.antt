@@ -1,3 +1,5 @@
+-- `receiver::whole::admit` meets its contract: each return is one rule of `admission`.
+-- Assumes nothing.
 use borrow.Author.Needs.{needs}
 use Rattle.receiver.proofs.WholeLaws.{admission-rules}
 use Rattle.receiver.proofs.whole.admit.Statement.{statement}

@@ -1,3 +1,5 @@
+-- `receiver::whole::control` meets its contract: one rule for each admission.
+-- Assumes nothing.
 use borrow.Author.Needs.{needs}
 use Rattle.receiver.proofs.WholeLaws.{control-rules}
 use Rattle.receiver.proofs.whole.control.Statement.{statement}

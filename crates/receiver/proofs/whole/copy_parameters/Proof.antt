@@ -1,3 +1,5 @@
+-- `receiver::whole::copy_parameters` meets its contract: the buffer has room for all that stands behind octet 0.
+-- Assumes nothing.
 use borrow.Author.Needs.{needs}
 use Rattle.receiver.proofs.WholeLaws.{octets-copied}
 use Rattle.receiver.proofs.whole.copy_parameters.Statement.{statement}

@@ -1,3 +1,5 @@
+-- `receiver::whole::hand_up_control` meets its contract: what was copied is the message.
+-- Assumes nothing.
 use borrow.Author.Needs.{needs}
 use Rattle.receiver.proofs.WholeLaws.{control-up}
 use Rattle.receiver.proofs.whole.hand_up_control.Statement.{statement}

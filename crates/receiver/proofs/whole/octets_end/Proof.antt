@@ -1,3 +1,5 @@
+-- `receiver::whole::octets_end` meets its contract: the transport PDU has sixteen places, and the length is read clamped.
+-- Assumes nothing.
 use borrow.Author.Needs.{needs}
 use Rattle.receiver.proofs.WholeLaws.{octets-none, octets-sixteen, octets-some, octets-within}
 use Rattle.receiver.proofs.whole.octets_end.Statement.{statement}

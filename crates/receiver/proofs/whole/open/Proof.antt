@@ -1,3 +1,5 @@
+-- `receiver::whole::open` meets its contract: the part that is opened is what stands behind octet 0.
+-- Assumes nothing.
 use borrow.Author.Needs.{needs}
 use Rattle.receiver.proofs.WholeLaws.{octets-opened}
 use Rattle.receiver.proofs.whole.open.Statement.{statement}

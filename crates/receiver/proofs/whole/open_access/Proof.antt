@@ -1,3 +1,5 @@
+-- `receiver::whole::open_access` meets its contract: one rule for each answer of the keys.
+-- Assumes nothing.
 use borrow.Author.Needs.{needs}
 use Rattle.receiver.proofs.WholeLaws.{opened-rules}
 use Rattle.receiver.proofs.whole.open_access.Statement.{statement}
