@@ -1,6 +1,6 @@
 -- `radio::credential::foreign` meets its contract: each turn passes a piece with another NID, and the NID of a piece is its octet 0. The measure is
 -- what is left of the pieces. Assumes nothing.
-use Prim.Native.Nat.{_≤_, _-_}
+use Prim.Native.Nat.{_-_}
 use native.Mathlib.Omega.{arith}
 use borrow.Author.Needs.{needs}
 use Rattle.network.proofs.CandidatesLaws.{Passed, none-passed}
