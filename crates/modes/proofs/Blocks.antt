@@ -1,10 +1,11 @@
 -- A message with one octet behind its end, and zeros behind that: padding by zeros and by a 1 bit are the two cases. And a message's blocks, chained one by one.
--- Key laws: `octet-padded` (and its three cases), `chain-more`, `chain-all`, `chain-append`.
+-- Key laws: `padded-in`, `padded-at`, `padded-past`; `xored-before`, `xored-past`; `chain-more`, `chain-all`, `chain-append`.
 -- Assumes nothing.
 use mathlib.Core.Path.{_≡_, refl, sym, ap, _∙_}
 use mathlib.Core.List.{List, [], _∷_, _++_}
 use Prim.Native.Nat.{ℕ, zero, suc, _+_, _*_, _/_, _%_, _<_, _≤_}
 use native.Mathlib.Omega.{arith}
+use lib.Bits.{bitXor, xor-zero-r}
 use lib.ListN.{length, getD, take, drop, length-append, List·getD-append, List·getD-eq-default}
 use lib.Seq.{getD-append-seam, getD-take, getD-drop, drop-cons, drop-length}
 use Rattle.common.specs.Lists.{tab, padded, xored}
@@ -22,6 +23,17 @@ padded-at m i pad e = rw e (sym (getD-append-seam m pad [] 0))
 
 pub padded-past : (m : List ℕ) (i pad : ℕ) → length m < i → 0 ≡ getD (m ++ (pad ∷ [])) i 0
 padded-past m i pad h = sym (List·getD-eq-default (m ++ (pad ∷ [])) 0 (simp length-append (omega arith)))
+
+-- x past the octet behind the end
+pub xored-past : (x m : List ℕ) (at pad k : ℕ) → length m < at + k → getD x k 0 ≡ bitXor (getD x k 0) (getD (drop at (m ++ (pad ∷ []))) k 0)
+xored-past x m at pad k h =
+    sym (ap (bitXor (getD x k 0)) (getD-drop at (m ++ (pad ∷ [])) k 0 ∙ sym (padded-past m (at + k) pad h)) ∙ xor-zero-r (getD x k 0))
+
+-- a block that ends before the octet behind the end
+pub xored-before : (x m : List ℕ) (at pad : ℕ) → at + 16 ≤ length m → xored 16 x (drop at m) ≡ xored 16 x (drop at (m ++ (pad ∷ [])))
+xored-before x m at pad h =
+    xored-right 16 x (drop at m) (drop at (m ++ (pad ∷ [])))
+    (λ k l. getD-drop at m k 0 ∙ padded-in m (at + k) pad (omega arith) ∙ sym (getD-drop at (m ++ (pad ∷ [])) k 0))
 
 pub zero-padded : (m : List ℕ) (i : ℕ) → getD (m ++ (0 ∷ [])) i 0 ≡ getD m i 0
 zero-padded [] zero = refl

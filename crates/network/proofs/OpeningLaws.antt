@@ -68,6 +68,11 @@ module _ (keys : List NetworkKeys) (count current : ℕ) (pdu : List ℕ) where
     open-long h = simp (le-ltb (length pdu) 14 low, lt-ltb 29 (length pdu) h)
 
     module _ (high : length pdu ≤ 29) where
+      -- without a candidate no IV Index counts
+      pub open-foreign : true ≡ eqb (length (candidates keys count (getD pdu 0 0 % 128))) 0 → refused NoCandidate 0 ≡ opening keys count current pdu
+      unfolding opening
+      open-foreign n = simp (le-ltb (length pdu) 14 low, le-ltb 29 (length pdu) high, ← n)
+
       -- with a candidate or with none: the refusal is the same
       pub open-no-index : Nothing ≡ ivIndexHeard current (getD pdu 0 0 / 128) → refused NoCandidate 0 ≡ opening keys count current pdu
       unfolding opening under

@@ -1,21 +1,25 @@
--- A credential from the code's steps: sixteen octets copied onto zeros, a piece read at its place in the list, and the rules by which
--- `gorephan_credentials` answers: `bad-key`, `no-room`, `credential-written`.
+-- A credential from the code's steps: sixteen octets copied onto zeros, a piece read at its place in the list, a list whose pieces all
+-- have another NID (`all-foreign`, `piece-fits`), and the rules by which `gorephan_credentials` answers: `bad-key`, `no-room`, `credential-written`.
 -- Assumes nothing.
+use mathlib.Core.Bool.{Bool, true, false}
 use mathlib.Core.List.{List}
 use mathlib.Core.Path.{_≡_, sym, ap, _∙_}
-use Prim.Native.Nat.{ℕ, _+_, _-_, _*_, _≤_, _<_}
+use Prim.Native.Nat.{ℕ, _+_, _-_, _*_, _≤_, _<_, min}
 use native.Mathlib.Nat.{add-zero}
 use native.Mathlib.Omega.{arith}
 use borrow.Author.Tests.{eq-eqb, ne-eqb, lt-ltb, le-ltb}
+use lib.Dec.{eqb}
 use lib.ListN.{length, getD, take, drop, replicate, length-take, length-replicate, getD-replicate, List·getD-eq-default}
 use lib.Seq.{getD-take, getD-drop, take-all}
 use Rattle.common.specs.Lent.{lent}
 use Rattle.common.specs.Lists.{padded, onto}
-use Rattle.common.proofs.Lists.{tab-is, tab-ext, padded-all}
+use Rattle.common.proofs.Lists.{tab-is, tab-ext, getD-tab, padded-all}
 use Rattle.keys.specs.declared.NetworkKeys.{NetworkKeys}
 use Rattle.keys.specs.Derivation.{k2}
+use Rattle.network.specs.Candidates.{noKey, keyAt, candidates}
+use Rattle.network.proofs.CandidatesLaws.{Passed, no-candidate, nid-passed, some-candidate}
 use Rattle.network.proofs.TrialLaws.{onto-zeros, rest-all}
-use Rattle.radio.specs.Credential.{credentialOf, keysOf, pieceAt, credentialsDone}
+use Rattle.radio.specs.Credential.{credentialOf, keysOf, pieceAt, pieces, pieceCount, credentialsDone}
 
 -- ---- sixteen octets from a place on
 -- only the first n octets of a list count
@@ -49,13 +53,17 @@ part-of-piece n m cs h =
     ∙ ap (λ (j : ℕ). getD cs j 0) e
     ∙ sym (getD-drop m (take 33 (drop n cs)) k 0 ∙ getD-take 33 (drop n cs) (m + k) 0 b ∙ getD-drop n cs (m + k) 0))
 
+-- the first octet of a piece that begins at n
+first-of-piece : (n : ℕ) (cs : List ℕ) → getD (take 33 (drop n cs)) 0 0 ≡ getD cs n 0
+first-of-piece n cs = getD-take 33 (drop n cs) 0 0 (omega arith) ∙ getD-drop n cs 0 0 ∙ ap (λ (j : ℕ). getD cs j 0) (add-zero n)
+
 pub piece-read :
     (cs : List ℕ) (i : ℕ) {a : ℕ} {e p : List ℕ} → a ≡ getD cs (33 * i) 0 → e ≡ padded 16 (drop (33 * i + 1) cs)
     → p ≡ padded 16 (drop (33 * i + 17) cs) → record { nid = a; encryption = e; privacy = p } ≡ pieceAt cs i
 unfolding pieceAt keysOf
 piece-read cs i ea ee ep =
     let n = 33 * i in
-    let ka = ea ∙ sym (getD-take 33 (drop n cs) 0 0 (omega arith) ∙ getD-drop n cs 0 0 ∙ ap (λ (j : ℕ). getD cs j 0) (add-zero n)) in
+    let ka = ea ∙ sym (first-of-piece n cs) in
     let ke = ee ∙ part-of-piece n 1 cs (omega arith) in
     let kp = ep ∙ part-of-piece n 17 cs (omega arith) in
     rw (ka, ke, kp)
@@ -64,6 +72,39 @@ piece-read cs i ea ee ep =
 pub piece-whole : (credential : List ℕ) → length credential ≡ 33 → pieceAt credential 0 ≡ keysOf credential
 unfolding pieceAt
 piece-whole credential h = ap keysOf (take-all 33 credential (omega arith))
+
+-- ---- the NIDs alone
+nid-of-piece : (cs : List ℕ) (i : ℕ) → i < 4 → keyAt (pieces cs) i .nid ≡ getD cs (33 * i) 0
+unfolding pieces pieceAt keysOf
+nid-of-piece cs i h = ap (λ (k : NetworkKeys). k .nid) (getD-tab (pieceAt cs) 4 i noKey h) ∙ first-of-piece (33 * i) cs
+
+module _ (cs : List ℕ) (nid : ℕ) {count : ℕ} (e : count ≡ pieceCount cs) where
+  count-most : count ≤ 4
+  unfolding pieceCount
+  count-most = omega arith
+
+  told-of : {b : Bool} → b ≡ eqb (length (candidates (pieces cs) count nid)) 0 → b ≡ eqb (length (candidates (pieces cs) (pieceCount cs) nid)) 0
+  told-of h = h ∙ ap (λ (n : ℕ). eqb (length (candidates (pieces cs) n nid)) 0) e
+
+  module _ {i : ℕ} (s : Passed (pieces cs) count nid i) where
+    -- past the last whole piece
+    pub all-foreign : count ≤ i → true ≡ eqb (length (candidates (pieces cs) (pieceCount cs) nid)) 0
+    all-foreign h = told-of (no-candidate (pieces cs) count nid s (omega arith))
+
+    module _ (h : i < count) where
+      -- a whole piece begins within the list
+      pub piece-begins : 33 * i < length cs
+      unfolding pieceCount
+      piece-begins = omega (arith, e)
+
+      held : i < min count 4
+      held = omega (arith, count-most)
+
+      pub piece-foreign : (getD cs (33 * i) 0 ≡ nid → ⊥) → Passed (pieces cs) count nid (i + 1)
+      piece-foreign f = nid-passed (pieces cs) count nid s held (λ z. f (sym (nid-of-piece cs i (omega (arith, count-most))) ∙ z))
+
+      pub piece-fits : getD cs (33 * i) 0 ≡ nid → false ≡ eqb (length (candidates (pieces cs) (pieceCount cs) nid)) 0
+      piece-fits c = told-of (some-candidate (pieces cs) count nid s held (nid-of-piece cs i (omega (arith, count-most)) ∙ c))
 
 -- ---- the answers
 module _ (key out : List ℕ) where

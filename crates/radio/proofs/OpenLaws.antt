@@ -1,10 +1,12 @@
--- The rules by which `gorephan_open` answers: `open-short`, `open-refused`, `open-written`; and that its parts fit their places in the number.
+-- The rules by which `gorephan_open` answers: `open-short`, `pdu-short`, `pdu-long`, `pdu-foreign`, `open-refused`, `open-written`; and that its parts fit their places in the number.
 -- Assumes nothing.
+use mathlib.Core.Bool.{Bool, true}
 use mathlib.Core.List.{List}
 use mathlib.Core.Path.{_≡_, sym, ap, _∙_}
-use Prim.Native.Nat.{ℕ, _≤_, _<_}
+use Prim.Native.Nat.{ℕ, _%_, _≤_, _<_}
 use native.Mathlib.Omega.{arith}
 use borrow.Author.Tests.{eq-eqb, ne-eqb, lt-ltb, le-ltb}
+use lib.Dec.{eqb}
 use lib.ListN.{length, getD}
 use Rattle.common.specs.Lent.{Lent, lent}
 use Rattle.common.specs.Lists.{onto}
@@ -12,8 +14,10 @@ use Rattle.keys.specs.declared.NetworkKeys.{NetworkKeys}
 use Rattle.network.specs.declared.opening.Answer.{Answer}
 use Rattle.network.specs.declared.opening.Answer.the-variants.{Opened, WrongLength, NoCandidate, NotAuthentic, WrongAddress}
 use Rattle.network.specs.declared.opening.Opening.{Opening}
+use Rattle.network.specs.Candidates.{candidates}
 use Rattle.network.specs.Opening.{paper, opening}
 use Rattle.network.proofs.OpeningBounds.{Bounded, opening-bounded}
+use Rattle.network.proofs.OpeningLaws as network
 use Rattle.radio.specs.ClearPdu.{clearPdu}
 use Rattle.radio.specs.Credential.{pieces, pieceCount}
 use Rattle.radio.specs.Open.{packed, told, openDone}
@@ -34,6 +38,27 @@ module _ (credentials : List ℕ) (iv : ℕ) (pdu out : List ℕ) where
   pub open-short : length out < 29 → lent 16 out ≡ openDone credentials iv pdu out
   unfolding openDone
   open-short h = simp (lt-ltb _ _ h)
+
+  -- refused before a key is read
+  module _ (room : 29 ≤ length out) where
+    early : {o : Opening} → o ≡ opening (pieces credentials) (pieceCount credentials) iv pdu → told (getD pdu 0 0) out o ≡ openDone credentials iv pdu out
+    unfolding openDone
+    early e = simp (le-ltb _ _ room, e)
+
+    pub pdu-short : length pdu < 14 → lent 1 out ≡ openDone credentials iv pdu out
+    unfolding told
+    pdu-short h = early (network.open-short (pieces credentials) (pieceCount credentials) iv pdu h)
+
+    module _ (low : 14 ≤ length pdu) where
+      pub pdu-long : 29 < length pdu → lent 1 out ≡ openDone credentials iv pdu out
+      unfolding told
+      pdu-long h = early (network.open-long (pieces credentials) (pieceCount credentials) iv pdu low h)
+
+      pub pdu-foreign :
+          {b : Bool} → length pdu ≤ 29 → b ≡ eqb (length (candidates (pieces credentials) (pieceCount credentials) (getD pdu 0 0 % 128))) 0 → b ≡ true
+          → lent 2 out ≡ openDone credentials iv pdu out
+      unfolding told
+      pdu-foreign high e t = early (network.open-foreign (pieces credentials) (pieceCount credentials) iv pdu low high (sym t ∙ e))
 
   module _ {held : List NetworkKeys} {count : ℕ} {o : Opening} (eh : held ≡ pieces credentials) (ec : count ≡ pieceCount credentials)
       (eo : o ≡ opening held count iv pdu) where
@@ -60,4 +85,4 @@ module _ (credentials : List ℕ) (iv : ℕ) (pdu out : List ℕ) where
           let eb = ap (λ (w : Lent ℕ). w .buffer) ew ∙ ap (λ (x : ℕ). onto (clearPdu x (o .header)) out) ef in
           rw (er, el, eb) (rw (eq-eqb (paper (o .answer)) 0 (sym en ∙ z)) at open-told)
 
-pub ruleset open-rules = (open-short, open-refused, open-written)
+pub ruleset open-rules = (open-short, pdu-short, pdu-long, pdu-foreign, open-refused, open-written)

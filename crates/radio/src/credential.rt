@@ -2,8 +2,10 @@
 use keys::NetworkKeys;
 ghost use mathlib.Core.Path.{_≡_};
 ghost use Prim.Native.Nat.{_≤_};
-ghost use lib.ListN.{getD, drop};
+ghost use lib.Dec.{eqb};
+ghost use lib.ListN.{length, getD, drop};
 ghost use Rattle.common.specs.Lists.{padded};
+ghost use Rattle.network.specs.Candidates.{candidates};
 ghost use Rattle.radio.specs.Credential.{credentialOf, pieceAt, pieces, pieceCount};
 
 // The octet of s at i.
@@ -93,4 +95,21 @@ pub(crate) fn piece_count(cs: &[u8]) -> usize
 {
     let n = cs.len() / 33;
     if n < 4 { n } else { 4 }
+}
+
+// Whether none of them has that NID: told from the NIDs alone, so that a PDU of others costs no copy of the keys.
+pub(crate) fn foreign(cs: &[u8], nid: u8) -> bool
+    ensures { λ r. ⌜ r ≡ eqb (length (candidates (pieces (now (cs .entry))) (pieceCount (now (cs .entry))) nid)) 0 ⌝ }
+{
+    let count = piece_count(cs);
+    let mut i: usize = 0;
+    loop {
+        if count <= i {
+            break true;
+        }
+        if cs[33 * i] == nid {
+            break false;
+        }
+        i += 1;
+    }
 }

@@ -44,6 +44,15 @@ pub extern "C" fn gorephan_open(credentials: &[u8], iv: u32, pdu: &[u8], out: &m
     if out.len() < 29 {
         return 16;
     }
+    if pdu.len() < 14 {
+        return 1;
+    }
+    if 29 < pdu.len() {
+        return 1;
+    }
+    if credential::foreign(credentials, pdu[0] % 128) {
+        return 2;
+    }
     let held = credential::pieces(credentials);
     let count = credential::piece_count(credentials);
     let o = network::opening::open(held, count, iv, pdu);
