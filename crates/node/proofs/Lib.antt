@@ -1,4 +1,5 @@
 -- The laws about the definitions of specs/.
 pub mod AddressesLaws
 pub mod EveryLaws
+pub mod ValidLaws
 pub mod SetupLaws

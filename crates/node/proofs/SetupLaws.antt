@@ -117,7 +117,7 @@ module _ (s : Setup) where
           aid-derived = λ i h. rw (getD-tab (secretAt s) 4 i _ (omega (arith, h, a4))) (aid-used i h);
           bound = λ i h. rw (getD-tab (secretAt s) 4 i _ (omega (arith, h, a4))) (bound-used b i h);
           first-least = f1;
-          last-most = f8;
+          last-most = omega (arith, f8);
           groups-only = λ i h. rw (getD-tab (groupAt s) 8 i 0 (omega (arith, h, l8))) (group-used g i h);
           index-least = index-allowed (parts .3);
         }

@@ -3,7 +3,6 @@
 --   listens node a    a is a group listened to
 --   forNode node a    a PDU to a is for this node
 use mathlib.Core.Bool.{Bool, _&&_, _||_}
-use mathlib.Core.List.{List}
 use Prim.Native.Nat.{ℕ, _+_, min}
 use lib.Dec.{eqb, leb, ltb}
 use Rattle.common.specs.Search.{first}

@@ -29,14 +29,17 @@ unfolding groupsValid
 returns-2 c =
     let l = c .before .before .before .before .before .loop .inv in
     let s = c .before .before .before .before .before .before .before .before .before .args .s in
-    let k = c .before .group .ensures ∙ ap groupKind (c .before .before .kind .ensures) in
-    rw (le-leb (s .listened) 8 (omega arith)) (every-fails (l .1) (s .listened) 0 (omega arith) (omega arith) (sym k ∙ not-true (c .before .group .result) (c .if3 .taken)))
+    let g = c .before .group in
+    let k = g .ensures ∙ ap groupKind (c .before .before .kind .ensures) in
+    rw (le-leb (s .listened) 8 (omega arith))
+    (every-fails (l .1) (s .listened) 0 (omega arith) (omega arith) (sym k ∙ not-true (g .result) (c .if3 .taken)))
 
 loop-again : tie.Need-loop-again Inv-loop μ-loop
 loop-again c =
     let l = c .before .before .before .before .before .loop .inv in
-    let k = c .before .group .ensures ∙ ap groupKind (c .before .before .kind .ensures) in
-    (l .0, every-on (l .1) 0 (omega arith) (sym k ∙ not-false (c .before .group .result) (c .if3 .left)))
+    let g = c .before .group in
+    let k = g .ensures ∙ ap groupKind (c .before .before .kind .ensures) in
+    (l .0, every-on (l .1) 0 (omega arith) (sym k ∙ not-false (g .result) (c .if3 .left)))
 
 returns-3 : tie.Need-returns-3 Inv-loop μ-loop
 unfolding groupsValid

@@ -1,5 +1,6 @@
 -- `setup::secret_at` meets its contract: the test says whether the place is used, and k4 derives AID.
 -- Assumes nothing.
+use native.Mathlib.Omega.{arith}
 use borrow.Author.Needs.{needs}
 use borrow.Author.Tests.{lt-ltb, le-ltb}
 use Rattle.node.specs.Setup.{secretAt}
@@ -8,11 +9,11 @@ use Rattle.node.proofs.setup.secret_at.Tie as tie
 
 returns : tie.Need-returns
 unfolding secretAt
-returns c = simp (lt-ltb _ _ (c .before .before .before .if1 .taken), c .k4 .ensures)
+returns c = let a = c .before .before .before .before .before .before .args in simp (lt-ltb (a .i) (a .s .applications) (omega arith), c .k4 .ensures)
 
 returns-2 : tie.Need-returns-2
 unfolding secretAt
-returns-2 c = simp (le-ltb _ _ (c .if1 .left))
+returns-2 c = let a = c .before .before .before .args in simp (le-ltb (a .i) (a .s .applications) (omega arith))
 
 pub secret-at-spec : {M : Type 1} → statement M
 secret-at-spec = tie.close (tie.spec (λ c. search needs) (λ c. search needs) (λ c κs. search needs) returns returns-2)
