@@ -9,3 +9,4 @@ pub mod ReplayMap
 pub mod SessionSlots
 pub mod Stored
 pub mod Within
+pub mod Apart

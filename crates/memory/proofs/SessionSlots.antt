@@ -1,16 +1,22 @@
--- A slot that is set: its source's session is the new one, and every other source's stays, since a search for it passes the slot before and after.
--- Assumes nothing.
+-- What is found in a source's slot is its session. A slot that is set: its source's session is the new one, and every other source's stays, since a search
+-- for it passes the slot before and after. Assumes nothing.
 use mathlib.Core.List.{List}
 use mathlib.Core.Path.{_≡_, refl, sym}
 use Prim.Native.Nat.{ℕ, _≤_, _<_}
-use borrow.Author.Tests.{eq-eqb, ne-eqb}
+use borrow.Author.Tests.{eq-eqb, ne-eqb, eqb-true}
 use lib.Dec.{eqb}
 use lib.ListN.{length, set}
 use lib.Seq.{getD-set-same}
-use Rattle.common.proofs.Search.{first-set-here, first-set-other, found-set-other}
+use Rattle.common.proofs.Search.{first-passes, first-set-here, first-set-other, found-set-other}
 use Rattle.memory.specs.declared.session.Session.{Session}
 use Rattle.memory.specs.Session.{sessionPlace}
 use Rattle.memory.specs.Decision.{sessionAt}
+
+-- what is found is the source's
+pub session-source : (l : List Session) (src : ℕ) → sessionPlace l src < length l → sessionAt l (sessionPlace l src) .src ≡ src
+unfolding sessionPlace
+session-source l src h =
+    eqb-true (sessionAt l (sessionPlace l src) .src) src (first-passes (λ s. eqb (s .src) src) l _ h)
 
 module _ (l : List Session) (i : ℕ) (s : Session) where
   -- no slot before i is its source's: i is its source's slot, or its source has none

@@ -1,72 +1,114 @@
--- A segment joins or opens a session in one of the eight slots: each way to such a decision has tested its slot. Assumes nothing.
-use mathlib.Core.Bool.{Bool, true, false}
+-- A segment joins its source's session, on whose terms it is, or opens a session in one of the eight slots, its source's own where that has one: each way to
+-- such a decision has tested its slot. Assumes nothing.
+use mathlib.Core.Bool.{Bool, true}
 use mathlib.Core.List.{List}
-use mathlib.Core.Path.{_≡_, subst}
-use Prim.Native.Nat.{ℕ, _<_}
-use lib.Dec.{ltb}
-use borrow.Author.Tests.{ltb-true}
+use mathlib.Core.Path.{_≡_, refl, subst}
+use Prim.Native.Nat.{ℕ, _≤_, _<_}
+use native.Mathlib.Omega.{arith}
+use lib.Dec.{eqb, ltb}
+use borrow.Author.Tests.{eqb-true, ltb-true, ltb-false}
 use Rattle.common.specs.Bits.{hasBit}
-use Rattle.common.proofs.Tests.{by-test}
+use Rattle.common.proofs.Tests.{by-test, and-first, and-second}
 use Rattle.memory.specs.declared.decision.Decision.{Decision}
 use Rattle.memory.specs.declared.decision.Decision.the-variants.{Repeat, Join, Open, Stale, Differs, NoEntryLeft, NoSlotLeft}
-use Rattle.memory.specs.declared.pair.Pair.{Pair}
 use Rattle.memory.specs.declared.replay.Entry.{Entry}
 use Rattle.memory.specs.declared.session.Segment.{Segment}
 use Rattle.memory.specs.declared.session.Session.{Session}
+use Rattle.memory.specs.declared.session.Terms.{Terms}
 use Rattle.memory.specs.Decision.{sessionAt, joining, replacing, opening, decision}
 use Rattle.memory.specs.Pair.{newer, samePair}
 use Rattle.memory.specs.Replay.{lookUp, stale, hasRoom, isLast}
-use Rattle.memory.specs.Session.{sessionPlace, sameTerms}
+use Rattle.memory.specs.Session.{sessionPlace, sameBit, sameTerms}
 
--- the slot that it names is one of the eight
-abbrev Within : Decision → Type 0
-Within (Repeat bits) = Unit {0}
-Within (Join slot) = slot < 8
-Within (Open slot) = slot < 8
-Within Stale = Unit {0}
-Within Differs = Unit {0}
-Within NoEntryLeft = Unit {0}
-Within NoSlotLeft = Unit {0}
+-- equal terms have one SegN
+pub same-last : (a b : Terms) → sameTerms a b ≡ true → a .segn ≡ b .segn
+unfolding sameTerms
+same-last a b e =
+    let e1 = and-second (sameBit (a .ctl) (b .ctl)) _ e in
+    let e2 = and-second (eqb (a .first) (b .first)) _ e1 in
+    let e3 = and-second (sameBit (a .szmic) (b .szmic)) _ e2 in
+    eqb-true (a .segn) (b .segn) (and-first (eqb (a .segn) (b .segn)) _ e3)
 
-joining-within : (s : Session) (own : ℕ) (room : Bool) (seg : Segment) → own < 8 → Within (joining s own room seg)
-unfolding joining
-joining-within s own room seg h =
-    by-test (sameTerms (s .terms) (seg .terms))
-    (λ t. by-test room
-    (λ u. by-test (hasBit (s .filled) (seg .sego)) (λ v. rw (t, u, v) (tt {0})) (λ v. rw (t, u, v) h))
-    (λ u. rw (t, u) (tt {0})))
-    (λ t. rw t (tt {0}))
+-- a slot where a segment joins
+pub record Joins (sessions : List Session) (src : ℕ) (seg : Segment) (slot : ℕ) : Type 0 where
+  pub within : slot < 8
+  pub own : slot ≡ sessionPlace sessions src
+  pub same : sameTerms (sessionAt sessions slot .terms) (seg .terms) ≡ true
 
-replacing-within : (e : Entry) (held : Pair) (own : ℕ) (room : Bool) (auth : Pair) → own < 8 → Within (replacing e held own room auth)
-unfolding replacing
-replacing-within e held own room auth h =
-    by-test (stale e auth) (λ t. rw t (tt {0}))
-    (λ t. by-test (newer held auth) (λ u. rw (t, u) (tt {0}))
-    (λ u. by-test room (λ v. rw (t, u, v) h) (λ v. rw (t, u, v) (tt {0}))))
+-- a slot where a segment opens a session
+pub record Opens (sessions : List Session) (src slot : ℕ) : Type 0 where
+  pub within : slot < 8
+  pub own : sessionPlace sessions src < 8 → slot ≡ sessionPlace sessions src
 
-opening-within : (e : Entry) (free : ℕ) (room : Bool) (auth : Pair) → Within (opening e free room auth)
-unfolding opening
-opening-within e free room auth =
-    by-test (stale e auth) (λ t. rw t (tt {0}))
-    (λ t. by-test room
-    (λ u. by-test (ltb free 8) (λ v. rw (t, u, v) (ltb-true free 8 v)) (λ v. rw (t, u, v) (tt {0})))
-    (λ u. rw (t, u) (tt {0})))
+-- where it joins it might have opened one
+pub joins-opens : {sessions : List Session} {src : ℕ} {seg : Segment} {slot : ℕ} → Joins sessions src seg slot → Opens sessions src slot
+joins-opens j = record { within = j .within; own = λ h. j .own }
+
+-- the slot that a decision names is such a one
+abbrev pub Within : List Session → ℕ → Segment → Decision → Type 0
+Within sessions src seg (Repeat bits) = Unit {0}
+Within sessions src seg (Join slot) = Joins sessions src seg slot
+Within sessions src seg (Open slot) = Opens sessions src slot
+Within sessions src seg Stale = Unit {0}
+Within sessions src seg Differs = Unit {0}
+Within sessions src seg NoEntryLeft = Unit {0}
+Within sessions src seg NoSlotLeft = Unit {0}
 
 module _ (replay : List Entry) (sessions : List Session) (src : ℕ) (seg : Segment) where
-  decision-within : Within (decision replay sessions src seg)
+  abbrev Here : Decision → Type 0
+  Here d = Within sessions src seg d
+
+  abbrev own : ℕ
+  own = sessionPlace sessions src
+
+  abbrev entry : Entry
+  entry = lookUp replay src
+
+  abbrev held : Session
+  held = sessionAt sessions own
+
+  module _ (room : Bool) where
+    joining-within : own < 8 → Here (joining held own room seg)
+    unfolding joining
+    joining-within h =
+        by-test (sameTerms (held .terms) (seg .terms))
+        (λ t. by-test room
+        (λ u. by-test (hasBit (held .filled) (seg .sego))
+        (λ v. rw (t, u, v) (tt {0}))
+        (λ v. rw (t, u, v) (record { within = h; own = refl; same = t })))
+        (λ u. rw (t, u) (tt {0})))
+        (λ t. rw t (tt {0}))
+
+    replacing-within : own < 8 → Here (replacing entry (held .auth) own room (seg .auth))
+    unfolding replacing
+    replacing-within h =
+        by-test (stale entry (seg .auth)) (λ t. rw t (tt {0}))
+        (λ t. by-test (newer (held .auth) (seg .auth)) (λ u. rw (t, u) (tt {0}))
+        (λ u. by-test room (λ v. rw (t, u, v) (record { within = h; own = λ k. refl })) (λ v. rw (t, u, v) (tt {0}))))
+
+    opening-within : 8 ≤ own → Here (opening entry (sessionPlace sessions 0) room (seg .auth))
+    unfolding opening
+    opening-within h =
+        let free = sessionPlace sessions 0 in
+        by-test (stale entry (seg .auth)) (λ t. rw t (tt {0}))
+        (λ t. by-test room
+        (λ u. by-test (ltb free 8)
+        (λ v. rw (t, u, v) (record { within = ltb-true free 8 v; own = λ k. absurd (omega arith) }))
+        (λ v. rw (t, u, v) (tt {0})))
+        (λ u. rw (t, u) (tt {0})))
+
+  pub decision-within : Within sessions src seg (decision replay sessions src seg)
   unfolding decision
   decision-within =
-      let own = sessionPlace sessions src in
-      by-test (isLast (lookUp replay src .last) (seg .auth) (seg .terms .segn) (seg .terms .dst)) (λ t. rw t (tt {0}))
+      let room = hasRoom replay src in
+      by-test (isLast (entry .last) (seg .auth) (seg .terms .segn) (seg .terms .dst)) (λ t. rw t (tt {0}))
       (λ t. by-test (ltb own 8)
       (λ u. let h = ltb-true own 8 u in
-      by-test (samePair (sessionAt sessions own .auth) (seg .auth))
-      (λ v. rw (t, u, v) (joining-within (sessionAt sessions own) own (hasRoom replay src) seg h))
-      (λ v. rw (t, u, v) (replacing-within (lookUp replay src) (sessionAt sessions own .auth) own (hasRoom replay src) (seg .auth) h)))
-      (λ u. rw (t, u) (opening-within (lookUp replay src) (sessionPlace sessions 0) (hasRoom replay src) (seg .auth))))
+      by-test (samePair (held .auth) (seg .auth)) (λ v. rw (t, u, v) (joining-within room h)) (λ v. rw (t, u, v) (replacing-within room h)))
+      (λ u. rw (t, u) (opening-within room (ltb-false own 8 u))))
 
   pub join-within : (slot : ℕ) → decision replay sessions src seg ≡ Join slot → slot < 8
-  join-within slot e = subst Within e decision-within
+  join-within slot e = let w : Joins sessions src seg slot = subst (Within sessions src seg) e decision-within in w .within
 
   pub open-within : (slot : ℕ) → decision replay sessions src seg ≡ Open slot → slot < 8
-  open-within slot e = subst Within e decision-within
+  open-within slot e = let w : Opens sessions src slot = subst (Within sessions src seg) e decision-within in w .within

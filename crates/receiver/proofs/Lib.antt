@@ -4,3 +4,9 @@ pub mod FreshLaws
 pub mod WholeLaws
 pub mod SegmentedLaws
 pub mod HearingLaws
+pub mod Opened
+pub mod Gathered
+pub mod GoodState
+pub mod GoodWhole
+pub mod GoodSegmented
+pub mod Good

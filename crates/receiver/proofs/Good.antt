@@ -1,0 +1,124 @@
+-- `GoodFresh`, `GoodHear` and `GoodGiveUp`: what setup makes is good; hearing leaves the receiver as it was, or with one PDU more in the cache and what the
+-- message of its form leaves; giving up zeroes a slot. Assumes nothing.
+use mathlib.Core.Bool.{true, false, _&&_, _||_}
+use mathlib.Core.List.{List}
+use mathlib.Core.Path.{_≡_, ap, _∙_}
+use Prim.Native.Nat.{ℕ, _≤_, _<_}
+use native.Mathlib.Omega.{arith}
+use borrow.Author.Tests.{leb-true}
+use lib.Dec.{eqb, leb, ltb}
+use lib.ListN.{length, length-replicate, getD-replicate}
+use Rattle.common.proofs.Tests.{by-test, by-choice, and-first, and-second}
+use Rattle.network.specs.declared.header.Header.{Header}
+use Rattle.network.specs.declared.opening.Answer as network-answer
+use Rattle.network.specs.declared.opening.Answer.the-variants as network
+use Rattle.transport.specs.declared.form.Form.{Form}
+use Rattle.transport.specs.declared.form.Form.the-variants as form
+use Rattle.transport.specs.Form.{segmentFits, formOf}
+use Rattle.transport.specs.Ranges.{Kept}
+use Rattle.transport.proofs.Ranges.{keeps-to-ranges}
+use Rattle.memory.specs.declared.replay.Entry.{Entry}
+use Rattle.memory.specs.declared.session.Session.{Session}
+use Rattle.memory.specs.Cache.{noSeen, seen, remembered}
+use Rattle.memory.specs.Decision.{sessionAt}
+use Rattle.memory.specs.Replay.{noEntry}
+use Rattle.memory.specs.Session.{noSession, noSessions, sessionPlace}
+use Rattle.memory.proofs.CacheLaws.{length-remembered}
+use Rattle.node.specs.declared.addresses.Node.{Node}
+use Rattle.node.specs.Addresses.{forNode}
+use Rattle.node.specs.Made.{WellMade, NextWell}
+use Rattle.node.specs.Setup.{making}
+use Rattle.node.proofs.SetupLaws.{makes-well}
+use Rattle.receiver.specs.declared.give_up.GivenUp.{GivenUp}
+use Rattle.receiver.specs.declared.state.Receiver.{Receiver}
+use Rattle.receiver.specs.Fresh.{paper, fresh, settingUp}
+use Rattle.receiver.specs.GiveUp.{givingUp}
+use Rattle.receiver.specs.Good.{Good, GoodFresh, GoodHear, GoodGiveUp}
+use Rattle.receiver.specs.Hearing.{Outcome, takenAs, taken, passed, uncached, openedAs, hearing}
+use Rattle.receiver.specs.State.{withCache}
+use Rattle.receiver.proofs.GoodState.{Left, good-cache, good-freed}
+use Rattle.receiver.proofs.Opened.{Clear, ClearIn, opening-clear}
+use Rattle.receiver.proofs.GoodWhole.{good-access, good-control, good-acknowledgement}
+use Rattle.receiver.proofs.GoodSegmented.{good-segmented}
+
+-- ---- setup
+good-fresh-of : (node : Node) (next : List ℕ) → WellMade node → NextWell (node .elements) next → Good (fresh node next)
+good-fresh-of node next w n =
+    let session : (i : ℕ) → i < 8 → sessionAt noSessions i ≡ noSession = λ i h. getD-replicate 8 i noSession _ h in
+    record {
+      node-made = w;
+      next-well = n;
+      cache-places = length-replicate 16 noSeen;
+      entry-places = length-replicate 32 noEntry;
+      session-places = length-replicate 8 noSession;
+      one-entry = λ i j hi hj z e. absurd (z (ap (λ (e : Entry). e .src) (getD-replicate 32 i noEntry noEntry hi)));
+      one-session = λ i j hi hj z e. absurd (z (ap (λ (s : Session). s .src) (session i hi)));
+      free-zero = λ i h z. session i h;
+      gathering = λ i h z. absurd (z (ap (λ (s : Session). s .src) (session i h)));
+    }
+
+pub good-fresh : GoodFresh
+unfolding settingUp
+good-fresh s e =
+    let m = making s in
+    by-test (m .ok)
+    (λ t. let w = makes-well s t in good-fresh-of (m .node) (m .next) (w .0) (w .1))
+    (λ t. let f : _≡_ {A = ℕ} 14 0 = ap paper (rw t at e) in absurd (omega arith))
+
+-- ---- hearing
+-- SegO is at most SegN
+fits-last : (segO segN n full : ℕ) → segmentFits segO segN n full ≡ true → segO ≤ segN
+unfolding segmentFits
+fits-last segO segN n full e =
+    let f = and-second (leb 5 n) (leb segO segN && (eqb segO segN || eqb n full)) e in
+    leb-true segO segN (and-first (leb segO segN) (eqb segO segN || eqb n full) f)
+
+module _ (r : Receiver) (g : Good r) (h : Header) (c : Clear h) (msg : List ℕ) where
+  good-taken-as : (f : Form) → Kept h f → Left (takenAs f r h msg)
+  unfolding takenAs
+  good-taken-as form.Wrong k = g
+  good-taken-as (form.Access akf aid) k = good-access r g h akf aid msg
+  good-taken-as (form.AccessSegment akf aid szmic seqZero segO segN) k =
+      good-segmented r g h c msg szmic segO segN (k .2 .segN-fits) (fits-last segO segN (h .len) 16 (k .2 .fits)) seqZero
+  good-taken-as (form.Control opcode) k = good-control r g h opcode msg
+  good-taken-as (form.ControlSegment opcode seqZero segO segN) k =
+      good-segmented r g h c msg false segO segN (k .2 .segN-fits) (fits-last segO segN (h .len) 12 (k .2 .fits)) seqZero
+  good-taken-as (form.Acknowledgement obo seqZero bits) k = good-acknowledgement r g h obo seqZero bits
+
+  good-taken : Left (taken r h msg)
+  unfolding taken
+  good-taken = by-choice Left (forNode (r .node) (h .dst)) (λ t. good-taken-as (formOf h) (keeps-to-ranges h)) (λ t. g)
+
+abbrev LeftHeard : Outcome → Type 0
+LeftHeard o = Good (o .heard .receiver)
+
+module _ (r : Receiver) (g : Good r) (h : Header) (trials : ℕ) (fwd msg : List ℕ) where
+  good-uncached : Clear h → LeftHeard (uncached r h trials fwd msg)
+  unfolding uncached passed
+  good-uncached c =
+      let cache = remembered (r .cache) (h .src) (h .seq) in
+      by-choice LeftHeard (seen (r .cache) (h .src) (h .seq)) (λ t. g)
+      (λ t. good-taken (withCache r cache) (good-cache r g cache (length-remembered (r .cache) (h .src) (h .seq) ∙ g .cache-places)) h c msg)
+
+  good-heard-as : (a : network-answer.Answer) → ClearIn a h → LeftHeard (openedAs a r h trials fwd msg)
+  unfolding openedAs
+  good-heard-as network.WrongLength c = g
+  good-heard-as network.NoCandidate c = g
+  good-heard-as network.NotAuthentic c = g
+  good-heard-as network.WrongAddress c = g
+  good-heard-as network.Opened c = good-uncached c
+
+pub good-hear : GoodHear
+unfolding hearing
+good-hear r pdu fwd msg g =
+    by-choice LeftHeard (ltb (length fwd) 29) (λ t. g)
+    (λ t. by-choice LeftHeard (ltb (length msg) 384) (λ u. g)
+    (λ u. good-heard-as r g _ _ fwd msg _ (opening-clear (r .node .keys) (r .node .networks) (r .node .iv) pdu)))
+
+-- ---- giving up
+pub good-give-up : GoodGiveUp
+unfolding givingUp
+good-give-up r src g =
+    let P : GivenUp → Type 0 = λ t. Good (t .receiver) in
+    let slot = sessionPlace (r .sessions) src in
+    by-choice P (eqb src 0) (λ t. g) (λ t. by-choice P (ltb slot 8) (λ u. good-freed r g slot) (λ u. g))

@@ -1,0 +1,107 @@
+-- A header that was opened has 16 places of transport, since every header has, and a source that is not 0, since refusal 4 lets none pass.
+-- Assumes nothing.
+use mathlib.Core.Bool.{Bool, true, _&&_, false≢true}
+use mathlib.Core.List.{List}
+use mathlib.Core.Path.{_≡_}
+use Prim.Native.Nat.{ℕ, _/_, _%_}
+use borrow.Author.Tests.{eq-eqb}
+use lib.Dec.{eqb, ltb}
+use lib.ListN.{length, getD, drop, length-replicate}
+use Rattle.common.specs.Search.{first}
+use Rattle.common.proofs.Lists.{length-tab}
+use Rattle.common.proofs.Tests.{by-choice, and-first}
+use Rattle.keys.specs.declared.NetworkKeys.{NetworkKeys}
+use Rattle.network.specs.declared.header.Header.{Header}
+use Rattle.network.specs.declared.iv_index.IvIndex.{IvIndex}
+use Rattle.network.specs.declared.iv_index.IvIndex.the-variants.{Index, Nothing}
+use Rattle.network.specs.declared.opening.Answer.{Answer}
+use Rattle.network.specs.declared.opening.Answer.the-variants.{Opened, WrongLength, NoCandidate, NotAuthentic, WrongAddress}
+use Rattle.network.specs.declared.opening.Opening.{Opening}
+use Rattle.network.specs.declared.trial.Found.{Found}
+use Rattle.network.specs.declared.trial.Trial.{Trial}
+use Rattle.network.specs.Address.{kindOf, isUnicast, destinationKind, addressesAllowed}
+use Rattle.network.specs.Candidates.{keyAt, candidates, opens, searched}
+use Rattle.network.specs.Header.{noHeader}
+use Rattle.network.specs.IvIndex.{ivIndexHeard}
+use Rattle.network.specs.Opening.{judged, under, opening}
+use Rattle.network.specs.Pdu.{frontOf}
+use Rattle.network.specs.Trial.{ctlOf, headerOf, bodyTried, tried}
+
+-- what is sure of an opened header
+pub record Clear (h : Header) : Type 0 where
+  pub places : length (h .transport) ≡ 16
+  pub sent : h .src ≡ 0 → ⊥
+
+-- a header is opened, or a refusal says why not
+abbrev pub ClearIn : Answer → Header → Type 0
+ClearIn Opened h = Clear h
+ClearIn WrongLength h = Unit {0}
+ClearIn NoCandidate h = Unit {0}
+ClearIn NotAuthentic h = Unit {0}
+ClearIn WrongAddress h = Unit {0}
+
+abbrev ClearOf : Opening → Type 0
+ClearOf o = ClearIn (o .answer) (o .header)
+
+-- ---- every header has 16 places
+abbrev Places : Header → Type 0
+Places h = length (h .transport) ≡ 16
+
+no-places : Places noHeader
+no-places = length-replicate {A = ℕ} 16 0
+
+header-places : (place iv : ℕ) (front body : List ℕ) → Places (headerOf place iv front body)
+unfolding headerOf
+header-places place iv front body = length-tab (λ i. getD (drop 2 body) i 0) 16
+
+tried-places : (key : NetworkKeys) (place iv : ℕ) (pdu : List ℕ) → Places (tried key place iv pdu .header)
+unfolding tried
+tried-places key place iv pdu =
+    let front = frontOf key iv pdu in
+    let body = bodyTried key iv front pdu in
+    by-choice (λ (t : Trial). Places (t .header)) (ctlOf front && ltb (length pdu) 18) (λ t. no-places)
+    (λ t. by-choice (λ (t : Trial). Places (t .header)) (body .answer) (λ u. header-places place iv front (body .buffer)) (λ u. no-places))
+
+searched-places : (keys : List NetworkKeys) (count nid iv : ℕ) (pdu : List ℕ) → Places (searched keys count nid iv pdu .header)
+unfolding searched
+searched-places keys count nid iv pdu =
+    let cs = candidates keys count nid in
+    let p = first (opens keys iv pdu) cs in
+    let i = getD cs p 0 in
+    by-choice (λ (s : Found). Places (s .header)) (ltb p (length cs)) (λ t. tried-places (keyAt keys i) i iv pdu) (λ t. no-places)
+
+-- ---- refusal 4 lets no source 0 pass
+unicast-sent : (a : ℕ) → isUnicast a ≡ true → a ≡ 0 → ⊥
+unfolding isUnicast kindOf
+unicast-sent a e z = false≢true (rw (eq-eqb a 0 z) at e)
+
+allowed-sent : (ctl : Bool) (src dst : ℕ) → addressesAllowed ctl src dst ≡ true → src ≡ 0 → ⊥
+unfolding addressesAllowed
+allowed-sent ctl src dst e = unicast-sent src (and-first (isUnicast src) (destinationKind ctl (kindOf dst)) e)
+
+judged-clear : (s : Found) → Places (s .header) → ClearOf (judged s)
+unfolding judged
+judged-clear s l =
+    let h = s .header in
+    by-choice ClearOf (s .ok)
+    (λ t. by-choice ClearOf (addressesAllowed (h .ctl) (h .src) (h .dst))
+    (λ u. record { places = l; sent = allowed-sent (h .ctl) (h .src) (h .dst) u })
+    (λ u. tt {0}))
+    (λ t. tt {0})
+
+-- ---- the call
+under-clear : (keys : List NetworkKeys) (count : ℕ) (pdu : List ℕ) (i : IvIndex) → ClearOf (under keys count pdu i)
+unfolding under
+under-clear keys count pdu Nothing = tt {0}
+under-clear keys count pdu (Index iv) =
+    let nid = getD pdu 0 0 % 128 in
+    judged-clear (searched keys count nid iv pdu) (searched-places keys count nid iv pdu)
+
+pub opening-clear :
+    (keys : List NetworkKeys) (count current : ℕ) (pdu : List ℕ) → ClearIn (opening keys count current pdu .answer) (opening keys count current pdu .header)
+unfolding opening
+opening-clear keys count current pdu =
+    by-choice ClearOf (ltb (length pdu) 14) (λ t. tt {0})
+    (λ t. by-choice ClearOf (ltb 29 (length pdu)) (λ u. tt {0})
+    (λ u. by-choice ClearOf (eqb (length (candidates keys count (getD pdu 0 0 % 128))) 0) (λ v. tt {0})
+    (λ v. under-clear keys count pdu (ivIndexHeard current (getD pdu 0 0 / 128)))))
