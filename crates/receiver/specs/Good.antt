@@ -1,15 +1,14 @@
 -- What holds of a receiver that setup made, whatever it has heard since: the invariant that the theorems start from.
 --   Gathering s   an open session: some segment is missing, and none past SegN is marked
 --   Good r        the whole state
-use mathlib.Core.Bool.{true, false}
+use mathlib.Core.Bool.{false}
 use mathlib.Core.List.{List}
 use mathlib.Core.Path.{_≡_}
 use Prim.Native.Nat.{ℕ, _+_, _^_, _≤_, _<_}
 use lib.ListN.{length, getD}
 use Rattle.memory.specs.declared.session.Session.{Session}
 use Rattle.memory.specs.Decision.{sessionAt}
-use Rattle.memory.specs.Pair.{newer}
-use Rattle.memory.specs.Replay.{noEntry, lookUp}
+use Rattle.memory.specs.Replay.{noEntry}
 use Rattle.memory.specs.Session.{noSession, complete}
 use Rattle.node.specs.Made.{WellMade, NextWell}
 use Rattle.node.specs.declared.setup.Setup.{Setup}
