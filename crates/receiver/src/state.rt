@@ -64,7 +64,8 @@ pub(crate) fn with_session(r: Receiver, slot: usize, s: Session) -> Receiver
     q
 }
 
-pub(crate) fn with_outgoing(r: Receiver, out: Outgoing) -> Receiver
+// The receiver with another outgoing message.
+pub fn with_outgoing(r: Receiver, out: Outgoing) -> Receiver
     ensures { λ q. ⌜ q ≡ withOutgoing r out ⌝ }
 {
     let node = r.node;

@@ -1,0 +1,7 @@
+-- The laws about the definitions of specs/.
+pub mod RequestLaws
+pub mod TransmissionLaws
+pub mod SegmentLaws
+pub mod AccessLaws
+pub mod ControlLaws
+pub mod AcknowledgeLaws

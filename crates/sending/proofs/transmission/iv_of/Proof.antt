@@ -1,0 +1,16 @@
+-- `sending::transmission::iv_of` meets its contract: the IV Index and its flag are the node's.
+-- Assumes nothing.
+use borrow.Author.Needs.{needs}
+use Rattle.sending.specs.Transmission.{sendingIv}
+use Rattle.sending.proofs.transmission.iv_of.Statement.{statement}
+use Rattle.sending.proofs.transmission.iv_of.Tie as tie
+
+sent-requires : tie.Need-sent-requires
+sent-requires c κs = search needs
+
+returns : tie.Need-returns
+unfolding sendingIv
+returns c = c .sent .ensures
+
+pub iv-of-spec : {M : Type 1} → statement M
+iv-of-spec = tie.close (tie.spec sent-requires returns)
