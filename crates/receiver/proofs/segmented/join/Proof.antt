@@ -5,25 +5,7 @@ use Rattle.receiver.proofs.SegmentedLaws.{joined}
 use Rattle.receiver.proofs.segmented.join.Statement.{statement}
 use Rattle.receiver.proofs.segmented.join.Tie as tie
 
-mul-store : tie.Need-mul-store
-mul-store c = search needs
-
-array-copy-out-store : tie.Need-array-copy-out-store
-array-copy-out-store c = search needs
-
-store-requires : tie.Need-store-requires
-store-requires c κs = search needs
-
-gather-requires : tie.Need-gather-requires
-gather-requires c κs = search needs
-
-same-length : tie.Need-same-length
-same-length c = search needs
-
-returns : tie.Need-returns
-returns c = search joined
-
 pub join-spec : {M : Type 1} → statement M
 join-spec =
-    tie.close
-    (tie.spec mul-store array-copy-out-store store-requires gather-requires same-length returns)
+    tie.close (tie.spec
+    (λ c. search needs) (λ c. search needs) (λ c κs. search needs) (λ c κs. search needs) (λ c. search needs) (λ c. search joined))

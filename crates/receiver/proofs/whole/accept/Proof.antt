@@ -5,15 +5,11 @@ use Rattle.receiver.specs.Whole.{admitted}
 use Rattle.receiver.proofs.whole.accept.Statement.{statement}
 use Rattle.receiver.proofs.whole.accept.Tie as tie
 
-accept-requires : tie.Need-accept-requires
-accept-requires c κs = search needs
-
-with-replay-requires : tie.Need-with-replay-requires
-with-replay-requires c κs = search needs
-
 returns : tie.Need-returns
 unfolding admitted
 returns c = rw (c .with-replay .ensures, c .before .accept .ensures)
 
 pub accept-spec : {M : Type 1} → statement M
-accept-spec = tie.close (tie.spec accept-requires with-replay-requires returns)
+accept-spec =
+    tie.close (tie.spec
+    (λ c κs. search needs) (λ c κs. search needs) returns)

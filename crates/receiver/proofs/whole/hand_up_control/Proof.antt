@@ -5,18 +5,7 @@ use Rattle.receiver.proofs.WholeLaws.{control-up}
 use Rattle.receiver.proofs.whole.hand_up_control.Statement.{statement}
 use Rattle.receiver.proofs.whole.hand_up_control.Tie as tie
 
-copy-parameters-requires : tie.Need-copy-parameters-requires
-copy-parameters-requires c κs = search needs
-
-accept-requires : tie.Need-accept-requires
-accept-requires c κs = search needs
-
-same-length : tie.Need-same-length
-same-length c = search needs
-
-returns : tie.Need-returns
-returns c = search control-up
-
 pub hand-up-control-spec : {M : Type 1} → statement M
 hand-up-control-spec =
-    tie.close (tie.spec copy-parameters-requires accept-requires same-length returns)
+    tie.close (tie.spec
+    (λ c κs. search needs) (λ c κs. search needs) (λ c. search needs) (λ c. search control-up))

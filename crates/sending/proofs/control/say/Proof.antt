@@ -5,47 +5,8 @@ use Rattle.sending.proofs.ControlLaws.{say-rules}
 use Rattle.sending.proofs.control.say.Statement.{statement}
 use Rattle.sending.proofs.control.say.Tie as tie
 
-iv-of-requires : tie.Need-iv-of-requires
-iv-of-requires c κs = search needs
-
-whole-header-requires : tie.Need-whole-header-requires
-whole-header-requires c κs = search needs
-
-transmit-requires : tie.Need-transmit-requires
-transmit-requires c κs = search needs
-
-speak-requires : tie.Need-speak-requires
-speak-requires c κs = search needs
-
-same-length : tie.Need-same-length
-same-length c = search needs
-
-returns : tie.Need-returns
-returns c = search say-rules
-
-outgoing-requires : tie.Need-outgoing-requires
-outgoing-requires c κs = search needs
-
-start-requires : tie.Need-start-requires
-start-requires c κs = search needs
-
-same-length-2 : tie.Need-same-length-2
-same-length-2 c = search needs
-
-returns-2 : tie.Need-returns-2
-returns-2 c = search say-rules
-
 pub say-spec : {M : Type 1} → statement M
 say-spec =
-    tie.close
-    (tie.spec
-    iv-of-requires
-    whole-header-requires
-    transmit-requires
-    speak-requires
-    same-length
-    returns
-    outgoing-requires
-    start-requires
-    same-length-2
-    returns-2)
+    tie.close (tie.spec
+    (λ c κs. search needs) (λ c κs. search needs) (λ c κs. search needs) (λ c κs. search needs) (λ c. search needs) (λ c. search say-rules)
+    (λ c κs. search needs) (λ c κs. search needs) (λ c. search needs) (λ c. search say-rules))

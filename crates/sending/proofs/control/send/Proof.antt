@@ -5,39 +5,8 @@ use Rattle.sending.proofs.ControlLaws.{send-rules, element-within, para
 use Rattle.sending.proofs.control.send.Statement.{statement}
 use Rattle.sending.proofs.control.send.Tie as tie
 
-refuse-requires : tie.Need-refuse-requires
-refuse-requires c κs = search needs
-
-returns : tie.Need-returns
-returns c = search send-rules
-
-is-allowed-requires : tie.Need-is-allowed-requires
-is-allowed-requires c κs = search needs
-
-refuse-requires-2 : tie.Need-refuse-requires-2
-refuse-requires-2 c κs = search needs
-
-returns-2 : tie.Need-returns-2
-returns-2 c = search send-rules
-
-say-requires : tie.Need-say-requires
-say-requires c κs = (search (element-within, needs), search (parameters-within, needs))
-
-same-length : tie.Need-same-length
-same-length c = search needs
-
-returns-3 : tie.Need-returns-3
-returns-3 c = search send-rules
-
 pub send-spec : {M : Type 1} → statement M
 send-spec =
-    tie.close
-    (tie.spec
-    refuse-requires
-    returns
-    is-allowed-requires
-    refuse-requires-2
-    returns-2
-    say-requires
-    same-length
-    returns-3)
+    tie.close (tie.spec
+    (λ c κs. search needs) (λ c. search send-rules) (λ c κs. search needs) (λ c κs. search needs) (λ c. search send-rules)
+    (λ c κs. (search (element-within, needs), search (parameters-within, needs))) (λ c. search needs) (λ c. search send-rules))

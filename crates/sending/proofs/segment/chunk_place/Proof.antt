@@ -5,17 +5,7 @@ use Rattle.sending.proofs.SegmentLaws.{place-control, place-access}
 use Rattle.sending.proofs.segment.chunk_place.Statement.{statement}
 use Rattle.sending.proofs.segment.chunk_place.Tie as tie
 
-mul-result : tie.Need-mul-result
-mul-result c = search needs
-
-returns : tie.Need-returns
-returns c = (search place-control, search needs)
-
-mul-result-2 : tie.Need-mul-result-2
-mul-result-2 c = search needs
-
-returns-2 : tie.Need-returns-2
-returns-2 c = (search place-access, search needs)
-
 pub chunk-place-spec : {M : Type 1} → statement M
-chunk-place-spec = tie.close (tie.spec mul-result returns mul-result-2 returns-2)
+chunk-place-spec =
+    tie.close (tie.spec
+    (λ c. search needs) (λ c. (search place-control, search needs)) (λ c. search needs) (λ c. (search place-access, search needs)))

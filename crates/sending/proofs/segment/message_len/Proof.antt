@@ -5,11 +5,7 @@ use Rattle.sending.proofs.SegmentLaws.{message-most, message-own}
 use Rattle.sending.proofs.segment.message_len.Statement.{statement}
 use Rattle.sending.proofs.segment.message_len.Tie as tie
 
-returns : tie.Need-returns
-returns c = (search (message-most, needs), search needs)
-
-returns-2 : tie.Need-returns-2
-returns-2 c = (search (message-own, needs), search needs)
-
 pub message-len-spec : {M : Type 1} → statement M
-message-len-spec = tie.close (tie.spec returns returns-2)
+message-len-spec =
+    tie.close (tie.spec
+    (λ c. (search (message-most, needs), search needs)) (λ c. (search (message-own, needs), search needs)))
