@@ -5,3 +5,4 @@ pub mod SegmentLaws
 pub mod AccessLaws
 pub mod ControlLaws
 pub mod AcknowledgeLaws
+pub mod NewSeq

@@ -1,6 +1,5 @@
 -- The rules of a transmission, of what it is answered, and of giving up: one for each answer, its conditions in the order of the code's tests.
 -- Assumes nothing.
-use mathlib.Core.Bool.{true, false}
 use mathlib.Core.List.{List}
 use mathlib.Core.Path.{_≡_}
 use Prim.Native.Nat.{ℕ, _≤_, _<_}

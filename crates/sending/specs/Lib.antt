@@ -7,3 +7,4 @@ pub mod Access
 pub mod Control
 pub mod Acknowledge
 pub mod Stop
+pub mod NewSeq
