@@ -21,7 +21,7 @@ use Rattle.transport.specs.Fields.{akf, aid, opcode}
 use Rattle.transport.specs.Securing.{unsecuring}
 use Rattle.transport.specs.SeqAuth.{seqAuth}
 use Rattle.memory.specs.declared.decision.Decision.{Decision}
-use Rattle.memory.specs.declared.decision.Decision.the-variants as decision'
+use Rattle.memory.specs.declared.decision.Decision.the-variants as decided
 use Rattle.memory.specs.declared.session.Segment.{Segment}
 use Rattle.memory.specs.declared.session.Session.{Session}
 use Rattle.memory.specs.Decision.{sessionAt, decision}
@@ -94,14 +94,14 @@ gathered r slot s msg =
 
 -- 9 to 12, repeat, join, or open a session: one that is replaced or new is zeroed first
 unfoldable pub placedAs : Decision → Receiver → Header → Segment → List ℕ → Lent Taken
-placedAs decision'.Stale r h seg msg = lent (refusedAt r refusal.Replayed 0) msg
-placedAs decision'.Differs r h seg msg = lent (refusedAt r refusal.Differs 0) msg
-placedAs decision'.NoEntryLeft r h seg msg = lent (refusedAt r refusal.NoEntryLeft 0) msg
-placedAs decision'.NoSlotLeft r h seg msg = lent (refusedAt r refusal.NoSlotLeft 0) msg
-placedAs (decision'.Repeat bits) r h seg msg =
+placedAs decided.Stale r h seg msg = lent (refusedAt r refusal.Replayed 0) msg
+placedAs decided.Differs r h seg msg = lent (refusedAt r refusal.Differs 0) msg
+placedAs decided.NoEntryLeft r h seg msg = lent (refusedAt r refusal.NoEntryLeft 0) msg
+placedAs decided.NoSlotLeft r h seg msg = lent (refusedAt r refusal.NoSlotLeft 0) msg
+placedAs (decided.Repeat bits) r h seg msg =
     lent (record { answer = Repeated (h .src) (seg .auth) bits; trials = 0; receiver = r }) msg
-placedAs (decision'.Join slot) r h seg msg = gathered r slot (stored (sessionAt (r .sessions) slot) h (seg .sego)) msg
-placedAs (decision'.Open slot) r h seg msg = gathered r slot (stored (begun (h .src) seg) h (seg .sego)) msg
+placedAs (decided.Join slot) r h seg msg = gathered r slot (stored (sessionAt (r .sessions) slot) h (seg .sego)) msg
+placedAs (decided.Open slot) r h seg msg = gathered r slot (stored (begun (h .src) seg) h (seg .sego)) msg
 
 unfoldable pub placed : Receiver → Header → Segment → List ℕ → Lent Taken
 placed r h seg msg = placedAs (decision (r .replay) (r .sessions) (h .src) seg) r h seg msg

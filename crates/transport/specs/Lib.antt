@@ -1,4 +1,4 @@
--- What lower transport (MP 3.5) is read and written by: SeqAuth, opcodes, the fields of a transport PDU, its form, segments and acknowledgements.
+-- What transport (MP 3.5, 3.6) is read and written by: SeqAuth, opcodes, the fields of a transport PDU, its form, segments, acknowledgements, securing.
 pub mod SeqAuth
 pub mod LeadsBack
 pub mod Opcode

@@ -18,7 +18,6 @@ use Rattle.modes.specs.Ccm.{micOctets, sealed, opening}
 use Rattle.network.specs.Nonce.{applicationNonce, deviceNonce}
 use Rattle.transport.specs.declared.securing.ApplicationKey.{ApplicationKey}
 use Rattle.transport.specs.declared.securing.Envelope.{Envelope}
-use Rattle.transport.specs.declared.securing.MessageKey.{MessageKey}
 use Rattle.transport.specs.declared.securing.MessageKey.the-variants.{Application, Device}
 use Rattle.transport.specs.declared.securing.Opened.{Opened}
 use Rattle.transport.specs.declared.securing.Opened.the-variants.{Message, NotOpened, ShortBuffer}

@@ -1,4 +1,4 @@
-// Lower transport (MP 3.5): what a transport PDU is, which message a segment belongs to, segments and acknowledgements written.
+// Transport (MP 3.5, 3.6): what a transport PDU is, which message a segment belongs to, segments and acknowledgements written, access messages secured and opened.
 pub mod form;
 pub mod opcode;
 pub mod securing;

@@ -1,0 +1,4 @@
+-- The statements that the receiver is built for, and nothing else.
+pub mod Examples
+pub mod Refusal
+pub mod Speaking
