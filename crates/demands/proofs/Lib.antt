@@ -2,3 +2,4 @@
 pub mod Examples
 pub mod Refusal
 pub mod Speaking
+pub mod Determinacy

@@ -1,0 +1,175 @@
+-- Determinacy: for each public operation below the C functions, two outcomes that satisfy its contract are equal. A contract is one equation between the outcome
+-- (answer, new state and each lent buffer) and the definition named here, so one line an operation says which definition that is.
+use mathlib.Core.Bool.{Bool}
+use mathlib.Core.List.{List, _++_}
+use mathlib.Core.Path.{_≡_}
+use Prim.Native.Nat.{ℕ}
+use lib.ListN.{length, take}
+use Rattle.aes.specs.Cipher.{cipher}
+use Rattle.aes.specs.KeyExpansion.{keySchedule}
+use Rattle.common.specs.Bits.{hasBit, withBit, allBits}
+use Rattle.common.specs.Lists.{onto, same}
+use Rattle.keys.specs.Derivation as derivation
+use Rattle.keys.specs.declared.NetworkKeys.{NetworkKeys}
+use Rattle.memory.specs.Cache.{noCache, seen, remembered}
+use Rattle.memory.specs.Decision as decision
+use Rattle.memory.specs.Outgoing as outgoing
+use Rattle.memory.specs.Pair.{newer, samePair, greater}
+use Rattle.memory.specs.Replay.{noEntry, lookUp, stale, hasRoom, isLast, accepted, handedUp}
+use Rattle.memory.specs.Session.{noSession, sessionPlace, sameTerms, begun, stored, complete}
+use Rattle.memory.specs.declared.cache.Cache.{Cache}
+use Rattle.memory.specs.declared.decision.Decision.{Decision}
+use Rattle.memory.specs.declared.outgoing.Outgoing.{Outgoing}
+use Rattle.memory.specs.declared.pair.Pair.{Pair}
+use Rattle.memory.specs.declared.replay.Entry.{Entry}
+use Rattle.memory.specs.declared.replay.Last.{Last}
+use Rattle.memory.specs.declared.session.Segment.{Segment}
+use Rattle.memory.specs.declared.session.Session.{Session}
+use Rattle.memory.specs.declared.session.Terms.{Terms}
+use Rattle.modes.specs.Ccm as ccm
+use Rattle.modes.specs.Cmac.{cmac}
+use Rattle.modes.specs.declared.ccm.MicSize.{MicSize}
+use Rattle.network.specs.Address.{kindOf, isUnicast, addressesAllowed}
+use Rattle.network.specs.Header.{noHeader}
+use Rattle.network.specs.IvIndex.{ivIndexHeard, ivIndexSent}
+use Rattle.network.specs.Nonce.{networkNonce, applicationNonce, deviceNonce}
+use Rattle.network.specs.Octets.{octets}
+use Rattle.network.specs.Opening as opening
+use Rattle.network.specs.Pdu.{clearFront}
+use Rattle.network.specs.Sealing as sealing
+use Rattle.network.specs.declared.header.Header.{Header}
+use Rattle.network.specs.declared.opening.Answer as opening-answer
+use Rattle.network.specs.declared.sealing.Answer as sealing-answer
+use Rattle.node.specs.Addresses.{isLocal, forNode}
+use Rattle.node.specs.Setup.{making}
+use Rattle.node.specs.declared.addresses.Node.{Node}
+use Rattle.node.specs.declared.setup.Setup.{Setup}
+use Rattle.receiver.specs.Answer.{refusalNumber}
+use Rattle.receiver.specs.Fresh as fresh
+use Rattle.receiver.specs.GiveUp as give-up
+use Rattle.receiver.specs.Hearing.{hearing}
+use Rattle.receiver.specs.State.{withOutgoing}
+use Rattle.receiver.specs.declared.answer.Refusal.{Refusal}
+use Rattle.receiver.specs.declared.fresh.Answer as fresh-answer
+use Rattle.receiver.specs.declared.give_up.Answer as give-up-answer
+use Rattle.receiver.specs.declared.state.Receiver.{Receiver}
+use Rattle.sending.specs.Access.{sendingAccess}
+use Rattle.sending.specs.Acknowledge.{acknowledging}
+use Rattle.sending.specs.Answer as sending-answer
+use Rattle.sending.specs.Control.{sendingControl}
+use Rattle.sending.specs.Request.{ttlOf, requestAllowed}
+use Rattle.sending.specs.Segment.{sendingSegment}
+use Rattle.sending.specs.Stop.{stopping}
+use Rattle.sending.specs.Transmission.{sendingIv, addressOf}
+use Rattle.sending.specs.declared.answer.Answer as spoken-answer
+use Rattle.sending.specs.declared.request.Request.{Request}
+use Rattle.sending.specs.declared.request.Ttl.{Ttl}
+use Rattle.transport.specs.Form.{formOf}
+use Rattle.transport.specs.Opcode.{opcodeKind}
+use Rattle.transport.specs.Securing as securing
+use Rattle.transport.specs.Segment.{accessOctet, controlOctet, segmentFront, acknowledgementOctets}
+use Rattle.transport.specs.SeqAuth.{seqAuth}
+use Rattle.transport.specs.declared.securing.ApplicationKey.{ApplicationKey}
+use Rattle.transport.specs.declared.securing.Envelope.{Envelope}
+use Rattle.transport.specs.declared.securing.MessageKey.{MessageKey}
+use Rattle.transport.specs.declared.securing.Opened.{Opened}
+
+-- two outcomes that are each what is defined are equal
+abbrev pub Determined : {A : Type 0} → A → Type 0
+Determined {A} defined = (a b : A) → a ≡ defined → b ≡ defined → a ≡ b
+
+pub record Determinate : Type 0 where
+  -- common
+  pub copy : (s d : List ℕ) → Determined (onto (take (length d) s) d)
+  pub equal : (a b : List ℕ) → Determined (same a b)
+  pub has-bit : (x i : ℕ) → Determined (hasBit x i)
+  pub with-bit : (x i : ℕ) → Determined (withBit x i)
+  pub all-bits : (n : ℕ) → Determined (allBits n)
+  -- aes
+  pub expand : (key : List ℕ) → Determined (keySchedule key)
+  pub encrypt : (ks : List (List ℕ)) (block : List ℕ) → Determined (cipher ks block)
+  -- modes
+  pub cmac : (ks : List (List ℕ)) (m : List ℕ) → Determined (cmac ks m)
+  pub ccm-seal : (ks : List (List ℕ)) (nonce : List ℕ) (size : MicSize) (m buf : List ℕ) → Determined (ccm.sealing ks nonce size m buf)
+  pub ccm-open : (ks : List (List ℕ)) (nonce : List ℕ) (size : MicSize) (c buf : List ℕ) → Determined (ccm.opening ks nonce size c buf)
+  -- keys
+  pub s1 : (m : List ℕ) → Determined (derivation.s1 m)
+  pub k2 : (key : List ℕ) → Determined (derivation.k2 key)
+  pub k4 : (key : List ℕ) → Determined (derivation.k4 key)
+  -- network
+  pub address-kind : (a : ℕ) → Determined (kindOf a)
+  pub is-unicast : (a : ℕ) → Determined (isUnicast a)
+  pub allowed : (ctl : Bool) (src dst : ℕ) → Determined (addressesAllowed ctl src dst)
+  pub iv-heard : (current ivi : ℕ) → Determined (ivIndexHeard current ivi)
+  pub iv-sent : (current : ℕ) (flag : Bool) → Determined (ivIndexSent current flag)
+  pub network-nonce : (ctl : Bool) (ttl seq src iv : ℕ) → Determined (networkNonce ctl ttl seq src iv)
+  pub application-nonce : (szmic : Bool) (seq src dst iv : ℕ) → Determined (applicationNonce szmic seq src dst iv)
+  pub device-nonce : (szmic : Bool) (seq src dst iv : ℕ) → Determined (deviceNonce szmic seq src dst iv)
+  pub no-header : Determined (noHeader)
+  pub open-pdu : (keys : List NetworkKeys) (count current : ℕ) (pdu : List ℕ) → Determined (opening.opening keys count current pdu)
+  pub open-number : (a : opening-answer.Answer) → Determined (opening.paper a)
+  pub seal-pdu : (key : NetworkKeys) (h : Header) (buf : List ℕ) → Determined (sealing.sealing key h buf)
+  pub seal-number : (a : sealing-answer.Answer) → Determined (sealing.paper a)
+  pub is-forwarded : (relay local : Bool) (h : Header) → Determined (sealing.forwards relay local h)
+  pub lower : (h : Header) → Determined (sealing.lowered h)
+  pub forward : (keys : List NetworkKeys) (h : Header) (buf : List ℕ) → Determined (sealing.forwarding keys h buf)
+  pub clear-front : (h : Header) → Determined (clearFront h)
+  pub clear-body : (h : Header) → Determined (octets 2 (h .dst) ++ h .transport)
+  -- transport
+  pub seq-auth : (seq seqZero : ℕ) → Determined (seqAuth seq seqZero)
+  pub opcode-kind : (opcode : ℕ) → Determined (opcodeKind opcode)
+  pub read : (h : Header) → Determined (formOf h)
+  pub front : (first : ℕ) (szmic : Bool) (seqZero segO segN : ℕ) → Determined (segmentFront first szmic seqZero segO segN)
+  pub acknowledgement : (obo : Bool) (seqZero bits : ℕ) → Determined (acknowledgementOctets obo seqZero bits)
+  pub access-octet : (seg akf : Bool) (aid : ℕ) → Determined (accessOctet seg akf aid)
+  pub control-octet : (seg : Bool) (opcode : ℕ) → Determined (controlOctet seg opcode)
+  pub secure : (key : List ℕ) (e : Envelope) (m buf : List ℕ) → Determined (securing.securing key e m buf)
+  pub unsecure : (keys : List ApplicationKey) (count : ℕ) (device : List ℕ) (e : Envelope) (c buf : List ℕ) → Determined (securing.unsecuring keys count device e c buf)
+  pub unsecure-number : (o : Opened) → Determined (securing.paper o)
+  -- memory
+  pub is-newer : (a b : Pair) → Determined (newer a b)
+  pub same-pair : (a b : Pair) → Determined (samePair a b)
+  pub max-pair : (a b : Pair) → Determined (greater a b)
+  pub no-cache : Determined (noCache)
+  pub is-seen : (c : Cache) (src seq : ℕ) → Determined (seen c src seq)
+  pub remember : (c : Cache) (src seq : ℕ) → Determined (remembered c src seq)
+  pub no-entry : Determined (noEntry)
+  pub look-up : (l : List Entry) (src : ℕ) → Determined (lookUp l src)
+  pub is-stale : (e : Entry) (pair : Pair) → Determined (stale e pair)
+  pub has-room : (l : List Entry) (src : ℕ) → Determined (hasRoom l src)
+  pub is-last : (last : Last) (auth : Pair) (segN dst : ℕ) → Determined (isLast last auth segN dst)
+  pub accept : (l : List Entry) (src : ℕ) (pair : Pair) → Determined (accepted l src pair)
+  pub hand-up : (l : List Entry) (src : ℕ) (auth : Pair) (segN dst : ℕ) → Determined (handedUp l src auth segN dst)
+  pub no-session : Determined (noSession)
+  pub session-place : (l : List Session) (src : ℕ) → Determined (sessionPlace l src)
+  pub same-terms : (a b : Terms) → Determined (sameTerms a b)
+  pub begin : (src : ℕ) (seg : Segment) → Determined (begun src seg)
+  pub store : (s : Session) (h : Header) (segO : ℕ) → Determined (stored s h segO)
+  pub is-complete : (s : Session) → Determined (complete s)
+  pub decide : (replay : List Entry) (sessions : List Session) (src : ℕ) (seg : Segment) → Determined (decision.decision replay sessions src seg)
+  pub decision-number : (d : Decision) → Determined (decision.paper d)
+  pub no-outgoing : Determined (outgoing.noOutgoing)
+  pub acknowledge : (out : Outgoing) (h : Header) (obo : Bool) (seqZero bits : ℕ) → Determined (outgoing.acknowledging out h obo seqZero bits)
+  -- node
+  pub is-local : (node : Node) (a : ℕ) → Determined (isLocal node a)
+  pub is-for : (node : Node) (a : ℕ) → Determined (forNode node a)
+  pub make : (s : Setup) → Determined (making s)
+  -- receiver
+  pub set-up : (s : Setup) → Determined (fresh.settingUp s)
+  pub set-up-number : (a : fresh-answer.Answer) → Determined (fresh.paper a)
+  pub hear : (r : Receiver) (pdu fwd msg : List ℕ) → Determined (hearing r pdu fwd msg)
+  pub give-up-session : (r : Receiver) (src : ℕ) → Determined (give-up.givingUp r src)
+  pub give-up-number : (a : give-up-answer.Answer) → Determined (give-up.paper a)
+  pub refusal-number : (n : Refusal) → Determined (refusalNumber n)
+  pub with-outgoing : (r : Receiver) (out : Outgoing) → Determined (withOutgoing r out)
+  -- sending
+  pub ttl-of : (t : Ttl) → Determined (ttlOf t)
+  pub is-allowed : (node : Node) (q : Request) → Determined (requestAllowed node q)
+  pub iv-of : (node : Node) → Determined (sendingIv node)
+  pub address-of : (node : Node) (element : ℕ) → Determined (addressOf node element)
+  pub sending-number : (a : spoken-answer.Answer) → Determined (sending-answer.paper a)
+  pub send-access : (r : Receiver) (q : Request) (key : MessageKey) (szmic : Bool) (payload buf : List ℕ) → Determined (sendingAccess r q key szmic payload buf)
+  pub send-control : (r : Receiver) (q : Request) (opcode : ℕ) (parameters buf : List ℕ) → Determined (sendingControl r q opcode parameters buf)
+  pub send-segment : (r : Receiver) (n : ℕ) (buf : List ℕ) → Determined (sendingSegment r n buf)
+  pub send-acknowledgement : (r : Receiver) (net src : ℕ) (buf : List ℕ) → Determined (acknowledging r net src buf)
+  pub stop : (r : Receiver) → Determined (stopping r)
