@@ -29,7 +29,7 @@ use Rattle.receiver.specs.declared.state.Receiver.{Receiver}
 use Rattle.receiver.specs.Segmented.{segmented}
 use Rattle.receiver.specs.State.{withCache}
 use Rattle.receiver.specs.Whole.{refusedAt, wholeAccess, wholeControl, wholeAcknowledgement}
-use Rattle.receiver.specs.Hearing.{outcome, refusedHeard, relayed, takenAs, taken, passed, uncached, openedAs, hearing}
+use Rattle.receiver.specs.Hearing.{outcome, refusedHeard, relayed, szmicOf, takenAs, taken, passed, uncached, openedAs, hearing}
 
 -- ---- forwarding
 module _ (node : Node) (h : Header) (fwd : List ℕ) (local : Bool) (el : local ≡ isLocal node (h .dst)) (on : Bool) (eo : on ≡ forwards (node .relay) local h) where
@@ -53,6 +53,9 @@ module _ (node : Node) (h : Header) (fwd : List ℕ) (local : Bool) (el : local 
 pub ruleset relayed-rules = (relayed-not, relayed-sealed, relayed-outside, relayed-short)
 
 -- ---- by the transport form
+pub szmic-of-access : (f : Form) (akf : Bool) (aid : ℕ) (z : Bool) (seqZero segO segN : ℕ) → f ≡ form.AccessSegment akf aid z seqZero segO segN → z ≡ szmicOf f
+szmic-of-access f akf aid z seqZero segO segN k = sym (ap szmicOf k)
+
 module _ (r : Receiver) (h : Header) (msg : List ℕ) (f : Form) (e : f ≡ formOf h) (t : Taken) (left : List ℕ) where
   pub form-wrong : f ≡ form.Wrong → t ≡ refusedAt r refusal.WrongForm 0 → lent t msg ≡ takenAs (formOf h) r h msg
   unfolding takenAs
@@ -72,19 +75,26 @@ module _ (r : Receiver) (h : Header) (msg : List ℕ) (f : Form) (e : f ≡ form
   unfolding takenAs
   form-acknowledgement obo seqZero bits k et = rw (← e, k, et)
 
-  pub form-access-segment :
-      (akf : Bool) (aid : ℕ) (szmic : Bool) (seqZero segO segN : ℕ) → f ≡ form.AccessSegment akf aid szmic seqZero segO segN
-      → lent t left ≡ segmented r h szmic seqZero segO segN msg → lent t left ≡ takenAs (formOf h) r h msg
-  unfolding takenAs
-  form-access-segment akf aid szmic seqZero segO segN k et = rw (← e, k) et
+  -- the two kinds of segments come to one call: f', szmic and the numbers are what they bring there
+  module _ {f' : Form} {szmic : Bool} (ez : szmic ≡ szmicOf f') {q o n seqZero segO segN : ℕ} (eq : q ≡ seqZero) (eo : o ≡ segO) (en : n ≡ segN)
+      (et : lent t left ≡ segmented r h szmic q o n msg) where
+    pub form-access-segment :
+        {akf : Bool} {aid : ℕ} {z : Bool} → f ≡ form.AccessSegment akf aid z seqZero segO segN → f' ≡ form.AccessSegment akf aid z seqZero segO segN
+        → lent t left ≡ takenAs (formOf h) r h msg
+    unfolding takenAs
+    form-access-segment {akf} {aid} {z} k ef =
+        let es : szmic ≡ z = ez ∙ ap szmicOf ef in
+        rw (← e, k, ← es, ← eq, ← eo, ← en) et
 
-  pub form-control-segment :
-      (opcode seqZero segO segN : ℕ) → f ≡ form.ControlSegment opcode seqZero segO segN
-      → lent t left ≡ segmented r h false seqZero segO segN msg → lent t left ≡ takenAs (formOf h) r h msg
-  unfolding takenAs
-  form-control-segment opcode seqZero segO segN k et = rw (← e, k) et
+    pub form-control-segment :
+        {opcode : ℕ} → f ≡ form.ControlSegment opcode seqZero segO segN → f' ≡ form.ControlSegment opcode seqZero segO segN
+        → lent t left ≡ takenAs (formOf h) r h msg
+    unfolding takenAs
+    form-control-segment k ef =
+        let es : szmic ≡ false = ez ∙ ap szmicOf ef in
+        rw (← e, k, ← es, ← eq, ← eo, ← en) et
 
-pub ruleset form-rules = (form-wrong, form-access, form-control, form-acknowledgement, form-access-segment, form-control-segment)
+pub ruleset form-rules = (form-wrong, form-access, form-control, form-acknowledgement)
 
 -- ---- 6
 module _ (r : Receiver) (h : Header) (msg : List ℕ) (ours : Bool) (e : ours ≡ forNode (r .node) (h .dst)) (t : Taken) where

@@ -50,6 +50,15 @@ relayed node h fwd =
     if forwards (node .relay) (isLocal node (h .dst)) h then lent (sealedLength (f .answer)) (f .buffer) else
     lent 0 fwd
 
+-- SZMIC; only an access segment has it
+abbrev pub szmicOf : Form → Bool
+szmicOf form.Wrong = false
+szmicOf (form.Access akf aid) = false
+szmicOf (form.AccessSegment akf aid szmic seqZero segO segN) = szmic
+szmicOf (form.Control opcode) = false
+szmicOf (form.ControlSegment opcode seqZero segO segN) = false
+szmicOf (form.Acknowledgement obo seqZero bits) = false
+
 -- 7: transport form is wrong; else by the form
 unfoldable pub takenAs : Form → Receiver → Header → List ℕ → Lent Taken
 takenAs form.Wrong r h msg = lent (refusedAt r refusal.WrongForm 0) msg

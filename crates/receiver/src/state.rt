@@ -22,37 +22,17 @@ pub struct Receiver {
 pub(crate) fn with_cache(r: Receiver, cache: Cache) -> Receiver
     ensures { λ q. ⌜ q ≡ withCache r cache ⌝ }
 {
-    let node = r.node;
-    let next = r.next;
-    let replay = r.replay;
-    let sessions = r.sessions;
-    let out = r.out;
-    Receiver {
-        node,
-        next,
-        cache,
-        replay,
-        sessions,
-        out,
-    }
+    let mut q = r;
+    q.cache = cache;
+    q
 }
 
 pub(crate) fn with_replay(r: Receiver, replay: [Entry; 32]) -> Receiver
     ensures { λ q. ⌜ q ≡ withReplay r replay ⌝ }
 {
-    let node = r.node;
-    let next = r.next;
-    let cache = r.cache;
-    let sessions = r.sessions;
-    let out = r.out;
-    Receiver {
-        node,
-        next,
-        cache,
-        replay,
-        sessions,
-        out,
-    }
+    let mut q = r;
+    q.replay = replay;
+    q
 }
 
 pub(crate) fn with_session(r: Receiver, slot: usize, s: Session) -> Receiver
@@ -68,17 +48,7 @@ pub(crate) fn with_session(r: Receiver, slot: usize, s: Session) -> Receiver
 pub fn with_outgoing(r: Receiver, out: Outgoing) -> Receiver
     ensures { λ q. ⌜ q ≡ withOutgoing r out ⌝ }
 {
-    let node = r.node;
-    let next = r.next;
-    let cache = r.cache;
-    let replay = r.replay;
-    let sessions = r.sessions;
-    Receiver {
-        node,
-        next,
-        cache,
-        replay,
-        sessions,
-        out,
-    }
+    let mut q = r;
+    q.out = out;
+    q
 }

@@ -3,3 +3,4 @@ pub mod Onto
 pub mod Blocks
 pub mod Mac
 pub mod Open
+pub mod HearingLaws

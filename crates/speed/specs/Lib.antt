@@ -2,3 +2,4 @@
 pub mod Blocks
 pub mod Mac
 pub mod Open
+pub mod Hearing

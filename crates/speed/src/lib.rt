@@ -1,4 +1,6 @@
-// What bench/ times: blocks of AES-128, CMAC and CCM opening, on plain numbers and byte buffers. Each call expands its key once.
+// What bench/ times: blocks of AES-128, CMAC and CCM opening, and hearing, on plain numbers and byte buffers. Each call expands its key once.
+mod hearing;
+
 ghost use mathlib.Core.Path.{_≡_};
 ghost use lib.ListN.{length};
 ghost use Rattle.common.specs.Lent.{lent};

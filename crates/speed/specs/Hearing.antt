@@ -1,0 +1,100 @@
+-- One PDU heard again and again, each time by a receiver that was just set up; and its network layer opened as often.
+--   receiverOf keys first iv                        the receiver
+--   heardOver r pdu slot msg n                      the count over n hearings, and the message buffer after them
+--   heardTimes keys first iv pdu slot msg times     what a call of `speed_hear` leaves
+--   openedOver node pdu n                           how many of n openings open the PDU
+--   openedTimes keys first iv pdu times             what a call of `speed_open_pdu` answers
+use mathlib.Core.Bool.{false, not}
+use mathlib.Core.List.{List}
+use Prim.Native.Nat.{ℕ, zero, suc, _+_, _*_, _%_}
+use lib.Dec.{eqb}
+use lib.ListN.{length, take, drop, replicate}
+use Rattle.common.specs.Choice.{if_then_else_}
+use Rattle.common.specs.Lent.{Lent, lent}
+use Rattle.memory.specs.Decision.{sessionAt}
+use Rattle.network.specs.declared.opening.Answer.the-variants as network
+use Rattle.network.specs.declared.opening.Answer as opening-answer
+use Rattle.network.specs.Opening.{opening}
+use Rattle.node.specs.declared.addresses.Node.{Node}
+use Rattle.node.specs.declared.setup.Setup.{Setup}
+use Rattle.receiver.specs.declared.answer.Answer.{Answer}
+use Rattle.receiver.specs.declared.answer.Answer.the-variants.{Refused, Stored, Repeated, Access, Control, Acknowledgement}
+use Rattle.receiver.specs.declared.state.Receiver.{Receiver}
+use Rattle.receiver.specs.Fresh.{settingUp}
+use Rattle.receiver.specs.Hearing.{hearing}
+
+-- key i, from 0, of those in a row
+abbrev pub keyAt : List ℕ → ℕ → List ℕ
+keyAt keys i = take 16 (drop (16 * i) keys)
+
+-- a network key, an application key bound to it and a device key; one element, whose next SEQ is 0; no groups, relay off
+abbrev pub setupOf : List ℕ → ℕ → ℕ → Setup
+setupOf keys first iv =
+    record {
+      networks = 1;
+      keys = replicate 4 (record { octets = keyAt keys 0 });
+      applications = 1;
+      secrets = replicate 4 (record { key = keyAt keys 1; network = 0 });
+      device = keyAt keys 2;
+      first = first;
+      elements = 1;
+      next = replicate 8 0;
+      listened = 0;
+      groups = replicate 8 0;
+      iv = iv;
+      flag = false;
+      relay = false;
+    }
+
+-- the receiver so set up; where setup refuses, one of zeros, which refuses every PDU
+abbrev pub receiverOf : List ℕ → ℕ → ℕ → Receiver
+receiverOf keys first iv = settingUp (setupOf keys first iv) .receiver
+
+-- 1 for an answer that is no refusal
+abbrev pub accepted : Answer → ℕ
+accepted (Refused n) = 0
+accepted (Stored src auth bits) = 1
+accepted (Repeated src auth bits) = 1
+accepted (Access src dst network key pair len) = 1
+accepted (Control src dst network opcode pair len) = 1
+accepted (Acknowledgement src bits effect) = 1
+
+-- 1 for a session slot that its source holds
+abbrev pub held : ℕ → ℕ
+held src = if eqb src 0 then 0 else 1
+
+-- n hearings, each by the receiver r; the message buffer goes from one to the next. Each that is not refused counts, and each after which the slot is held
+unfoldable pub heardOver : Receiver → List ℕ → ℕ → List ℕ → ℕ → Lent ℕ
+heardOver r pdu slot msg zero = lent 0 msg
+heardOver r pdu slot msg (suc n) =
+    let before = heardOver r pdu slot msg n in
+    let o = hearing r pdu (replicate 29 0) (before .buffer) in
+    lent
+    (before .answer + (accepted (o .heard .answer) + held (sessionAt (o .heard .receiver .sessions) slot .src)))
+    (o .message)
+
+-- nothing is heard where keys is not 48 octets
+unfoldable pub heardTimes : List ℕ → ℕ → ℕ → List ℕ → ℕ → List ℕ → ℕ → Lent ℕ
+heardTimes keys first iv pdu slot msg times =
+    if not (eqb (length keys) 48) then lent 0 msg else
+    heardOver (receiverOf keys first iv) pdu (slot % 8) msg times
+
+-- 1 for a PDU that was opened
+abbrev pub opened : opening-answer.Answer → ℕ
+opened network.Opened = 1
+opened network.WrongLength = 0
+opened network.NoCandidate = 0
+opened network.NotAuthentic = 0
+opened network.WrongAddress = 0
+
+-- how many of n openings open the PDU
+unfoldable pub openedOver : Node → List ℕ → ℕ → ℕ
+openedOver node pdu zero = 0
+openedOver node pdu (suc n) =
+    openedOver node pdu n + opened (opening (node .keys) (node .networks) (node .iv) pdu .answer)
+
+-- none where keys is not 48 octets
+unfoldable pub openedTimes : List ℕ → ℕ → ℕ → List ℕ → ℕ → ℕ
+openedTimes keys first iv pdu times =
+    if not (eqb (length keys) 48) then 0 else
+    openedOver (receiverOf keys first iv .node) pdu times
