@@ -3,3 +3,4 @@ pub mod Examples
 pub mod Refusal
 pub mod Speaking
 pub mod Determinacy
+pub mod Invariant
