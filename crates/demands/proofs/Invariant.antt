@@ -1,7 +1,7 @@
--- The sending calls keep the invariant. They change an element's next SEQ, which rises by one from at most 0xFFFFFF, and the outgoing message, of which the invariant says
+-- Every call keeps the invariant: hearing and giving up by the receiver's own laws. The sending calls change an element's next SEQ, which rises by one from at most 0xFFFFFF, and the outgoing message, of which the invariant says
 -- nothing; all else of the receiver stays. So each call's chain of tests ends in a good receiver. Assumes nothing.
 use mathlib.Core.Bool.{Bool, true, false}
-use mathlib.Core.List.{List}
+use mathlib.Core.List.{List, [], _∷_}
 use mathlib.Core.Path.{_≡_, sym, ap, _∙_, subst}
 use Prim.Native.Nat.{ℕ, _+_, _≤_, _<_, min}
 use native.Mathlib.Omega.{arith}
@@ -28,6 +28,8 @@ use Rattle.receiver.specs.declared.give_up.GivenUp.{GivenUp}
 use Rattle.receiver.specs.declared.state.Receiver.{Receiver}
 use Rattle.receiver.specs.Good.{Good}
 use Rattle.receiver.specs.State.{withOutgoing}
+use Rattle.receiver.specs.Fresh.{settingUp}
+use Rattle.receiver.proofs.Good.{good-fresh, good-hear, good-give-up}
 use Rattle.receiver.proofs.GoodState.{good-outgoing}
 use Rattle.sending.specs.declared.answer.Spoken.{Spoken}
 use Rattle.sending.specs.declared.request.Request.{Request}
@@ -41,7 +43,9 @@ use Rattle.sending.specs.Control as control
 use Rattle.sending.specs.Segment.{segmentHeader, startedAs, starting, elementOf, segmentAllowed, sendingSegment}
 use Rattle.sending.specs.Stop.{stopping}
 use Rattle.sending.specs.Transmission.{nextSeq, withNext, stamped, noTransmission, sentAs, transmitted, sendingIv}
-use Rattle.demands.specs.Invariant.{GoodAccess, GoodControl, GoodSegment, GoodAcknowledge, GoodStop}
+use Rattle.demands.proofs.Walks.{walk-access, walk-control, walk-segment, walk-acknowledge}
+use Rattle.demands.specs.Call.{Call, Hear, GiveUp, SendAccess, SendControl, SendSegment, Acknowledge, Stop, step, left, after}
+use Rattle.demands.specs.Invariant.{GoodStep, GoodAfter}
 
 -- ---- a next SEQ that rises
 next-raised : (elements : ℕ) (next : List ℕ) (element : ℕ) → NextWell elements next → getD next element 0 ≤ 0xFFFFFF → NextWell elements (set next element (getD next element 0 + 1))
@@ -121,68 +125,26 @@ module _ (r : Receiver) (buf : List ℕ) (g : Good r) where
       good-started-as o (t .answer .answer) (t .answer .receiver) (good-transmitted r g element (segmentHeader o 0) buf)
 
 -- ---- the calls
-pub good-access : GoodAccess
-unfolding sendingAccess sayingAccess
-good-access r q key szmic payload buf g =
-    let k = keyed (r .node) key in
-    let e = envelopeOf r q k szmic in
-    let h = wholeHeader e q k payload in
-    let t = transmitted r (q .element) h buf in
-    let o = outgoingOf e q k payload in
-    by-choice GoodBy (ltb (length buf) 29) {x = lent (refusedAt r refusal.ShortBuffer) buf}
-    {y = if accessAllowed r q key szmic (length payload) then sayingAccess r q key szmic payload buf else lent (refusedAt r refusal.OutsideRules) buf} (λ _. g)
-    (λ _. by-choice GoodBy (accessAllowed r q key szmic (length payload)) {x = sayingAccess r q key szmic payload buf} {y = lent (refusedAt r refusal.OutsideRules) buf}
-    (λ _. by-choice GoodBy (isWhole szmic (length payload)) {x = lent (spoken (t .answer)) (t .buffer)} {y = starting r (q .element) o buf}
-    (λ _. good-said r buf g (q .element) h) (λ _. good-started r buf g (q .element) o))
-    (λ _. g))
-
-pub good-control : GoodControl
-unfolding control.sendingControl control.sayingControl
-good-control r q opcode parameters buf g =
-    let h = control.wholeHeader (sendingIv (r .node)) q opcode parameters in
-    let t = transmitted r (q .element) h buf in
-    let o = control.outgoingOf r q opcode parameters in
-    by-choice GoodBy (ltb (length buf) 29) {x = lent (refusedAt r refusal.ShortBuffer) buf}
-    {y = if control.controlAllowed r q opcode (length parameters) then control.sayingControl r q opcode parameters buf else lent (refusedAt r refusal.OutsideRules) buf} (λ _. g)
-    (λ _. by-choice GoodBy (control.controlAllowed r q opcode (length parameters)) {x = control.sayingControl r q opcode parameters buf}
-    {y = lent (refusedAt r refusal.OutsideRules) buf}
-    (λ _. by-choice GoodBy (leb (length parameters) 11) {x = lent (spoken (t .answer)) (t .buffer)} {y = starting r (q .element) o buf}
-    (λ _. good-said r buf g (q .element) h) (λ _. good-started r buf g (q .element) o))
-    (λ _. g))
-
-pub good-segment : GoodSegment
-unfolding sendingSegment
-good-segment r n buf g =
-    let element = elementOf (r .node) (r .out .src) in
-    let h = segmentHeader (r .out) n in
-    let t = transmitted r element h buf in
-    let said = lent (spoken (t .answer)) (t .buffer) in
-    let no = lent (refusedAt r refusal.OutsideRules) buf in
-    by-choice GoodBy (ltb (length buf) 29) {x = lent (refusedAt r refusal.ShortBuffer) buf}
-    {y = if ltb element 8 then (if segmentAllowed r element n then said else no) else no} (λ _. g)
-    (λ _. by-choice GoodBy (ltb element 8) {x = if segmentAllowed r element n then said else no} {y = no}
-    (λ _. by-choice GoodBy (segmentAllowed r element n) {x = said} {y = no} (λ _. good-said r buf g element h) (λ _. g))
-    (λ _. g))
-
-pub good-acknowledge : GoodAcknowledge
-unfolding acknowledging sayingAcknowledgement
-good-acknowledge r net src buf g =
-    let c = chosen (r .replay) (r .sessions) src in
-    let element = elementOf (r .node) (c .dst) in
-    let h = acknowledgementHeader (sendingIv (r .node)) net src c in
-    let t = transmitted r element h buf in
-    let said = lent (spoken (t .answer)) (t .buffer) in
-    let no = lent (refusedAt r refusal.OutsideRules) buf in
-    by-choice GoodBy (ltb (length buf) 29) {x = lent (refusedAt r refusal.ShortBuffer) buf}
-    {y = if ltb net (min (r .node .networks) 4) then (if isUnicast (c .dst) then (if ltb element 8 then said else no) else no) else no} (λ _. g)
-    (λ _. by-choice GoodBy (ltb net (min (r .node .networks) 4)) {x = if isUnicast (c .dst) then (if ltb element 8 then said else no) else no} {y = no}
-    (λ _. by-choice GoodBy (isUnicast (c .dst)) {x = if ltb element 8 then said else no} {y = no}
-    (λ _. by-choice GoodBy (ltb element 8) {x = said} {y = no} (λ _. good-said r buf g element h) (λ _. g))
-    (λ _. g))
-    (λ _. g))
-
-pub good-stop : GoodStop
+stopped : (r : Receiver) → Good r → Good (stopping r .receiver)
 unfolding stopping
-good-stop r g =
+stopped r g =
     by-choice (λ (u : GivenUp). Good (u .receiver)) (eqb (r .out .src) 0) {x = record { answer = give-up.Refused refusal.OutsideRules; receiver = r }}
     {y = record { answer = give-up.Done; receiver = withOutgoing r noOutgoing }} (λ _. g) (λ _. good-outgoing r g noOutgoing)
+
+pub good-step : GoodStep
+good-step r (Hear pdu fwd msg) g = good-hear r pdu fwd msg g
+good-step r (GiveUp src) g = good-give-up r src g
+good-step r (SendAccess q key szmic payload buf) g =
+    walk-access r buf GoodBy (λ _. g) q key szmic payload (λ _ _. good-said r buf g (q .element) _) (λ _ _. good-started r buf g (q .element) _)
+good-step r (SendControl q opcode parameters buf) g =
+    walk-control r buf GoodBy (λ _. g) q opcode parameters (λ _ _. good-said r buf g (q .element) _) (λ _ _. good-started r buf g (q .element) _)
+good-step r (SendSegment n buf) g = walk-segment r buf GoodBy (λ _. g) n (λ _ _. good-said r buf g _ (segmentHeader (r .out) n))
+good-step r (Acknowledge net src buf) g = walk-acknowledge r buf GoodBy (λ _. g) net src (λ _. good-said r buf g _ _)
+good-step r Stop g = stopped r g
+
+good-run : (r : Receiver) (l : List Call) → Good r → Good (after r l)
+good-run r [] g = g
+good-run r (c ∷ l) g = good-run (left (step r c)) l (good-step r c g)
+
+pub good-after : GoodAfter
+good-after s l e = good-run (settingUp s .receiver) l (good-fresh s e)

@@ -1,6 +1,9 @@
 -- Each file proves the statements of the file of the same name in specs/.
+pub mod Walks
 pub mod Examples
 pub mod Refusal
 pub mod Speaking
 pub mod Determinacy
 pub mod Invariant
+pub mod Hears
+pub mod NeverTwice

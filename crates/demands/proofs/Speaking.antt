@@ -45,6 +45,7 @@ use Rattle.sending.specs.Control as control
 use Rattle.sending.specs.Segment.{segmentHeader, startedAs, starting, elementOf, segmentAllowed, sendingSegment}
 use Rattle.sending.specs.Stop.{stopping}
 use Rattle.sending.specs.Transmission.{nextSeq, stamped, noTransmission, sentAs, transmitted, sendingIv}
+use Rattle.demands.proofs.Walks.{saying, walk-access, walk-control, walk-segment, walk-acknowledge}
 use Rattle.demands.specs.Speaking.{RefusalLeaves, AccessLeaves, ControlLeaves, SegmentLeaves, AcknowledgeLeaves, GiveUpLeaves, StopLeaves}
 
 -- ---- what an answer leaves, by its case
@@ -114,77 +115,26 @@ module _ (r : Receiver) (buf : List ℕ) where
       let t = transmitted r element (segmentHeader o 0) buf in
       left-started-as o (t .answer .answer) (t .answer .receiver) (t .buffer) (unsent element (segmentHeader o 0))
 
-  refused-short : LeftBy r buf (lent (refusedAt r refusal.ShortBuffer) buf)
-  refused-short = (refl, refl)
+  refused : (n : Refusal) → LeftBy r buf (lent (refusedAt r n) buf)
+  refused n = (refl, refl)
 
-  refused-outside : LeftBy r buf (lent (refusedAt r refusal.OutsideRules) buf)
-  refused-outside = (refl, refl)
+  said : (element : ℕ) (h : Header) → LeftBy r buf (saying r element h buf)
+  said element h = left-said (transmitted r element h buf) (unsent element h)
 
   -- ---- the calls
   left-access : (q : Request) (key : MessageKey) (szmic : Bool) (payload : List ℕ) → LeftBy r buf (sendingAccess r q key szmic payload buf)
-  unfolding sendingAccess sayingAccess
   left-access q key szmic payload =
-      let k = keyed (r .node) key in
-      let e = envelopeOf r q k szmic in
-      let t = transmitted r (q .element) (wholeHeader e q k payload) buf in
-      by-choice (LeftBy r buf) (ltb (length buf) 29) {x = lent (refusedAt r refusal.ShortBuffer) buf}
-      {y = if accessAllowed r q key szmic (length payload) then sayingAccess r q key szmic payload buf else lent (refusedAt r refusal.OutsideRules) buf}
-      (λ _. refused-short)
-      (λ _. by-choice (LeftBy r buf) (accessAllowed r q key szmic (length payload)) {x = sayingAccess r q key szmic payload buf}
-      {y = lent (refusedAt r refusal.OutsideRules) buf}
-      (λ _. by-choice (LeftBy r buf) (isWhole szmic (length payload)) {x = lent (spoken (t .answer)) (t .buffer)}
-      {y = starting r (q .element) (outgoingOf e q k payload) buf}
-      (λ _. left-said t (unsent (q .element) (wholeHeader e q k payload))) (λ _. left-started (q .element) (outgoingOf e q k payload)))
-      (λ _. refused-outside))
+      walk-access r buf (LeftBy r buf) refused q key szmic payload (λ _ _. said (q .element) _) (λ _ _. left-started (q .element) _)
 
   left-control : (q : Request) (opcode : ℕ) (parameters : List ℕ) → LeftBy r buf (control.sendingControl r q opcode parameters buf)
-  unfolding control.sendingControl control.sayingControl
   left-control q opcode parameters =
-      let h = control.wholeHeader (sendingIv (r .node)) q opcode parameters in
-      let t = transmitted r (q .element) h buf in
-      let o = control.outgoingOf r q opcode parameters in
-      by-choice (LeftBy r buf) (ltb (length buf) 29) {x = lent (refusedAt r refusal.ShortBuffer) buf}
-      {y = if control.controlAllowed r q opcode (length parameters) then control.sayingControl r q opcode parameters buf else lent (refusedAt r refusal.OutsideRules) buf}
-      (λ _. refused-short)
-      (λ _. by-choice (LeftBy r buf) (control.controlAllowed r q opcode (length parameters)) {x = control.sayingControl r q opcode parameters buf}
-      {y = lent (refusedAt r refusal.OutsideRules) buf}
-      (λ _. by-choice (LeftBy r buf) (leb (length parameters) 11) {x = lent (spoken (t .answer)) (t .buffer)} {y = starting r (q .element) o buf}
-      (λ _. left-said t (unsent (q .element) h)) (λ _. left-started (q .element) o))
-      (λ _. refused-outside))
+      walk-control r buf (LeftBy r buf) refused q opcode parameters (λ _ _. said (q .element) _) (λ _ _. left-started (q .element) _)
 
   left-segment : (n : ℕ) → LeftBy r buf (sendingSegment r n buf)
-  unfolding sendingSegment
-  left-segment n =
-      let element = elementOf (r .node) (r .out .src) in
-      let h = segmentHeader (r .out) n in
-      let t = transmitted r element h buf in
-      by-choice (LeftBy r buf) (ltb (length buf) 29) {x = lent (refusedAt r refusal.ShortBuffer) buf}
-      {y = if ltb element 8 then (if segmentAllowed r element n then lent (spoken (t .answer)) (t .buffer) else lent (refusedAt r refusal.OutsideRules) buf) else lent (refusedAt r refusal.OutsideRules) buf}
-      (λ _. refused-short)
-      (λ _. by-choice (LeftBy r buf) (ltb element 8)
-      {x = if segmentAllowed r element n then lent (spoken (t .answer)) (t .buffer) else lent (refusedAt r refusal.OutsideRules) buf}
-      {y = lent (refusedAt r refusal.OutsideRules) buf}
-      (λ _. by-choice (LeftBy r buf) (segmentAllowed r element n) {x = lent (spoken (t .answer)) (t .buffer)} {y = lent (refusedAt r refusal.OutsideRules) buf}
-      (λ _. left-said t (unsent element h)) (λ _. refused-outside))
-      (λ _. refused-outside))
+  left-segment n = walk-segment r buf (LeftBy r buf) refused n (λ _ _. said _ (segmentHeader (r .out) n))
 
   left-acknowledgement : (network src : ℕ) → LeftBy r buf (acknowledging r network src buf)
-  unfolding acknowledging sayingAcknowledgement
-  left-acknowledgement network src =
-      let c = chosen (r .replay) (r .sessions) src in
-      let element = elementOf (r .node) (c .dst) in
-      let h = acknowledgementHeader (sendingIv (r .node)) network src c in
-      let t = transmitted r element h buf in
-      let no = lent (refusedAt r refusal.OutsideRules) buf in
-      let said = lent (spoken (t .answer)) (t .buffer) in
-      by-choice (LeftBy r buf) (ltb (length buf) 29) {x = lent (refusedAt r refusal.ShortBuffer) buf}
-      {y = if ltb network (min (r .node .networks) 4) then (if isUnicast (c .dst) then (if ltb element 8 then said else no) else no) else no}
-      (λ _. refused-short)
-      (λ _. by-choice (LeftBy r buf) (ltb network (min (r .node .networks) 4)) {x = if isUnicast (c .dst) then (if ltb element 8 then said else no) else no} {y = no}
-      (λ _. by-choice (LeftBy r buf) (isUnicast (c .dst)) {x = if ltb element 8 then said else no} {y = no}
-      (λ _. by-choice (LeftBy r buf) (ltb element 8) {x = said} {y = no} (λ _. left-said t (unsent element h)) (λ _. refused-outside))
-      (λ _. refused-outside))
-      (λ _. refused-outside))
+  left-acknowledgement network src = walk-acknowledge r buf (LeftBy r buf) refused network src (λ _. said _ _)
 
 pub access-leaves : AccessLeaves
 access-leaves r q key szmic payload buf = leaves r buf (sendingAccess r q key szmic payload buf) (left-access r buf q key szmic payload)

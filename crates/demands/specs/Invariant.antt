@@ -1,35 +1,17 @@
--- The receiver's invariant is kept by every call; that setup makes it true, and that hearing and giving up a session keep it, stands in receiver/specs/Good.
-use mathlib.Core.Bool.{Bool}
+-- The receiver's invariant is kept by every call, so it holds of all that setup makes, whatever was called since.
 use mathlib.Core.List.{List}
-use Prim.Native.Nat.{ℕ}
-use Rattle.transport.specs.declared.securing.MessageKey.{MessageKey}
+use mathlib.Core.Path.{_≡_}
+use Rattle.node.specs.declared.setup.Setup.{Setup}
+use Rattle.receiver.specs.declared.fresh.Answer.the-variants.{Ready}
 use Rattle.receiver.specs.declared.state.Receiver.{Receiver}
+use Rattle.receiver.specs.Fresh.{settingUp}
 use Rattle.receiver.specs.Good.{Good}
-use Rattle.sending.specs.declared.request.Request.{Request}
-use Rattle.sending.specs.Access.{sendingAccess}
-use Rattle.sending.specs.Acknowledge.{acknowledging}
-use Rattle.sending.specs.Control.{sendingControl}
-use Rattle.sending.specs.Segment.{sendingSegment}
-use Rattle.sending.specs.Stop.{stopping}
+use Rattle.demands.specs.Call.{Call, step, left, after}
 
--- kept by sending an access message
-abbrev pub GoodAccess : Type 0
-GoodAccess =
-    (r : Receiver) (q : Request) (key : MessageKey) (szmic : Bool) (payload buf : List ℕ) → Good r
-    → Good (sendingAccess r q key szmic payload buf .answer .receiver)
+-- kept by every call
+abbrev pub GoodStep : Type 0
+GoodStep = (r : Receiver) (c : Call) → Good r → Good (left (step r c))
 
--- by sending a control message
-abbrev pub GoodControl : Type 0
-GoodControl = (r : Receiver) (q : Request) (opcode : ℕ) (parameters buf : List ℕ) → Good r → Good (sendingControl r q opcode parameters buf .answer .receiver)
-
--- by sending a named segment
-abbrev pub GoodSegment : Type 0
-GoodSegment = (r : Receiver) (n : ℕ) (buf : List ℕ) → Good r → Good (sendingSegment r n buf .answer .receiver)
-
--- by acknowledging
-abbrev pub GoodAcknowledge : Type 0
-GoodAcknowledge = (r : Receiver) (net src : ℕ) (buf : List ℕ) → Good r → Good (acknowledging r net src buf .answer .receiver)
-
--- by giving up the outgoing message
-abbrev pub GoodStop : Type 0
-GoodStop = (r : Receiver) → Good r → Good (stopping r .receiver)
+-- true after setup and any list of calls
+abbrev pub GoodAfter : Type 0
+GoodAfter = (s : Setup) (l : List Call) → settingUp s .answer ≡ Ready → Good (after (settingUp s .receiver) l)

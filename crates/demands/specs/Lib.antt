@@ -1,6 +1,8 @@
 -- The statements that the receiver is built for, and nothing else.
+pub mod Call
 pub mod Examples
 pub mod Refusal
 pub mod Speaking
 pub mod Determinacy
+pub mod NeverTwice
 pub mod Invariant

@@ -1,0 +1,234 @@
+-- Sequence numbers rise. A call that makes a PDU used its element's next SEQ and left that one greater by one; every other call, and every other element, leaves a next SEQ that has
+-- not fallen. So all that is used later of that element lies above: what a list of calls uses begins at the next SEQ that it finds. Two equal uses
+-- would be one below itself. Assumes nothing.
+use mathlib.Core.Bool.{Bool, true, false, _&&_, false≢true, true≢false}
+use mathlib.Core.List.{List, [], _∷_, _++_}
+use mathlib.Core.Path.{_≡_, refl, sym, ap, _∙_, subst}
+use Prim.Native.Nat.{ℕ, _+_, _≤_, _<_, min}
+use native.Mathlib.Omega.{arith}
+use borrow.Author.Tests.{ltb-true}
+use lib.Dec.{eqb, leb, ltb}
+use lib.ListN.{length, getD}
+use Rattle.common.specs.Choice.{if_then_else_}
+use Rattle.common.specs.Lent.{Lent, lent}
+use Rattle.common.proofs.Tests.{by-test, by-choice, and-first}
+use Rattle.network.specs.declared.header.Header.{Header}
+use Rattle.network.specs.declared.sealing.Answer.the-variants.{Sealed}
+use Rattle.network.specs.Candidates.{keyAt}
+use Rattle.network.specs.Sealing.{sealing}
+use Rattle.transport.specs.declared.securing.MessageKey.{MessageKey}
+use Rattle.memory.specs.declared.outgoing.Outgoing.{Outgoing}
+use Rattle.memory.specs.Outgoing.{noOutgoing}
+use Rattle.memory.specs.Session.{noSession, sessionPlace}
+use Rattle.receiver.specs.declared.give_up.Answer.the-variants as give-up
+use Rattle.receiver.specs.declared.give_up.GivenUp.{GivenUp}
+use Rattle.receiver.specs.declared.answer.Refusal.{Refusal}
+use Rattle.receiver.specs.declared.answer.Refusal.the-variants as refusal
+use Rattle.receiver.specs.declared.state.Receiver.{Receiver}
+use Rattle.receiver.specs.GiveUp.{givingUp}
+use Rattle.receiver.specs.Good.{Good}
+use Rattle.receiver.specs.State.{withSession, withOutgoing}
+use Rattle.sending.specs.declared.answer.Answer.{Answer}
+use Rattle.sending.specs.declared.answer.Answer.the-variants as answer
+use Rattle.sending.specs.declared.answer.Spoken.{Spoken}
+use Rattle.sending.specs.declared.request.Request.{Request}
+use Rattle.sending.specs.declared.transmission.Transmission.{Transmission}
+use Rattle.sending.specs.declared.transmission.Transmission.the-variants.{Sent, NoSeqLeft, Unsealed}
+use Rattle.sending.specs.declared.transmission.Transmitted.{Transmitted}
+use Rattle.sending.specs.Access.{accessAllowed}
+use Rattle.sending.specs.Acknowledge.{chosen}
+use Rattle.sending.specs.Answer.{refusedAt, spokenAs, spoken}
+use Rattle.sending.specs.Control as control
+use Rattle.sending.specs.NewSeq.{isSent}
+use Rattle.sending.specs.Request.{requestAllowed}
+use Rattle.sending.specs.Segment.{segmentHeader, startedAs, starting, elementOf}
+use Rattle.sending.specs.Stop.{stopping}
+use Rattle.sending.specs.Transmission.{addressOf, nextSeq, stamped, transmitted}
+use Rattle.sending.proofs.NewSeq.{uses-next, raises-next, never-falls}
+use Rattle.demands.specs.Call.{Call, Hear, GiveUp, SendAccess, SendControl, SendSegment, Acknowledge, Stop, Outcome, Heard, Said, Ended, step, left}
+use Rattle.demands.specs.NeverTwice.{Use, speaker, madeBy, made, used, uses, lentFor, lengthBy, Carries, Carried, AllAbove, Rising, NoneEqual, Distinct, Rise, NeverTwice}
+use Rattle.demands.proofs.Invariant.{good-step}
+use Rattle.demands.proofs.Hears.{fixed-heard}
+use Rattle.demands.proofs.Walks.{saying, walk-access, walk-control, walk-segment, walk-acknowledge}
+
+-- ---- a call that sends
+module _ (r : Receiver) (element : ℕ) (buf : List ℕ) where
+  -- the PDU was sealed from a header with the element's address and next SEQ, which is then used
+  pub record Takes (s : Lent Spoken) : Type 0 where
+    pub header : Header
+    pub from-element : header .src ≡ addressOf (r .node) element
+    pub with-next : header .seq ≡ nextSeq r element
+    pub made-of : sealing (keyAt (r .node .keys) (header .key)) header buf ≡ lent (Sealed (lengthBy (s .answer .answer))) (s .buffer)
+    pub raised : element < length (r .next) → nextSeq (s .answer .receiver) element ≡ nextSeq r element + 1
+
+  pub record Speaks (s : Lent Spoken) : Type 0 where
+    pub rises : (any : ℕ) → nextSeq r any ≤ nextSeq (s .answer .receiver) any
+    pub takes : madeBy (s .answer .answer) ≡ true → Takes s
+    pub within : madeBy (s .answer .answer) ≡ true → element < 8
+
+  refused : (n : Refusal) → Speaks (lent (refusedAt r n) buf)
+  refused n = record { rises = λ any. omega arith; takes = λ e. absurd (false≢true e); within = λ e. absurd (false≢true e) }
+
+  module _ (low : element < 8) (h : Header) where
+    abbrev t : Lent Transmitted
+    t = transmitted r element h buf
+
+    -- the answer a tells of the PDU of this transmission, which left q
+    takes-sent : (a : Answer) (q : Receiver) (len : ℕ) → t .answer .answer ≡ Sent len → lengthBy a ≡ len → q .next ≡ t .answer .receiver .next
+        → Takes (lent (record { answer = a; receiver = q }) (t .buffer))
+    unfolding stamped
+    takes-sent a q len e el en =
+        let u = uses-next r element h buf len e in
+        record {
+          header = stamped r element h;
+          from-element = refl;
+          with-next = u .stamp;
+          made-of = rw el (u .made);
+          raised = λ k. ap (λ (l : List ℕ). getD l element 0) en ∙ raises-next r element h buf k (rw e refl);
+        }
+
+    falls-not : (any : ℕ) → nextSeq r any ≤ nextSeq (t .answer .receiver) any
+    falls-not = never-falls r element h buf
+
+    spoken-as : (a : Transmission) → t .answer .answer ≡ a → Speaks (lent (spokenAs a (t .answer .receiver)) (t .buffer))
+    spoken-as (Sent len) e = record { rises = falls-not; takes = λ _. takes-sent _ (t .answer .receiver) len e refl refl; within = λ _. low }
+    spoken-as NoSeqLeft e = record { rises = falls-not; takes = λ f. absurd (false≢true f); within = λ _. low }
+    spoken-as Unsealed e = record { rises = falls-not; takes = λ f. absurd (false≢true f); within = λ _. low }
+
+    said : Speaks (saying r element h buf)
+    unfolding spoken
+    said = spoken-as (t .answer .answer) refl
+
+  started-as : (low : element < 8) (o : Outgoing) (a : Transmission) → (let t = transmitted r element (segmentHeader o 0) buf in
+      t .answer .answer ≡ a → Speaks (lent (startedAs a (t .answer .receiver) o) (t .buffer)))
+  started-as low o (Sent len) e =
+      let h = segmentHeader o 0 in
+      record { rises = falls-not low h; takes = λ _. takes-sent low h _ (withOutgoing (transmitted r element h buf .answer .receiver) o) len e refl refl; within = λ _. low }
+  started-as low o NoSeqLeft e = record { rises = falls-not low (segmentHeader o 0); takes = λ f. absurd (false≢true f); within = λ _. low }
+  started-as low o Unsealed e = record { rises = falls-not low (segmentHeader o 0); takes = λ f. absurd (false≢true f); within = λ _. low }
+
+  started : (low : element < 8) (o : Outgoing) → Speaks (starting r element o buf)
+  unfolding starting
+  started low o = started-as low o _ refl
+
+-- ---- the calls
+-- the element of a request that is allowed is one of eight
+element-low : (r : Receiver) (q : Request) (rest : Bool) → requestAllowed (r .node) q && rest ≡ true → q .element < 8
+unfolding requestAllowed
+element-low r q rest e =
+    let a = and-first (requestAllowed (r .node) q) rest e in
+    let l = ltb-true (q .element) (min (r .node .elements) 8) (and-first (ltb (q .element) (min (r .node .elements) 8)) _ a) in
+    omega arith
+
+abbrev SpeaksBy : Receiver → Call → Outcome → Type 0
+SpeaksBy r c (Heard o) = (any : ℕ) → nextSeq r any ≤ nextSeq (o .heard .receiver) any
+SpeaksBy r c (Said s) = Speaks r (speaker r c) (lentFor c) s
+SpeaksBy r c (Ended g) = (any : ℕ) → nextSeq r any ≤ nextSeq (g .receiver) any
+
+same-next : (l m : List ℕ) → m ≡ l → (any : ℕ) → getD l any 0 ≤ getD m any 0
+same-next l m e any = let f = ap (λ (k : List ℕ). getD k any 0) e in omega arith
+
+given-next : (r : Receiver) (src : ℕ) → givingUp r src .receiver .next ≡ r .next
+unfolding givingUp
+given-next r src =
+    by-choice (λ (g : GivenUp). g .receiver .next ≡ r .next) (eqb src 0) (λ _. refl)
+    (λ _. by-choice (λ (g : GivenUp). g .receiver .next ≡ r .next) (ltb (sessionPlace (r .sessions) src) 8) (λ _. refl) (λ _. refl))
+
+stopped-next : (r : Receiver) → stopping r .receiver .next ≡ r .next
+unfolding stopping
+stopped-next r = by-choice (λ (g : GivenUp). g .receiver .next ≡ r .next) (eqb (r .out .src) 0) (λ _. refl) (λ _. refl)
+
+speaks : (r : Receiver) (c : Call) → SpeaksBy r c (step r c)
+unfolding accessAllowed control.controlAllowed
+speaks r (Hear pdu fwd msg) = same-next (r .next) _ (fixed-heard r fwd msg pdu .next-stays)
+speaks r (GiveUp src) = same-next (r .next) _ (given-next r src)
+speaks r (SendAccess q key szmic payload buf) =
+    let e = q .element in
+    walk-access r buf (Speaks r e buf) (refused r e buf) q key szmic payload (λ a _. said r e buf (element-low r q _ a) _)
+    (λ a _. started r e buf (element-low r q _ a) _)
+speaks r (SendControl q opcode parameters buf) =
+    let e = q .element in
+    walk-control r buf (Speaks r e buf) (refused r e buf) q opcode parameters (λ a _. said r e buf (element-low r q _ a) _)
+    (λ a _. started r e buf (element-low r q _ a) _)
+speaks r (SendSegment n buf) =
+    let e = elementOf (r .node) (r .out .src) in
+    walk-segment r buf (Speaks r e buf) (refused r e buf) n (λ low _. said r e buf low _)
+speaks r (Acknowledge net src buf) =
+    let e = elementOf (r .node) (chosen (r .replay) (r .sessions) src .dst) in
+    walk-acknowledge r buf (Speaks r e buf) (refused r e buf) net src (λ low. said r e buf low _)
+speaks r Stop = same-next (r .next) _ (stopped-next r)
+
+carried : (r : Receiver) (c : Call) (o : Outcome) → SpeaksBy r c o → step r c ≡ o → made o ≡ true → Carries r c
+carried r c (Heard o) s e m = absurd (false≢true m)
+carried r c (Ended g) s e m = absurd (false≢true m)
+carried r c (Said o) s e m =
+    let t = s .takes m in
+    record { header = t .header; from-speaker = t .from-element; with-next = t .with-next; sealed = rw e (t .made-of) }
+
+pub carries : Carried
+carries r c m = carried r c (step r c) (speaks r c) refl m
+
+-- ---- a list of calls
+-- no next SEQ falls, and the speaker's rises where a PDU is made
+module _ (r : Receiver) (c : Call) where
+  rises-by : (o : Outcome) → SpeaksBy r c o → (any : ℕ) → nextSeq r any ≤ nextSeq (left o) any
+  rises-by (Heard o) s = s
+  rises-by (Said o) s = s .rises
+  rises-by (Ended o) s = s
+
+  takes-by : (o : Outcome) → SpeaksBy r c o → Good r → made o ≡ true → nextSeq (left o) (speaker r c) ≡ nextSeq r (speaker r c) + 1
+  takes-by (Heard o) s g m = absurd (false≢true m)
+  takes-by (Ended o) s g m = absurd (false≢true m)
+  takes-by (Said o) s g m =
+      let low = s .within m in
+      let places = g .next-well .places in
+      s .takes m .raised (omega arith)
+
+-- every use of a list has at least the next SEQ of its element
+abbrev From : Receiver → List Use → Type 0
+From r [] = Unit {0}
+From r (u ∷ l) = (nextSeq r (u .element) ≤ u .seq) × From r l
+
+-- what holds from a later receiver on holds from an earlier one
+from-earlier : (r q : Receiver) → ((any : ℕ) → nextSeq r any ≤ nextSeq q any) → (l : List Use) → From q l → From r l
+from-earlier r q e [] f = tt {0}
+from-earlier r q e (u ∷ l) f = (let a = e (u .element) in let b = f .0 in omega arith, from-earlier r q e l (f .1))
+
+-- one that was used lies below all that begins with its element's next SEQ
+above-from : (u : Use) (q : Receiver) → nextSeq q (u .element) ≡ u .seq + 1 → (l : List Use) → From q l → AllAbove u l
+above-from u q e [] f = tt {0}
+above-from u q e (v ∷ l) f =
+    ((λ s. let b = subst (λ (x : ℕ). nextSeq q x ≤ v .seq) (sym s) (f .0) in omega arith), above-from u q e l (f .1))
+
+from-uses : (r : Receiver) (l : List Call) → From r (uses r l)
+from-uses r [] = tt {0}
+from-uses r (c ∷ l) =
+    let rest = from-earlier r (left (step r c)) (rises-by r c (step r c) (speaks r c)) (uses (left (step r c)) l) (from-uses (left (step r c)) l) in
+    by-choice (λ (us : List Use). From r (us ++ uses (left (step r c)) l)) (made (step r c)) (λ _. (omega arith, rest)) (λ _. rest)
+
+pub rise : Rise
+rise r [] g = tt {0}
+rise r (c ∷ l) g =
+    let q = left (step r c) in
+    let rest = rise q l (good-step r c g) in
+    by-choice (λ (us : List Use). Rising (us ++ uses q l)) (made (step r c))
+    (λ m. (above-from _ q (takes-by r c (step r c) (speaks r c) g m) (uses q l) (from-uses q l), rest))
+    (λ _. rest)
+
+-- ---- so none is used twice
+none-equal : (u : Use) (l : List Use) → AllAbove u l → NoneEqual u l
+none-equal u [] a = tt {0}
+none-equal u (v ∷ l) a = (
+  (λ e.
+      let s = ap (λ (x : Use). x .seq) e in
+      let b = a .0 (ap (λ (x : Use). x .element) e) in
+      omega arith),
+  none-equal u l (a .1),
+)
+
+distinct : (l : List Use) → Rising l → Distinct l
+distinct [] r = tt {0}
+distinct (u ∷ l) r = (none-equal u l (r .0), distinct l (r .1))
+
+pub never-twice : NeverTwice
+never-twice r l g = distinct (uses r l) (rise r l g)

@@ -1,0 +1,112 @@
+-- A call that sends refuses and leaves everything, or transmits a header and says so, or begins a message. What holds on each of these ways holds of the call:
+-- one walk down each call's chain of tests, with the tests that hold at its end. Assumes nothing.
+use mathlib.Core.Bool.{Bool, true, false}
+use mathlib.Core.List.{List}
+use mathlib.Core.Path.{_≡_}
+use Prim.Native.Nat.{ℕ, _<_, min}
+use borrow.Author.Tests.{ltb-true}
+use lib.Dec.{leb, ltb}
+use lib.ListN.{length}
+use Rattle.common.specs.Choice.{if_then_else_}
+use Rattle.common.specs.Lent.{Lent, lent}
+use Rattle.common.proofs.Tests.{by-choice}
+use Rattle.network.specs.declared.header.Header.{Header}
+use Rattle.network.specs.Address.{isUnicast}
+use Rattle.transport.specs.declared.securing.MessageKey.{MessageKey}
+use Rattle.receiver.specs.declared.answer.Refusal.{Refusal}
+use Rattle.receiver.specs.declared.answer.Refusal.the-variants as refusal
+use Rattle.receiver.specs.declared.state.Receiver.{Receiver}
+use Rattle.sending.specs.declared.answer.Spoken.{Spoken}
+use Rattle.sending.specs.declared.request.Request.{Request}
+use Rattle.sending.specs.Access.{keyed, isWhole, accessAllowed, envelopeOf, wholeHeader, outgoingOf, sayingAccess, sendingAccess}
+use Rattle.sending.specs.Acknowledge.{chosen, acknowledgementHeader, sayingAcknowledgement, acknowledging}
+use Rattle.sending.specs.Answer.{refusedAt, spoken}
+use Rattle.sending.specs.Control as control
+use Rattle.sending.specs.Segment.{segmentHeader, starting, elementOf, segmentAllowed, sendingSegment}
+use Rattle.sending.specs.Transmission.{sendingIv, transmitted}
+
+-- a transmission, as it is answered
+abbrev pub saying : Receiver → ℕ → Header → List ℕ → Lent Spoken
+saying r element h buf = let t = transmitted r element h buf in lent (spoken (t .answer)) (t .buffer)
+
+-- what an access message is sent as: whole, or begun
+abbrev pub accessHeader : Receiver → Request → MessageKey → Bool → List ℕ → Header
+accessHeader r q key szmic payload = let k = keyed (r .node) key in wholeHeader (envelopeOf r q k szmic) q k payload
+
+module _ (r : Receiver) (buf : List ℕ) (P : Lent Spoken → Type 0) (refused : (n : Refusal) → P (lent (refusedAt r n) buf)) where
+  abbrev short : Lent Spoken
+  short = lent (refusedAt r refusal.ShortBuffer) buf
+
+  abbrev outside : Lent Spoken
+  outside = lent (refusedAt r refusal.OutsideRules) buf
+
+  module _ (q : Request) (key : MessageKey) (szmic : Bool) (payload : List ℕ) where
+    abbrev allowed : Bool
+    allowed = accessAllowed r q key szmic (length payload)
+
+    abbrev whole : Bool
+    whole = isWhole szmic (length payload)
+
+    pub walk-access :
+        (allowed ≡ true → whole ≡ true → P (saying r (q .element) (accessHeader r q key szmic payload) buf))
+        → (allowed ≡ true → whole ≡ false
+        → (let k = keyed (r .node) key in P (starting r (q .element) (outgoingOf (envelopeOf r q k szmic) q k payload) buf)))
+        → P (sendingAccess r q key szmic payload buf)
+    unfolding sendingAccess sayingAccess
+    walk-access said started =
+        let k = keyed (r .node) key in
+        by-choice P (ltb (length buf) 29) {x = short} {y = if allowed then sayingAccess r q key szmic payload buf else outside} (λ _. refused refusal.ShortBuffer)
+        (λ _. by-choice P allowed {x = sayingAccess r q key szmic payload buf} {y = outside}
+        (λ a. by-choice P whole {x = saying r (q .element) (accessHeader r q key szmic payload) buf}
+        {y = starting r (q .element) (outgoingOf (envelopeOf r q k szmic) q k payload) buf} (said a) (started a))
+        (λ _. refused refusal.OutsideRules))
+
+  module _ (q : Request) (opcode : ℕ) (parameters : List ℕ) where
+    abbrev fine : Bool
+    fine = control.controlAllowed r q opcode (length parameters)
+
+    pub walk-control :
+        (fine ≡ true → leb (length parameters) 11 ≡ true → P (saying r (q .element) (control.wholeHeader (sendingIv (r .node)) q opcode parameters) buf))
+        → (fine ≡ true → leb (length parameters) 11 ≡ false → P (starting r (q .element) (control.outgoingOf r q opcode parameters) buf))
+        → P (control.sendingControl r q opcode parameters buf)
+    unfolding control.sendingControl control.sayingControl
+    walk-control said started =
+        let h = control.wholeHeader (sendingIv (r .node)) q opcode parameters in
+        by-choice P (ltb (length buf) 29) {x = short} {y = if fine then control.sayingControl r q opcode parameters buf else outside} (λ _. refused refusal.ShortBuffer)
+        (λ _. by-choice P fine {x = control.sayingControl r q opcode parameters buf} {y = outside}
+        (λ a. by-choice P (leb (length parameters) 11) {x = saying r (q .element) h buf} {y = starting r (q .element) (control.outgoingOf r q opcode parameters) buf}
+        (said a) (started a))
+        (λ _. refused refusal.OutsideRules))
+
+  pub walk-segment :
+      (n : ℕ)
+      → (let element = elementOf (r .node) (r .out .src) in
+      (element < 8 → segmentAllowed r element n ≡ true → P (saying r element (segmentHeader (r .out) n) buf)) → P (sendingSegment r n buf))
+  unfolding sendingSegment
+  walk-segment n said =
+      let element = elementOf (r .node) (r .out .src) in
+      let sent = saying r element (segmentHeader (r .out) n) buf in
+      by-choice P (ltb (length buf) 29) {x = short} {y = if ltb element 8 then (if segmentAllowed r element n then sent else outside) else outside}
+      (λ _. refused refusal.ShortBuffer)
+      (λ _. by-choice P (ltb element 8) {x = if segmentAllowed r element n then sent else outside} {y = outside}
+      (λ t. by-choice P (segmentAllowed r element n) {x = sent} {y = outside} (said (ltb-true element 8 t)) (λ _. refused refusal.OutsideRules))
+      (λ _. refused refusal.OutsideRules))
+
+  pub walk-acknowledge :
+      (net src : ℕ)
+      → (let c = chosen (r .replay) (r .sessions) src in
+      let element = elementOf (r .node) (c .dst) in
+      (element < 8 → P (saying r element (acknowledgementHeader (sendingIv (r .node)) net src c) buf)) → P (acknowledging r net src buf))
+  unfolding acknowledging sayingAcknowledgement
+  walk-acknowledge net src said =
+      let c = chosen (r .replay) (r .sessions) src in
+      let element = elementOf (r .node) (c .dst) in
+      let sent = saying r element (acknowledgementHeader (sendingIv (r .node)) net src c) buf in
+      by-choice P (ltb (length buf) 29) {x = short}
+      {y = if ltb net (min (r .node .networks) 4) then (if isUnicast (c .dst) then (if ltb element 8 then sent else outside) else outside) else outside}
+      (λ _. refused refusal.ShortBuffer)
+      (λ _. by-choice P (ltb net (min (r .node .networks) 4)) {x = if isUnicast (c .dst) then (if ltb element 8 then sent else outside) else outside} {y = outside}
+      (λ _. by-choice P (isUnicast (c .dst)) {x = if ltb element 8 then sent else outside} {y = outside}
+      (λ _. by-choice P (ltb element 8) {x = sent} {y = outside} (λ t. said (ltb-true element 8 t)) (λ _. refused refusal.OutsideRules))
+      (λ _. refused refusal.OutsideRules))
+      (λ _. refused refusal.OutsideRules))

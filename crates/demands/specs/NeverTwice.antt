@@ -1,0 +1,125 @@
+-- Every transmission takes a new SEQ of its element (document 01, "Sending"): over any list of calls the sequence numbers of an element rise, so no
+-- (element, IV Index, SEQ) is used twice.
+--   Use               what a transmission uses up
+--   used r c          what call c uses: nothing, or the next SEQ of the element that sends
+--   uses r l          what the calls of a list use, in their order
+--   Carried           the PDU that a call makes carries what it used, and no other call makes one
+--   Rise, NeverTwice  the two promises
+use mathlib.Core.Bool.{Bool, true, false}
+use mathlib.Core.List.{List, [], _∷_, _++_}
+use mathlib.Core.Path.{_≡_}
+use Prim.Native.Nat.{ℕ, _<_}
+use Rattle.common.specs.Choice.{if_then_else_}
+use Rattle.common.specs.Lent.{lent}
+use Rattle.network.specs.declared.header.Header.{Header}
+use Rattle.network.specs.declared.sealing.Answer.the-variants.{Sealed}
+use Rattle.network.specs.Candidates.{keyAt}
+use Rattle.network.specs.Sealing.{sealing}
+use Rattle.receiver.specs.declared.state.Receiver.{Receiver}
+use Rattle.receiver.specs.Good.{Good}
+use Rattle.sending.specs.declared.answer.Answer.{Answer}
+use Rattle.sending.specs.declared.answer.Answer.the-variants.{Sent, Started, Refused}
+use Rattle.sending.specs.Acknowledge.{chosen}
+use Rattle.sending.specs.Segment.{elementOf}
+use Rattle.sending.specs.Transmission.{addressOf, nextSeq}
+use Rattle.demands.specs.Call.{Call, Hear, GiveUp, SendAccess, SendControl, SendSegment, Acknowledge, Stop, Outcome, Heard, Said, Ended, step, left}
+
+-- an element, by its number, and a sequence number of it
+pub record Use : Type 0 where
+  pub element : ℕ
+  pub seq : ℕ
+
+-- the element that sends: the one named; of a segment the one that began the message; of an acknowledgement the one that was spoken to
+abbrev pub speaker : Receiver → Call → ℕ
+speaker r (Hear pdu fwd msg) = 0
+speaker r (GiveUp src) = 0
+speaker r (SendAccess q key szmic payload buf) = q .element
+speaker r (SendControl q opcode parameters buf) = q .element
+speaker r (SendSegment n buf) = elementOf (r .node) (r .out .src)
+speaker r (Acknowledge net src buf) = elementOf (r .node) (chosen (r .replay) (r .sessions) src .dst)
+speaker r Stop = 0
+
+-- the answer tells of a PDU
+abbrev pub madeBy : Answer → Bool
+madeBy (Sent len) = true
+madeBy (Started len segN) = true
+madeBy (Refused n) = false
+
+abbrev pub made : Outcome → Bool
+made (Heard o) = false
+made (Said s) = madeBy (s .answer .answer)
+made (Ended g) = false
+
+-- what a call uses
+abbrev pub used : Receiver → Call → List Use
+used r c =
+    if made (step r c) then record { element = speaker r c; seq = nextSeq r (speaker r c) } ∷ [] else
+    []
+
+abbrev pub uses : Receiver → List Call → List Use
+uses r [] = []
+uses r (c ∷ l) = used r c ++ uses (left (step r c)) l
+
+-- ---- what is used is what is sent
+-- the buffer that a call is lent for a PDU, and what it holds afterwards
+abbrev pub lentFor : Call → List ℕ
+lentFor (Hear pdu fwd msg) = []
+lentFor (GiveUp src) = []
+lentFor (SendAccess q key szmic payload buf) = buf
+lentFor (SendControl q opcode parameters buf) = buf
+lentFor (SendSegment n buf) = buf
+lentFor (Acknowledge net src buf) = buf
+lentFor Stop = []
+
+abbrev pub holds : Outcome → List ℕ
+holds (Heard o) = []
+holds (Said s) = s .buffer
+holds (Ended g) = []
+
+-- the octets of a PDU, as the answer tells them
+abbrev pub lengthBy : Answer → ℕ
+lengthBy (Sent len) = len
+lengthBy (Started len segN) = len
+lengthBy (Refused n) = 0
+
+abbrev pub octetsMade : Outcome → ℕ
+octetsMade (Heard o) = 0
+octetsMade (Said s) = lengthBy (s .answer .answer)
+octetsMade (Ended g) = 0
+
+-- the PDU was sealed from a header with the speaker's address and next SEQ, and what sealing left is what the call leaves
+pub record Carries (r : Receiver) (c : Call) : Type 0 where
+  pub header : Header
+  pub from-speaker : header .src ≡ addressOf (r .node) (speaker r c)
+  pub with-next : header .seq ≡ nextSeq r (speaker r c)
+  pub sealed : sealing (keyAt (r .node .keys) (header .key)) header (lentFor c) ≡ lent (Sealed (octetsMade (step r c))) (holds (step r c))
+
+abbrev pub Carried : Type 0
+Carried = (r : Receiver) (c : Call) → made (step r c) ≡ true → Carries r c
+
+-- ---- the promises
+-- every later use of the same element has a greater SEQ
+abbrev pub AllAbove : Use → List Use → Type 0
+AllAbove u [] = Unit {0}
+AllAbove u (v ∷ l) = (u .element ≡ v .element → u .seq < v .seq) × AllAbove u l
+
+abbrev pub Rising : List Use → Type 0
+Rising [] = Unit {0}
+Rising (u ∷ l) = AllAbove u l × Rising l
+
+-- no use is equal to a later one
+abbrev pub NoneEqual : Use → List Use → Type 0
+NoneEqual u [] = Unit {0}
+NoneEqual u (v ∷ l) = (u ≡ v → ⊥) × NoneEqual u l
+
+abbrev pub Distinct : List Use → Type 0
+Distinct [] = Unit {0}
+Distinct (u ∷ l) = NoneEqual u l × Distinct l
+
+-- from a good receiver, so from every one that setup made and that was used since
+abbrev pub Rise : Type 0
+Rise = (r : Receiver) (l : List Call) → Good r → Rising (uses r l)
+
+-- an IV Index besides could only tell more of them apart
+abbrev pub NeverTwice : Type 0
+NeverTwice = (r : Receiver) (l : List Call) → Good r → Distinct (uses r l)
