@@ -7,3 +7,12 @@ pub mod Determinacy
 pub mod Invariant
 pub mod Hears
 pub mod NeverTwice
+pub mod Pigeonhole
+pub mod SpeechLaws
+pub mod GatherLaws
+pub mod StageLaws
+pub mod RoomLaws
+pub mod StepLaws
+pub mod SceneLaws
+pub mod ArrivalLaws
+pub mod Interleaved

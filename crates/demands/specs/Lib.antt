@@ -5,4 +5,6 @@ pub mod Refusal
 pub mod Speaking
 pub mod Determinacy
 pub mod NeverTwice
+pub mod Speech
+pub mod Interleaved
 pub mod Invariant

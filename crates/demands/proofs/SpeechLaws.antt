@@ -1,0 +1,359 @@
+-- What a segment of a speech is to a receiver. It has 5 to 16 octets, so it stands whole in its header and is read back; its chunk begins at size * i; its number leads back to SeqAuth.
+-- And what is handed up of a session that holds all the octets: they are the secured message, which its key opens again. Assumes nothing.
+--   Cut                the octets are 1 to 384, and at most 32 chunks
+--   segment-taken      a header of the speech is taken as segment i
+--   segment-octets     its octets are chunk i
+--   session-up         a complete session hands up the message
+use mathlib.Core.Bool.{Bool, true, false, _&&_, _||_, true≢false}
+use mathlib.Core.List.{List, [], _∷_, _++_, append-assoc}
+use mathlib.Core.Path.{_≡_, refl, sym, ap, _∙_, subst}
+use Prim.Native.Nat.{ℕ, suc, _+_, _-_, _*_, _/_, _%_, _≤_, _<_, min}
+use native.Mathlib.Omega.{arith}
+use borrow.Author.Tests.{eq-eqb, ne-eqb, le-leb, lt-leb, leb-true, eqb-true, eqb-false}
+use lib.Dec.{eqb, leb}
+use lib.ListN.{length, getD, take, drop, replicate, length-append}
+use lib.Seq.{take-append-seam, drop-at}
+use Rattle.common.specs.Choice.{if_then_else_}
+use Rattle.common.specs.Chunks.{chunk, chunkCount}
+use Rattle.common.specs.Lent.{Lent, lent}
+use Rattle.common.specs.Lists.{onto, padded}
+use Rattle.common.proofs.Chunks.{chunk-full, chunk-some, chunkCount-zero}
+use Rattle.common.proofs.Lists.{length-tab}
+use Rattle.common.proofs.Tests.{by-test}
+use Rattle.keys.specs.Derivation.{k4}
+use Rattle.modes.specs.Ccm.{micOctets}
+use Rattle.modes.proofs.CcmLaws.{mic-octets-bounds}
+use Rattle.network.specs.declared.header.Header.{Header}
+use Rattle.network.specs.Address.{isUnicast}
+use Rattle.network.specs.Header.{transportOf}
+use Rattle.network.specs.Octets.{octets}
+use Rattle.network.specs.SealOpen.{Formed}
+use Rattle.network.proofs.TrialLaws.{onto-zeros}
+use Rattle.transport.specs.declared.form.Form.{Form}
+use Rattle.transport.specs.declared.form.Form.the-variants as form
+use Rattle.transport.specs.declared.securing.Envelope.{Envelope}
+use Rattle.transport.specs.declared.securing.MessageKey.{MessageKey}
+use Rattle.transport.specs.declared.securing.MessageKey.the-variants.{Application, Device}
+use Rattle.transport.specs.declared.securing.Opened.the-variants.{Message}
+use Rattle.transport.specs.declared.seq_auth.SeqAuth.{SeqAuth}
+use Rattle.transport.specs.declared.seq_auth.SeqAuth.the-variants.{At}
+use Rattle.transport.specs.Fields.{akf, aid, opcode}
+use Rattle.transport.specs.Form.{keyFits, segmentFits, formOf}
+use Rattle.transport.specs.LeadsBack.{SegmentOf}
+use Rattle.transport.specs.Ranges.{InRange, KeyInRange, OpcodeInRange}
+use Rattle.transport.specs.ReadsBack.{Carries}
+use Rattle.transport.specs.SecureOpen as message
+use Rattle.transport.specs.Securing.{transMic, secured, applicationKeyAt, applicationCandidates, unsecuring}
+use Rattle.transport.specs.Segment.{accessOctet, controlOctet, fullOctets, segmentFront}
+use Rattle.transport.specs.SeqAuth.{seqAuth}
+use Rattle.transport.proofs.LeadsBack.{leads-back}
+use Rattle.transport.proofs.ReadsBack.{access-segment-reads-back, control-segment-reads-back}
+use Rattle.transport.proofs.SecureOpen.{secured-length, unsecure-secure, unsecure-secure-device}
+use Rattle.memory.specs.declared.session.Segment.{Segment}
+use Rattle.memory.specs.declared.session.Session.{Session}
+use Rattle.memory.specs.declared.session.Terms.{Terms}
+use Rattle.memory.specs.Session.{segmentOctets}
+use Rattle.node.specs.declared.addresses.Node.{Node}
+use Rattle.node.specs.Made.{WellMade}
+use Rattle.receiver.specs.declared.answer.Taken.{Taken}
+use Rattle.receiver.specs.declared.state.Receiver.{Receiver}
+use Rattle.receiver.specs.Hearing.{takenAs}
+use Rattle.receiver.specs.Segmented as segments
+use Rattle.demands.specs.Speech.{Words, Access, Control, Speech, isControl, szmicOf, keyOf, aidOf, akfOf, firstOf, envelopeOf, cutOf, octetsOf, sizeOf, lastOf, segmentOf, headerOf, WordsRead, Speakable, Handed, handUpAs, handUp}
+
+-- ---- octets in an array of sixteen
+module _ (l : List ℕ) (short : length l ≤ 16) where
+  padded-behind : padded 16 l ≡ l ++ drop (length l) (replicate 16 0)
+  padded-behind = sym (onto-zeros 16 l short)
+
+  taken-back : take (length l) (padded 16 l) ≡ l
+  taken-back = rw padded-behind (take-append-seam l (drop (length l) (replicate 16 0)))
+
+-- AID has 6 bits
+aid-low : (key : List ℕ) → k4 key < 64
+unfolding k4
+aid-low key = omega arith
+
+-- what the segments of a speech have in common
+abbrev pub termsOf : Node → Speech → Terms
+termsOf node s =
+    record {
+      ctl = isControl (s .words);
+      first = firstOf node (s .words);
+      szmic = szmicOf (s .words);
+      segn = lastOf node s;
+      dst = s .dst;
+      key = s .network;
+    }
+
+-- ---- the chunks
+pub record Cut (node : Node) (s : Speech) : Type 0 where
+  pub some : 1 ≤ length (octetsOf node s)
+  pub most : length (octetsOf node s) ≤ 384
+  pub few : chunkCount (sizeOf s) (length (octetsOf node s)) ≤ 32
+
+pub size-bounds : (s : Speech) → (1 ≤ sizeOf s) × (sizeOf s ≤ 12)
+size-bounds s = by-test (isControl (s .words)) (λ t. rw t (omega arith, omega arith)) (λ t. rw t (omega arith, omega arith))
+
+module _ (node : Node) (s : Speech) where
+  cut-is : (ws : Words) → s .words ≡ ws → octetsOf node s ≡ cutOf node s ws
+  unfolding octetsOf
+  cut-is ws e = ap (cutOf node s) e
+
+  -- a secured message is longer than its payload
+  secured-some : (key : List ℕ) (e : Envelope) (payload : List ℕ) → 1 ≤ length payload → 1 ≤ length (secured key e payload)
+  secured-some key e payload h = let l = secured-length key e payload in omega arith
+
+  cut-as : (ws : Words) → s .words ≡ ws → WordsRead node s ws → Cut node s
+  cut-as (Access (Application i) szmic payload) e w =
+      let c = cut-is (Access (Application i) szmic payload) e in
+      let m = w .0 .enough in
+      record {
+        some = rw c (secured-some _ _ payload (w .0 .some));
+        most = m;
+        few = rw (ap (λ (x : Words). fullOctets (isControl x)) e) (omega arith);
+      }
+  cut-as (Access Device szmic payload) e w =
+      let c = cut-is (Access Device szmic payload) e in
+      let m = w .0 .enough in
+      record {
+        some = rw c (secured-some _ _ payload (w .0 .some));
+        most = m;
+        few = rw (ap (λ (x : Words). fullOctets (isControl x)) e) (omega arith);
+      }
+  cut-as (Control code parameters) e w =
+      let c = cut-is (Control code parameters) e in
+      let m = w .0 .enough in
+      record {
+        some = rw c (w .0 .some);
+        most = rw c (omega arith);
+        few = rw (ap (λ (x : Words). fullOctets (isControl x)) e, c) (omega arith);
+      }
+
+  module _ (w : Speakable node s) where
+    pub cut : Cut node s
+    cut = cut-as (s .words) refl (w .words-read)
+
+    pub last-count : lastOf node s + 1 ≡ chunkCount (sizeOf s) (length (octetsOf node s))
+    unfolding lastOf
+    last-count =
+        let c = cut in
+        let b = size-bounds s in
+        let some = c .some in
+        let n = chunkCount (sizeOf s) (length (octetsOf node s)) in
+        by-test (eqb n 0)
+        (λ t. let z = chunkCount-zero (sizeOf s) (length (octetsOf node s)) (b .0) (eqb-true n 0 t) in absurd (omega arith))
+        (λ t. let z = eqb-false n 0 t in omega arith)
+
+    pub last-low : lastOf node s < 32
+    last-low = let l = last-count in let f = cut .few in omega arith
+
+    module _ (i : ℕ) (there : i ≤ lastOf node s) where
+      abbrev part : List ℕ
+      part = chunk (sizeOf s) (octetsOf node s) i
+
+      pub part-bounds : (1 ≤ length part) × (length part ≤ sizeOf s)
+      part-bounds = chunk-some (sizeOf s) (octetsOf node s) i (let l = last-count in omega arith)
+
+      part-full : i < lastOf node s → length part ≡ sizeOf s
+      part-full h = chunk-full (sizeOf s) (octetsOf node s) i (let l = last-count in omega arith)
+
+      -- ---- the segment
+      abbrev front : List ℕ
+      front = segmentFront (firstOf node (s .words)) (szmicOf (s .words)) (s .auth .seq % 8192) i (lastOf node s)
+
+      front-long : length front ≡ 4
+      unfolding segmentFront octets
+      front-long = refl
+
+      segment-long : length (segmentOf node s i) ≡ 4 + length part
+      unfolding segmentOf
+      segment-long = length-append front part ∙ ap (λ (n : ℕ). n + length part) front-long
+
+      segment-short : length (segmentOf node s i) ≤ 16
+      segment-short =
+          let l = segment-long in
+          let p = part-bounds .1 in
+          let b = size-bounds s .1 in
+          omega arith
+
+      module _ (seq ttl : ℕ) where
+        abbrev h : Header
+        h = headerOf node s i seq ttl
+
+        pub transport-long : length (h .transport) ≡ 16
+        unfolding headerOf
+        transport-long = length-tab (λ j. getD (segmentOf node s i) j 0) 16
+
+        transport-is : transportOf h ≡ segmentOf node s i
+        unfolding headerOf
+        transport-is = taken-back (segmentOf node s i) segment-short
+
+        pub segment-octets : segmentOctets h ≡ part
+        unfolding segmentOctets segmentOf
+        segment-octets = ap (drop 4) transport-is ∙ drop-at front part 4 front-long
+
+        pub formed : Formed h
+        unfolding headerOf
+        formed = record { dst-fits = w .dst-fits; zeros-behind = ap (padded 16) transport-is }
+
+        carries : (ctl : Bool) → isControl (s .words) ≡ ctl → Carries h ctl front
+        unfolding headerOf segmentOf
+        carries ctl e =
+            record {
+              behind = part ++ drop (length (segmentOf node s i)) (replicate 16 0);
+              ctl-is = e;
+              begins = padded-behind (segmentOf node s i) segment-short ∙ append-assoc front part (drop (length (segmentOf node s i)) (replicate 16 0));
+            }
+
+        fits : (full : ℕ) → full ≡ 4 + sizeOf s → segmentFits i (lastOf node s) (h .len) full ≡ true
+        unfolding segmentFits headerOf
+        fits full e =
+            let l = segment-long in
+            let p = part-bounds .0 in
+            rw (le-leb 5 (length (segmentOf node s i)) (omega arith), le-leb i (lastOf node s) there)
+            (by-test (eqb i (lastOf node s)) (λ t. rw t refl)
+            (λ t.
+            let n = eqb-false i (lastOf node s) t in
+            let f = part-full (omega arith) in
+            rw (t, eq-eqb (length (segmentOf node s i)) full (omega arith)) refl))
+
+        in-range : (full : ℕ) → full ≡ 4 + sizeOf s → InRange (s .auth .seq % 8192) i (lastOf node s) (h .len) full
+        in-range full e = record { seqZero-fits = omega arith; segN-fits = last-low; fits = fits full e }
+
+        -- ---- it is read back
+        key-range : (key : MessageKey) → aidOf node key < 64 → (akfOf key ≡ false → isUnicast (s .dst) ≡ true) → KeyInRange (akfOf key) (aidOf node key) (h .dst)
+        unfolding keyFits headerOf
+        key-range (Application j) low u = record { aid-fits = low; fits = refl }
+        key-range Device low u = record { aid-fits = low; fits = rw (u refl) refl }
+
+        -- as what a header of the speech is taken: a segment of the message
+        abbrev asSegment : Receiver → List ℕ → Lent Taken
+        asSegment r msg = segments.segmented r h (szmicOf (s .words)) (s .auth .seq % 8192) i (lastOf node s) msg
+
+        taken-access :
+            (r : Receiver) (msg : List ℕ) (key : MessageKey) (szmic : Bool) (payload : List ℕ) → s .words ≡ Access key szmic payload
+            → aidOf node key < 64 → (akfOf key ≡ false → isUnicast (s .dst) ≡ true) → takenAs (formOf h) r h msg ≡ asSegment r msg
+        unfolding takenAs
+        taken-access r msg key szmic payload e low u =
+            let z = s .auth .seq % 8192 in
+            let c = subst (λ (f : List ℕ). Carries h false f) (ap (λ (ws : Words). segmentFront (firstOf node ws) (szmicOf ws) z i (lastOf node s)) e)
+            (carries false (ap isControl e)) in
+            let m : 16 ≡ 4 + sizeOf s = rw (ap isControl e) refl in
+            rw (access-segment-reads-back h (akfOf key) (aidOf node key) szmic z i (lastOf node s) c (key-range key low u) (in-range 16 m))
+            (ap (λ (b : Bool). segments.segmented r h b z i (lastOf node s) msg) (sym (ap szmicOf e)))
+
+        taken-control :
+            (r : Receiver) (msg : List ℕ) (code : ℕ) (parameters : List ℕ) → s .words ≡ Control code parameters → OpcodeInRange code
+            → takenAs (formOf h) r h msg ≡ asSegment r msg
+        unfolding takenAs
+        taken-control r msg code parameters e o =
+            let z = s .auth .seq % 8192 in
+            let c = subst (λ (f : List ℕ). Carries h true f) (ap (λ (ws : Words). segmentFront (firstOf node ws) (szmicOf ws) z i (lastOf node s)) e)
+            (carries true (ap isControl e)) in
+            let m : 12 ≡ 4 + sizeOf s = rw (ap isControl e) refl in
+            rw (control-segment-reads-back h code z i (lastOf node s) c o (in-range 12 m))
+            (ap (λ (b : Bool). segments.segmented r h b z i (lastOf node s) msg) (sym (ap szmicOf e)))
+
+        module _ (made : WellMade node) where
+          taken-as : (r : Receiver) (msg : List ℕ) (ws : Words) → s .words ≡ ws → WordsRead node s ws → takenAs (formOf h) r h msg ≡ asSegment r msg
+          taken-as r msg (Access (Application j) szmic payload) e q =
+              let held = q .1 (replicate 384 0) (omega arith) .held in
+              taken-access r msg (Application j) szmic payload e (rw (made .aid-derived j (omega arith)) (aid-low (applicationKeyAt (node .secrets) j .key))) (λ f. absurd (true≢false f))
+          taken-as r msg (Access Device szmic payload) e q = taken-access r msg Device szmic payload e (omega arith) (λ _. q .1)
+          taken-as r msg (Control code parameters) e q = taken-control r msg code parameters e (q .1)
+
+          pub segment-taken : (r : Receiver) (msg : List ℕ) → takenAs (formOf h) r h msg ≡ asSegment r msg
+          segment-taken r msg = taken-as r msg (s .words) refl (w .words-read)
+
+        -- ---- its number leads back to SeqAuth
+        first-octet : getD (h .transport) 0 0 ≡ firstOf node (s .words)
+        unfolding headerOf segmentOf segmentFront
+        first-octet = refl
+
+        segment-is :
+            segments.segmentOf h (szmicOf (s .words)) (s .auth .seq) i (lastOf node s) ≡ record { auth = s .auth; terms = termsOf node s; sego = i }
+        unfolding headerOf
+        segment-is = rw first-octet refl
+
+        pub segment-placed :
+            (r : Receiver) (msg : List ℕ) → SegmentOf (s .auth .seq) seq
+            → asSegment r msg ≡ segments.placed r h (record { auth = s .auth; terms = termsOf node s; sego = i }) msg
+        unfolding segments.segmented segments.segmentedAs headerOf
+        segment-placed r msg t =
+            rw (leads-back (s .auth .seq) seq t) (ap (λ (g : Segment). segments.placed r h g msg) segment-is)
+
+-- ---- octet 0 gives AKF, AID and the opcode back
+akf-back : (k : Bool) (a : ℕ) → akf (accessOctet true k a) ≡ k
+unfolding accessOctet
+akf-back true a = le-leb 64 ((128 + 64 + a % 64) % 128) (omega arith)
+akf-back false a = lt-leb 64 ((128 + 0 + a % 64) % 128) (omega arith)
+
+aid-back : (k : Bool) (a : ℕ) → a < 64 → aid (accessOctet true k a) ≡ a
+unfolding accessOctet
+aid-back true a h = omega arith
+aid-back false a h = omega arith
+
+opcode-back : (o : ℕ) → o ≤ 0x7F → opcode (controlOctet true o) ≡ o
+unfolding controlOctet
+opcode-back o h = omega arith
+
+-- ---- the session of a speech
+-- with these places filled, so long, and these octets
+abbrev pub sessionOf : Node → Speech → (bits len : ℕ) → List ℕ → Session
+sessionOf node s bits len bytes = record { src = s .src; auth = s .auth; terms = termsOf node s; filled = bits; len = len; bytes = bytes }
+
+module _ (node : Node) (made : WellMade node) (s : Speech) (w : Speakable node s) (r : Receiver) (same : r .node ≡ node) (bits len : ℕ) (bytes : List ℕ) where
+  abbrev session : Session
+  session = sessionOf node s bits len bytes
+
+  abbrev up : List ℕ → Lent Taken
+  up msg = if isControl (s .words) then segments.controlUp r session msg else segments.accessUp r session msg
+
+  -- the message is handed up, after so many trials of application keys
+  pub record Up (msg : List ℕ) : Type 0 where
+    pub trials : ℕ
+    pub is :
+        up msg
+        ≡ lent (record { answer = handUp s .answer; trials = trials; receiver = segments.upgraded r session }) (onto (handUp s .octets) msg)
+
+  module _ (msg : List ℕ) (room : 384 ≤ length msg) (all : take len bytes ≡ octetsOf node s) where
+    envelope-is :
+        (key : MessageKey) (szmic : Bool) (payload : List ℕ) → s .words ≡ Access key szmic payload → aidOf node key < 64
+        → segments.sessionEnvelope session ≡ envelopeOf node s key szmic
+    envelope-is key szmic payload e low =
+        rw (ap (firstOf node) e, ap szmicOf e, akf-back (akfOf key) (aidOf node key), aid-back (akfOf key) (aidOf node key) low) refl
+
+    opened-up :
+        (key : MessageKey) (szmic : Bool) (payload : List ℕ) (trials : ℕ) → s .words ≡ Access key szmic payload → aidOf node key < 64
+        → unsecuring (node .secrets) (node .applications) (node .device) (envelopeOf node s key szmic) (octetsOf node s) msg
+        ≡ lent (Message key trials (length payload)) (onto payload msg)
+        → Up msg
+    unfolding segments.accessUp segments.accessUpAs segments.messageOf
+    opened-up key szmic payload trials e low u =
+        record { trials = trials; is = rw (same, envelope-is key szmic payload e low, all, ap isControl e, u, ap (handUpAs s) e) refl }
+
+    up-as : (ws : Words) → s .words ≡ ws → WordsRead node s ws → Up msg
+    unfolding segments.controlUp segments.messageOf
+    up-as (Access (Application j) szmic payload) e q =
+        let k = q .1 msg room in
+        let held = k .held in
+        let c = cut-is node s (Access (Application j) szmic payload) e in
+        let l = secured-length (keyOf node (Application j)) (envelopeOf node s (Application j) szmic) payload in
+        let fits : message.Fits payload msg = record { some-payload = q .0 .some; short = let m = rw c at (q .0 .enough) in omega arith; room = room } in
+        opened-up (Application j) szmic payload (length (applicationCandidates (node .secrets) j (envelopeOf node s (Application j) szmic)) + 1) e (rw (made .aid-derived j (omega arith)) (aid-low (applicationKeyAt (node .secrets) j .key)))
+        (rw c (unsecure-secure (node .secrets) (node .applications) j (node .device) (envelopeOf node s (Application j) szmic) payload msg fits (rw c at k)))
+    up-as (Access Device szmic payload) e q =
+        let c = cut-is node s (Access Device szmic payload) e in
+        let l = secured-length (keyOf node Device) (envelopeOf node s Device szmic) payload in
+        let fits : message.Fits payload msg = record { some-payload = q .0 .some; short = let m = rw c at (q .0 .enough) in omega arith; room = room } in
+        opened-up Device szmic payload 0 e (omega arith)
+        (rw c (unsecure-secure-device (node .secrets) (node .applications) (node .device) (envelopeOf node s Device szmic) payload msg fits refl))
+    up-as (Control code parameters) e q =
+        record {
+          trials = 0;
+          is = rw (ap isControl e, ap (firstOf node) e, opcode-back code (q .1 .opcode-fits), all, cut-is node s (Control code parameters) e, ap (handUpAs s) e) refl;
+        }
+
+    pub session-up : Up msg
+    session-up = up-as (s .words) refl (w .words-read)

@@ -1,0 +1,273 @@
+-- What a segment of a speech does to a receiver, at each stage of that speech: it hands up the message where it was the last that was missing, and nothing elsewhere; its place is
+-- filled; what belongs to other speakers stays. Assumes nothing.
+--   Step            what a segment is to do
+--   placed-steps    it does
+use mathlib.Core.Bool.{Bool, true, false, _&&_, not, false≢true, true≢false}
+use mathlib.Core.List.{List, [], _∷_}
+use mathlib.Core.Path.{_≡_, refl, sym, ap, _∙_, subst}
+use Prim.Native.Nat.{ℕ, _+_, _≤_, _<_}
+use native.Mathlib.Omega.{arith}
+use borrow.Author.Tests.{eq-eqb, ne-eqb, eqb-true, eqb-false, lt-ltb, ltb-true, ltb-false}
+use lib.Dec.{eqb, ltb}
+use lib.ListN.{length, getD, set, replicate}
+use lib.Seq.{getD-set-same, take-append-seam}
+use Rattle.common.specs.Bits.{hasBit, withBit, allBits}
+use Rattle.common.specs.Choice.{if_then_else_}
+use Rattle.common.specs.Lent.{Lent, lent}
+use Rattle.common.specs.Lists.{onto}
+use Rattle.common.proofs.BitLaws.{has-none, has-all, has-with-own, with-of-set}
+use Rattle.common.proofs.Search.{first-upto}
+use Rattle.common.proofs.Tests.{by-test, by-choice}
+use Rattle.network.specs.declared.header.Header.{Header}
+use Rattle.memory.specs.declared.decision.Decision.{Decision}
+use Rattle.memory.specs.declared.decision.Decision.the-variants.{Repeat, Join, Open}
+use Rattle.memory.specs.declared.replay.Entry.{Entry}
+use Rattle.memory.specs.declared.session.Session.{Session}
+use Rattle.memory.specs.Decision.{sessionAt, decision}
+use Rattle.memory.specs.Replay.{noEntry, entryPlace, lookUp, hasRoom, inserted, raised, handedUp}
+use Rattle.memory.specs.Session.{noSession, sessionPlace, begun, stored, complete}
+use Rattle.memory.proofs.ReplayMap.{lookUp-handedUp-own, lookUp-handedUp-other}
+use Rattle.memory.proofs.SessionSlots.{session-source, place-set-own, session-set-own}
+use Rattle.node.specs.declared.addresses.Node.{Node}
+use Rattle.node.specs.Made.{WellMade}
+use Rattle.receiver.specs.declared.answer.Answer.{Answer}
+use Rattle.receiver.specs.declared.answer.Answer.the-variants.{Stored, Repeated}
+use Rattle.receiver.specs.declared.answer.Taken.{Taken}
+use Rattle.receiver.specs.declared.state.Receiver.{Receiver}
+use Rattle.receiver.specs.Good.{Good}
+use Rattle.receiver.specs.Segmented as segments
+use Rattle.receiver.specs.State.{withSession}
+use Rattle.demands.specs.Interleaved.{isLastMissing, handedAs}
+use Rattle.demands.specs.Speech.{Words, Access, Control, Speech, isControl, lastOf, headerOf, Speakable, Handed, handUpAs, handUp}
+use Rattle.demands.proofs.GatherLaws.{Holds, holds-begun, stored-is, newLen, newBytes, holds-more, holds-all}
+use Rattle.demands.proofs.RoomLaws.{Owned, owned-set}
+use Rattle.demands.proofs.SpeechLaws.{last-low, sessionOf, Up, session-up}
+use Rattle.demands.proofs.StageLaws.{entryOf, segmentAt, Stage, Silent, Gathers, Done, decide-done, decide-silent, decide-repeat, decide-join, stage-other, freed-none}
+
+-- the speakers' sessions and entries
+abbrev pub past : Session
+past = sessionAt [] 0
+
+abbrev pub SessionsOwned : ℕ → (ℕ → ℕ) → List Session → Type 0
+SessionsOwned n speaker l = Owned (λ (s : Session). s .src) past 8 n speaker l
+
+abbrev pub EntriesOwned : ℕ → (ℕ → ℕ) → List Entry → Type 0
+EntriesOwned n speaker l = Owned (λ (e : Entry). e .src) noEntry 32 n speaker l
+
+-- what was taken in r is t: a segment of s, of which these places were filled
+pub record Step (node : Node) (s : Speech) (r : Receiver) (bits i : ℕ) (t : Lent Taken) : Type 0 where
+  -- the message is handed up where this was the last segment that was missing
+  pub due : handedAs (t .answer .answer) (t .buffer) ≡ (if isLastMissing bits i (lastOf node s) then handUp s ∷ [] else [])
+  -- its place is filled
+  pub own : Stage node s (t .answer .receiver .replay) (t .answer .receiver .sessions) (withBit bits i)
+  -- another source's stage stays
+  pub others :
+      (o : Speech) (b : ℕ) → (o .src ≡ s .src → ⊥) → (o .src ≡ 0 → ⊥) → Stage node o (r .replay) (r .sessions) b
+      → Stage node o (t .answer .receiver .replay) (t .answer .receiver .sessions) b
+  -- sessions and entries are the speakers'
+  pub sessions-owned :
+      (n : ℕ) (speaker : ℕ → ℕ) (k : ℕ) → k < n → s .src ≡ speaker k → SessionsOwned n speaker (r .sessions)
+      → SessionsOwned n speaker (t .answer .receiver .sessions)
+  pub entries-owned :
+      (n : ℕ) (speaker : ℕ → ℕ) (k : ℕ) → k < n → s .src ≡ speaker k → EntriesOwned n speaker (r .replay)
+      → EntriesOwned n speaker (t .answer .receiver .replay)
+  pub cache-stays : t .answer .receiver .cache ≡ r .cache
+
+-- what is handed up is no other answer, and its octets are read back
+handed-up : (s : Speech) (ws : Words) (msg : List ℕ) → handedAs (handUpAs s ws .answer) (onto (handUpAs s ws .octets) msg) ≡ handUpAs s ws ∷ []
+handed-up s (Access key szmic payload) msg =
+    ap (λ (l : List ℕ). record { answer = handUpAs s (Access key szmic payload) .answer; octets = l } ∷ []) (take-append-seam payload _)
+handed-up s (Control code parameters) msg =
+    ap (λ (l : List ℕ). record { answer = handUpAs s (Control code parameters) .answer; octets = l } ∷ []) (take-append-seam parameters _)
+
+module _ (node : Node) (made : WellMade node) (s : Speech) (w : Speakable node s) (spoken : s .src ≡ 0 → ⊥) where
+  module _ (r : Receiver) (same : r .node ≡ node) (g : Good r) (bits i : ℕ) (there : i ≤ lastOf node s) (msg : List ℕ) where
+    low : i < 32
+    low = let l = last-low node s w in omega arith
+
+    -- ---- a repeat
+    again : hasBit bits i ≡ true → Stage node s (r .replay) (r .sessions) bits → (a : Answer) → handedAs a msg ≡ []
+        → Step node s r bits i (lent (record { answer = a; trials = 0; receiver = r }) msg)
+    again b st a e =
+        record {
+          due = rw b e;
+          own = rw (with-of-set bits i b) st;
+          others = λ o n _ _ k. k;
+          sessions-owned = λ n f k h q o. o;
+          entries-owned = λ n f k h q o. o;
+          cache-stays = refl;
+        }
+
+    -- ---- a segment more, in a slot that is the source's, or free where the source has none
+    module _ (fresh : hasBit bits i ≡ false) (none : lookUp (r .replay) (s .src) ≡ noEntry) (room : hasRoom (r .replay) (s .src) ≡ true)
+        (slot : ℕ) (within : slot < 8) (before : slot ≤ sessionPlace (r .sessions) (s .src))
+        (only : (j : ℕ) → j < 8 → sessionAt (r .sessions) j .src ≡ s .src → j ≡ slot)
+        (stood : (a : ℕ) → (a ≡ s .src → ⊥) → (a ≡ 0 → ⊥) → a ≡ sessionAt (r .sessions) slot .src → ⊥)
+        (len : ℕ) (bytes : List ℕ) (holds : Holds node s (withBit bits i) len bytes) where
+      abbrev filled : ℕ
+      filled = withBit bits i
+
+      abbrev session : Session
+      session = sessionOf node s filled len bytes
+
+      long : length (r .sessions) ≡ 8
+      long = g .session-places
+
+      some : filled ≡ 0 → ⊥
+      some e = true≢false (sym (has-with-own bits i low) ∙ ap (λ (x : ℕ). hasBit x i) e ∙ has-none i)
+
+      slot-owned :
+          (x : Session) → ((x .src ≡ 0 → ⊥) → x .src ≡ s .src) → (n : ℕ) (speaker : ℕ → ℕ) (k : ℕ) → k < n → s .src ≡ speaker k
+          → SessionsOwned n speaker (r .sessions) → SessionsOwned n speaker (set (r .sessions) slot x)
+      slot-owned x e n speaker k h q o =
+          owned-set (λ (y : Session). y .src) past 8 n speaker (r .sessions) o long slot x k h (λ z. e z ∙ q)
+
+      -- not yet complete
+      stored-step :
+          eqb filled (allBits (lastOf node s)) ≡ false → (a : Answer) → handedAs a msg ≡ []
+          → Step node s r bits i (lent (record { answer = a; trials = 0; receiver = withSession r slot session }) msg)
+      stored-step c a e =
+          record {
+            due = rw (fresh, c) e;
+            own =
+                Gathers len bytes some (eqb-false filled (allBits (lastOf node s)) c)
+                (rw (place-set-own (r .sessions) slot session (omega arith) before) within)
+                (session-set-own (r .sessions) slot session (omega arith) before) holds none;
+            others = λ o b n z k. stage-other node o (r .replay) (r .replay) (r .sessions) b slot session n (stood (o .src) n z) refl k;
+            sessions-owned = slot-owned session (λ _. refl);
+            entries-owned = λ n f k h q o. o;
+            cache-stays = refl;
+          }
+
+      -- complete
+      raised-none : raised noEntry (s .auth) ≡ s .auth
+      unfolding raised
+      raised-none = refl
+
+      entry-own : lookUp (handedUp (r .replay) (s .src) (s .auth) (lastOf node s) (s .dst)) (s .src) ≡ entryOf node s
+      entry-own =
+          lookUp-handedUp-own (r .replay) (s .src) (s .auth) (lastOf node s) (s .dst) (g .entry-places) room
+          ∙ rw (none, raised-none) refl
+
+      entry-owned :
+          (n : ℕ) (speaker : ℕ → ℕ) (k : ℕ) → k < n → s .src ≡ speaker k → EntriesOwned n speaker (r .replay)
+          → EntriesOwned n speaker (handedUp (r .replay) (s .src) (s .auth) (lastOf node s) (s .dst))
+      unfolding handedUp inserted
+      entry-owned n speaker k h q o =
+          let l = r .replay in
+          let put : (p : ℕ) (x : Entry) → x .src ≡ s .src → EntriesOwned n speaker (set l p x) =
+          λ p x e. owned-set (λ (y : Entry). y .src) noEntry 32 n speaker l o (g .entry-places) p x k h (λ _. e ∙ q) in
+          by-choice (EntriesOwned n speaker) (ltb (entryPlace l (s .src)) 32) (λ _. put _ _ refl) (λ _. put _ _ refl)
+
+      up-step :
+          eqb filled (allBits (lastOf node s)) ≡ true → (trials : ℕ)
+          → Step node s r bits i
+          (lent (record { answer = handUp s .answer; trials = trials; receiver = segments.upgraded (withSession r slot noSession) session }) (onto (handUp s .octets) msg))
+      unfolding segments.upgraded
+      up-step c trials =
+          record {
+            due = rw (fresh, c) (handed-up s (s .words) msg);
+            own =
+                Done (eqb-true filled (allBits (lastOf node s)) c) (freed-none (r .sessions) slot (s .src) long spoken only) entry-own;
+            others = λ o b n z k.
+                stage-other node o (r .replay) _ (r .sessions) b slot noSession z (stood (o .src) n z)
+                (lookUp-handedUp-other (r .replay) (s .src) (s .auth) (lastOf node s) (s .dst) (o .src) n z) k;
+            sessions-owned = slot-owned noSession (λ z. absurd (z refl));
+            entries-owned = entry-owned;
+            cache-stays = refl;
+          }
+
+      pub gathered-steps : 384 ≤ length msg → Step node s r bits i (segments.gathered r slot session msg)
+      unfolding segments.gathered complete
+      gathered-steps big =
+          by-test (eqb filled (allBits (lastOf node s)))
+          (λ c.
+          let all = subst (λ (b : ℕ). Holds node s b len bytes) (eqb-true filled (allBits (lastOf node s)) c) holds in
+          let u = session-up node made s w (withSession r slot noSession) same filled len bytes msg big (holds-all node s w len bytes all) in
+          rw c (subst (Step node s r bits i) (sym (u .is)) (up-step c (u .trials))))
+          (λ c. rw c (stored-step c _ refl))
+
+    -- ---- at each stage
+    module _ (sent : s .dst ≡ 0 → ⊥) (big : 384 ≤ length msg) (seq ttl : ℕ) (room : hasRoom (r .replay) (s .src) ≡ true)
+        (free : 8 ≤ sessionPlace (r .sessions) (s .src) → sessionPlace (r .sessions) 0 < 8) where
+      abbrev h : Header
+      h = headerOf node s i seq ttl
+
+      abbrev t : Lent Taken
+      t = segments.placed r h (segmentAt node s i) msg
+
+      header-src : h .src ≡ s .src
+      unfolding headerOf
+      header-src = refl
+
+      decided : (d : Decision) → decision (r .replay) (r .sessions) (s .src) (segmentAt node s i) ≡ d → t ≡ segments.placedAs d r h (segmentAt node s i) msg
+      unfolding segments.placed headerOf
+      decided d e = ap (λ (x : Decision). segments.placedAs x r h (segmentAt node s i) msg) e
+
+      repeated :
+          (b : ℕ) → decision (r .replay) (r .sessions) (s .src) (segmentAt node s i) ≡ Repeat b → hasBit bits i ≡ true
+          → Stage node s (r .replay) (r .sessions) bits → Step node s r bits i t
+      unfolding segments.placedAs
+      repeated b e has st = subst (Step node s r bits i) (sym (decided (Repeat b) e)) (again has st (Repeated (h .src) (s .auth) b) refl)
+
+      -- the session that stands in a slot is its source's alone
+      own-only : (j : ℕ) → j < 8 → sessionAt (r .sessions) j .src ≡ s .src → sessionPlace (r .sessions) (s .src) < 8 → j ≡ sessionPlace (r .sessions) (s .src)
+      own-only j hj e own =
+          let long = g .session-places in
+          let there = session-source (r .sessions) (s .src) (omega arith) in
+          g .one-session j (sessionPlace (r .sessions) (s .src)) hj own (λ z. spoken (sym e ∙ z)) (e ∙ sym there)
+
+      joined :
+          (len : ℕ) (bytes : List ℕ) → hasBit bits i ≡ false → lookUp (r .replay) (s .src) ≡ noEntry → sessionPlace (r .sessions) (s .src) < 8
+          → sessionAt (r .sessions) (sessionPlace (r .sessions) (s .src)) ≡ sessionOf node s bits len bytes → Holds node s bits len bytes → Step node s r bits i t
+      unfolding segments.placedAs
+      joined len bytes has none own held holds =
+          let slot = sessionPlace (r .sessions) (s .src) in
+          let e = decide-join node s (r .replay) (r .sessions) i none room bits len bytes own held has in
+          let more = holds-more node s w bits len bytes holds i there seq ttl in
+          let new = newLen node s w bits len bytes holds i there seq ttl in
+          let laid = newBytes node s w bits len bytes holds i there seq ttl in
+          subst (Step node s r bits i) (sym (decided (Join slot) e))
+          (rw (held, stored-is node s w bits len bytes holds i there seq ttl)
+          (gathered-steps has none room slot own (omega arith) (λ j hj q. own-only j hj q own)
+          (λ a n z q. n (q ∙ ap (λ (x : Session). x .src) held)) new laid more big))
+
+      -- a source that has no slot stands in none
+      none-own : (j : ℕ) → sessionAt (r .sessions) j .src ≡ s .src → sessionPlace (r .sessions) (s .src) ≤ j
+      unfolding sessionPlace
+      none-own j e = first-upto (λ (x : Session). eqb (x .src) (s .src)) (r .sessions) j past (eq-eqb (sessionAt (r .sessions) j .src) (s .src) e)
+
+      begun-is : begun (s .src) (segmentAt node s i) ≡ sessionOf node s 0 0 (replicate 384 0)
+      unfolding begun
+      begun-is = refl
+
+      opened :
+          bits ≡ 0 → lookUp (r .replay) (s .src) ≡ noEntry → 8 ≤ sessionPlace (r .sessions) (s .src) → Step node s r bits i t
+      unfolding segments.placedAs headerOf
+      opened zero none out =
+          let slot = sessionPlace (r .sessions) 0 in
+          let within = free out in
+          let long = g .session-places in
+          let e = decide-silent node s (r .replay) (r .sessions) i none room out within in
+          let holds = subst (λ (b : ℕ). Holds node s b 0 (replicate 384 0)) (sym zero) (holds-begun node s) in
+          let more = holds-more node s w bits 0 (replicate 384 0) holds i there seq ttl in
+          let new = newLen node s w bits 0 (replicate 384 0) holds i there seq ttl in
+          let laid = newBytes node s w bits 0 (replicate 384 0) holds i there seq ttl in
+          let begins : stored (begun (s .src) (segmentAt node s i)) h i ≡ sessionOf node s (withBit bits i) new laid =
+          ap (λ (x : Session). stored x h i) (begun-is ∙ ap (λ (b : ℕ). sessionOf node s b 0 (replicate 384 0)) (sym zero))
+          ∙ stored-is node s w bits 0 (replicate 384 0) holds i there seq ttl in
+          subst (Step node s r bits i) (sym (decided (Open slot) e))
+          (rw begins
+          (gathered-steps (rw zero (has-none i)) none room slot within (omega arith)
+          (λ j hj q. let u = none-own j q in absurd (omega arith))
+          (λ a n z q. z (q ∙ session-source (r .sessions) 0 (omega arith))) new laid more big))
+
+      pub placed-steps : Stage node s (r .replay) (r .sessions) bits → Step node s r bits i t
+      placed-steps (Silent b p e) = opened b e p
+      placed-steps (Gathers len bytes z m p held k e) =
+          by-test (hasBit bits i)
+          (λ has. repeated bits (decide-repeat node s (r .replay) (r .sessions) i e room bits len bytes p held has) has (Gathers len bytes z m p held k e))
+          (λ has. joined len bytes has e p held k)
+      placed-steps (Done b p e) =
+          let has = ap (λ (x : ℕ). hasBit x i) b ∙ has-all (lastOf node s) i there low in
+          repeated (allBits (lastOf node s)) (decide-done node s (r .replay) (r .sessions) i sent e) has (Done b p e)

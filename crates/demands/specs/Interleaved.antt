@@ -1,0 +1,237 @@
+-- Demand 3: at most eight senders, one segmented message each, segments in any order and mixture with repeats, PDUs that no key opens and requests to
+-- acknowledge. Each message is handed up exactly once, when its last missing segment comes; each acknowledgement names exactly the segments come so far; messages and
+-- replay entries end as if the senders had spoken one after another, no session open.
+--   Arrival, callOf        what comes, and the call that hears or acknowledges it
+--   come k l               the segments of speech k among l, a bit each
+--   brings k i l           segment i is the last of speech k that was missing behind l
+--   Scene                  the premises
+--   HandedUp               1: where a message is handed up
+--   Acknowledges           2: what an acknowledgement names
+--   EndsAlike              3: what is left at the end
+use mathlib.Core.Bool.{Bool, true, false, _&&_, not}
+use mathlib.Core.List.{List, [], _∷_, _++_, map}
+use mathlib.Core.Path.{_≡_}
+use Prim.Native.Nat.{ℕ, zero, suc, _+_, _≤_, _<_}
+use lib.Dec.{eqb}
+use lib.ListN.{length, getD, take}
+use Rattle.common.specs.Bits.{hasBit, withBit, allBits}
+use Rattle.common.specs.Choice.{if_then_else_}
+use Rattle.common.specs.Search.{picked}
+use Rattle.network.specs.Address.{isUnicast}
+use Rattle.network.specs.Candidates.{keyAt}
+use Rattle.network.specs.Opening.{opening}
+use Rattle.network.specs.Sealing.{sealable}
+use Rattle.network.specs.SealOpen as network
+use Rattle.transport.specs.LeadsBack.{SegmentOf}
+use Rattle.memory.specs.Replay.{lookUp}
+use Rattle.memory.specs.Session.{noSessions}
+use Rattle.node.specs.declared.addresses.Node.{Node}
+use Rattle.node.specs.declared.setup.Setup.{Setup}
+use Rattle.receiver.specs.declared.fresh.Answer.the-variants.{Ready}
+use Rattle.receiver.specs.declared.answer.Answer.{Answer}
+use Rattle.receiver.specs.declared.answer.Answer.the-variants as answer
+use Rattle.receiver.specs.declared.state.Receiver.{Receiver}
+use Rattle.receiver.specs.Fresh.{settingUp}
+use Rattle.sending.specs.Acknowledge.{acknowledging, sayingAcknowledgement}
+use Rattle.sending.specs.Segment.{elementOf}
+use Rattle.demands.specs.Call.{Call, Hear, Acknowledge, Outcome, Heard, Said, Ended, step, run, after}
+use Rattle.demands.specs.Refusal.{noKeyOpens}
+use Rattle.demands.specs.Speech.{Control, Speech, lastOf, headerOf, segmentPdu, Speakable, Handed, handUp}
+
+-- ---- a fresh receiver
+abbrev pub start : Setup → Receiver
+start setup = settingUp setup .receiver
+
+abbrev pub nodeOf : Setup → Node
+nodeOf setup = start setup .node
+
+-- ---- what comes
+pub data Event : Type 0 where
+  -- segment i of speech k, sent with sequence number seq and arriving with a TTL
+  Segment : (k i seq ttl : ℕ) → Event
+  -- a PDU that no key opens
+  Foreign : (pdu : List ℕ) → Event
+  -- a request to acknowledge a source over a network key
+  Ask : (net src : ℕ) → Event
+
+-- with the buffers that the call is lent: the first for a PDU, the second for a message
+pub record Arrival : Type 0 where
+  pub event : Event
+  pub forward : List ℕ
+  pub message : List ℕ
+
+-- speech number k
+abbrev pub none : Speech
+none = record { src = 0; dst = 0; network = 0; auth = record { iv = 0; seq = 0 }; words = Control 0 [] }
+
+abbrev pub speechAt : List Speech → ℕ → Speech
+speechAt speeches k = getD speeches k none
+
+abbrev pub callAs : Node → List Speech → Event → List ℕ → List ℕ → Call
+callAs node speeches (Segment k i seq ttl) fwd msg = Hear (segmentPdu node (speechAt speeches k) i seq ttl) fwd msg
+callAs node speeches (Foreign pdu) fwd msg = Hear pdu fwd msg
+callAs node speeches (Ask net src) fwd msg = Acknowledge net src fwd
+
+abbrev pub callOf : Node → List Speech → Arrival → Call
+callOf node speeches a = callAs node speeches (a .event) (a .forward) (a .message)
+
+abbrev pub calls : Node → List Speech → List Arrival → List Call
+calls node speeches l = map (callOf node speeches) l
+
+-- ---- which segments have come
+abbrev pub comeWith : ℕ → ℕ → Event → ℕ
+comeWith k bits (Segment j i seq ttl) = if eqb j k then withBit bits i else bits
+comeWith k bits (Foreign pdu) = bits
+comeWith k bits (Ask net src) = bits
+
+abbrev pub comeFrom : ℕ → ℕ → List Arrival → ℕ
+comeFrom k bits [] = bits
+comeFrom k bits (a ∷ l) = comeFrom k (comeWith k bits (a .event)) l
+
+abbrev pub come : ℕ → List Arrival → ℕ
+come k l = comeFrom k 0 l
+
+-- segment i of a speech with this SegN is the last that was missing
+abbrev pub isLastMissing : ℕ → ℕ → ℕ → Bool
+isLastMissing bits i segN = not (hasBit bits i) && eqb (withBit bits i) (allBits segN)
+
+-- ---- the premises
+-- which segment of speech k was sent with a sequence number: one sender spends a number on one segment only
+abbrev pub Spent : Type 0
+Spent = ℕ → ℕ → ℕ
+
+pub record Sent (node : Node) (speeches : List Speech) (spent : Spent) (k i seq ttl : ℕ) : Type 0 where
+  pub one-of : k < length speeches
+  pub segment-there : i ≤ lastOf node (speechAt speeches k)
+  pub number-spent : i ≡ spent k seq
+  -- from SeqAuth to SeqAuth + 8,191
+  pub in-time : SegmentOf (speechAt speeches k .auth .seq) seq
+  -- TTL has 7 bits, SEQ 24, and the addresses are allowed
+  pub can-be-sent : sealable (keyAt (node .keys) (speechAt speeches k .network)) (headerOf node (speechAt speeches k) i seq ttl) ≡ true
+  -- no key tried earlier opens it
+  pub own-key-first :
+      network.Receives (node .keys) (node .networks) (node .iv) (headerOf node (speechAt speeches k) i seq ttl) (segmentPdu node (speechAt speeches k) i seq ttl)
+
+abbrev pub Comes : Node → List Speech → Spent → Event → Type 0
+Comes node speeches spent (Segment k i seq ttl) = Sent node speeches spent k i seq ttl
+Comes node speeches spent (Foreign pdu) = noKeyOpens (opening (node .keys) (node .networks) (node .iv) pdu .answer) ≡ true
+Comes node speeches spent (Ask net src) = Unit {0}
+
+pub record Arrives (node : Node) (speeches : List Speech) (spent : Spent) (a : Arrival) : Type 0 where
+  pub comes : Comes node speeches spent (a .event)
+  -- the buffers are not refused 16
+  pub room-forward : 29 ≤ length (a .forward)
+  pub room-message : 384 ≤ length (a .message)
+
+abbrev pub Each : {A : Type 0} → (A → Type 0) → List A → Type 0
+Each P [] = Unit {0}
+Each P (x ∷ l) = P x × Each P l
+
+-- a fresh receiver, its speakers, and what comes
+pub record Scene (setup : Setup) (speeches : List Speech) (l : List Arrival) : Type 0 where
+  pub ready : settingUp setup .answer ≡ Ready
+  pub eight-at-most : length speeches ≤ 8
+  pub speakable : (k : ℕ) → k < length speeches → Speakable (nodeOf setup) (speechAt speeches k)
+  pub sources-differ :
+      (j k : ℕ) → j < length speeches → k < length speeches → speechAt speeches j .src ≡ speechAt speeches k .src → j ≡ k
+  pub spent : Spent
+  pub arrives : Each (Arrives (nodeOf setup) speeches spent) l
+
+-- each segment of each speech occurs
+abbrev pub AllCome : Setup → List Speech → List Arrival → Type 0
+AllCome setup speeches l = (k i : ℕ) → k < length speeches → i ≤ lastOf (nodeOf setup) (speechAt speeches k) → hasBit (come k l) i ≡ true
+
+-- ---- 1: the answer to an arrival hands up a message exactly where that arrival brings its last missing segment
+abbrev pub handedAs : Answer → List ℕ → List Handed
+handedAs (answer.Refused n) msg = []
+handedAs (answer.Stored src auth bits) msg = []
+handedAs (answer.Repeated src auth bits) msg = []
+handedAs (answer.Access src dst net key pair len) msg = record { answer = answer.Access src dst net key pair len; octets = take len msg } ∷ []
+handedAs (answer.Control src dst net opcode pair len) msg = record { answer = answer.Control src dst net opcode pair len; octets = take len msg } ∷ []
+handedAs (answer.Acknowledgement src bits effect) msg = []
+
+-- what a call hands up: its answer, with as many octets of the message buffer as it tells
+abbrev pub handed : Outcome → List Handed
+handed (Heard o) = handedAs (o .heard .answer) (o .message)
+handed (Said s) = []
+handed (Ended g) = []
+
+abbrev pub dueAs : Node → List Speech → List Arrival → Event → List Handed
+dueAs node speeches before (Segment k i seq ttl) =
+    if isLastMissing (come k before) i (lastOf node (speechAt speeches k)) then handUp (speechAt speeches k) ∷ [] else
+    []
+dueAs node speeches before (Foreign pdu) = []
+dueAs node speeches before (Ask net src) = []
+
+-- the receiver behind a list of arrivals
+abbrev pub behind : Setup → List Speech → List Arrival → Receiver
+behind setup speeches l = after (start setup) (calls (nodeOf setup) speeches l)
+
+abbrev pub HandedUp : Type 0
+HandedUp =
+    (setup : Setup) (speeches : List Speech) (before : List Arrival) (a : Arrival) (later : List Arrival)
+    → Scene setup speeches (before ++ a ∷ later)
+    → handed (step (behind setup speeches before) (callOf (nodeOf setup) speeches a)) ≡ dueAs (nodeOf setup) speeches before (a .event)
+
+-- ---- 2: an acknowledgement asked for speech k after its first arrival is the one that names exactly the segments come so far
+abbrev pub Acknowledges : Type 0
+Acknowledges =
+    (setup : Setup) (speeches : List Speech) (before : List Arrival) (k net : ℕ) (buf : List ℕ)
+    → Scene setup speeches before → k < length speeches
+    → (let s = speechAt speeches k in
+    let r = behind setup speeches before in
+    -- a segment has come, DST is unicast, the network key is there, and so is the buffer
+    (come k before ≡ 0 → ⊥) → isUnicast (s .dst) ≡ true → net < nodeOf setup .networks → 29 ≤ length buf
+    → acknowledging r net (s .src) buf
+    ≡ sayingAcknowledgement r (elementOf (nodeOf setup) (s .dst)) net (s .src) (record { auth = s .auth; dst = s .dst; bits = come k before }) buf)
+
+-- ---- 3: at the end no session is open, and replay entries and messages are those of the speeches heard one after another
+-- the arrivals of speech k
+abbrev pub ofSpeech : ℕ → Event → Bool
+ofSpeech k (Segment j i seq ttl) = eqb j k
+ofSpeech k (Foreign pdu) = false
+ofSpeech k (Ask net src) = false
+
+abbrev pub arrivalsOf : ℕ → List Arrival → List Arrival
+arrivalsOf k l = picked (λ a. ofSpeech k (a .event)) l
+
+-- those of the first n speeches, one speech after another
+abbrev pub inTurn : ℕ → List Arrival → List Arrival
+inTurn zero l = []
+inTurn (suc n) l = inTurn n l ++ arrivalsOf n l
+
+-- all that a run hands up of a source
+abbrev pub sourceOf : Answer → ℕ
+sourceOf (answer.Refused n) = 0
+sourceOf (answer.Stored src auth bits) = src
+sourceOf (answer.Repeated src auth bits) = src
+sourceOf (answer.Access src dst net key pair len) = src
+sourceOf (answer.Control src dst net opcode pair len) = src
+sourceOf (answer.Acknowledgement src bits effect) = src
+
+abbrev pub messages : ℕ → List Outcome → List Handed
+messages src [] = []
+messages src (o ∷ l) = picked (λ m. eqb (sourceOf (m .answer)) src) (handed o) ++ messages src l
+
+-- what is heard one speech after another
+abbrev pub turns : List Speech → List Arrival → List Arrival
+turns speeches l = inTurn (length speeches) l
+
+pub record Alike (setup : Setup) (speeches : List Speech) (l : List Arrival) : Type 0 where
+  pub no-session : behind setup speeches l .sessions ≡ noSessions
+  -- the replay list, looked up by each source
+  pub entries-alike :
+      (k : ℕ) → k < length speeches
+      → (let src = speechAt speeches k .src in
+      lookUp (behind setup speeches l .replay) src ≡ lookUp (behind setup speeches (turns speeches l) .replay) src)
+  -- one message of each source, and it is the same
+  pub once :
+      (k : ℕ) → k < length speeches
+      → messages (speechAt speeches k .src) (run (start setup) (calls (nodeOf setup) speeches l)) ≡ handUp (speechAt speeches k) ∷ []
+  pub once-in-turn :
+      (k : ℕ) → k < length speeches
+      → messages (speechAt speeches k .src) (run (start setup) (calls (nodeOf setup) speeches (turns speeches l))) ≡ handUp (speechAt speeches k) ∷ []
+
+abbrev pub EndsAlike : Type 0
+EndsAlike =
+    (setup : Setup) (speeches : List Speech) (l : List Arrival) → Scene setup speeches l → AllCome setup speeches l → Alike setup speeches l

@@ -1,0 +1,169 @@
+-- A segmented message of another node, as MP's sender cuts it (document 01, "Transport"): what the second and the third demand speak of.
+--   Words                  an access or a control message
+--   Speech                 who says it to whom, over which network key, and its SeqAuth
+--   octetsOf node s        the octets that are cut into segments
+--   segmentOf node s i     the transport PDU of segment i
+--   headerOf node s i n t  its header, sent with sequence number n and arriving with TTL t
+--   Speakable node s       a speech that this node is to read
+--   handUp s               what is handed up of it
+-- Keys are named by their places in the receiver's own lists.
+use mathlib.Core.Bool.{Bool, true, false}
+use mathlib.Core.List.{List, _++_}
+use mathlib.Core.Logic.{_⊎_}
+use mathlib.Core.Path.{_≡_}
+use Prim.Native.Nat.{ℕ, _+_, _-_, _%_, _≤_, _<_, min}
+use lib.ListN.{length}
+use Rattle.common.specs.Chunks.{chunk, chunkCount}
+use Rattle.common.specs.Lists.{padded}
+use Rattle.network.specs.declared.header.Header.{Header}
+use Rattle.network.specs.Address.{isUnicast}
+use Rattle.network.specs.Candidates.{keyAt}
+use Rattle.network.specs.Pdu.{pduOf}
+use Rattle.transport.specs.declared.securing.Envelope.{Envelope}
+use Rattle.transport.specs.declared.securing.MessageKey.{MessageKey}
+use Rattle.transport.specs.declared.securing.MessageKey.the-variants.{Application, Device}
+use Rattle.transport.specs.Ranges.{OpcodeInRange}
+use Rattle.transport.specs.SecureOpen as message
+use Rattle.transport.specs.Securing.{secured, applicationKeyAt}
+use Rattle.transport.specs.Segment.{accessOctet, controlOctet, fullOctets, segmentFront}
+use Rattle.memory.specs.declared.pair.Pair.{Pair}
+use Rattle.node.specs.declared.addresses.Node.{Node}
+use Rattle.node.specs.Addresses.{forNode}
+use Rattle.receiver.specs.declared.answer.Answer.{Answer}
+use Rattle.receiver.specs.declared.answer.Answer.the-variants as answer
+
+-- what is said
+pub data Words : Type 0 where
+  -- by an application key or the device key, with a TransMIC of 8 octets or of 4
+  Access : (key : MessageKey) (szmic : Bool) (payload : List ℕ) → Words
+  Control : (opcode : ℕ) (parameters : List ℕ) → Words
+
+pub record Speech : Type 0 where
+  pub src : ℕ
+  pub dst : ℕ
+  -- the network key, one for all its segments
+  pub network : ℕ
+  -- SeqAuth: the IV Index, and the sequence number of segment 0
+  pub auth : Pair
+  pub words : Words
+
+-- ---- what is cut
+abbrev pub isControl : Words → Bool
+isControl (Access key szmic payload) = false
+isControl (Control opcode parameters) = true
+
+abbrev pub szmicOf : Words → Bool
+szmicOf (Access key szmic payload) = szmic
+szmicOf (Control opcode parameters) = false
+
+-- the key's octets and AID; the device key has AID 0
+abbrev pub keyOf : Node → MessageKey → List ℕ
+keyOf node (Application i) = applicationKeyAt (node .secrets) i .key
+keyOf node Device = node .device
+
+abbrev pub aidOf : Node → MessageKey → ℕ
+aidOf node (Application i) = applicationKeyAt (node .secrets) i .aid
+aidOf node Device = 0
+
+abbrev pub akfOf : MessageKey → Bool
+akfOf (Application i) = true
+akfOf Device = false
+
+-- octet 0 of each segment
+abbrev pub firstOf : Node → Words → ℕ
+firstOf node (Access key szmic payload) = accessOctet true (akfOf key) (aidOf node key)
+firstOf node (Control opcode parameters) = controlOctet true opcode
+
+-- the second nonce takes its SEQ from SeqAuth
+abbrev pub envelopeOf : Node → Speech → MessageKey → Bool → Envelope
+envelopeOf node s key szmic =
+    record {
+      network = s .network;
+      akf = akfOf key;
+      aid = aidOf node key;
+      szmic = szmic;
+      iv = s .auth .iv;
+      seq = s .auth .seq;
+      src = s .src;
+      dst = s .dst;
+    }
+
+-- an access message is secured; a control message goes as it is
+abbrev pub cutOf : Node → Speech → Words → List ℕ
+cutOf node s (Access key szmic payload) = secured (keyOf node key) (envelopeOf node s key szmic) payload
+cutOf node s (Control opcode parameters) = parameters
+
+unfoldable pub octetsOf : Node → Speech → List ℕ
+octetsOf node s = cutOf node s (s .words)
+
+-- chunks of 12, or of 8 for control
+abbrev pub sizeOf : Speech → ℕ
+sizeOf s = fullOctets (isControl (s .words))
+
+-- SegN
+unfoldable pub lastOf : Node → Speech → ℕ
+lastOf node s = chunkCount (sizeOf s) (length (octetsOf node s)) - 1
+
+-- ---- a segment
+-- octet 0, SZMIC, SeqZero, SegO, SegN; then the chunk
+unfoldable pub segmentOf : Node → Speech → ℕ → List ℕ
+segmentOf node s i =
+    segmentFront (firstOf node (s .words)) (szmicOf (s .words)) (s .auth .seq % 8192) i (lastOf node s) ++ chunk (sizeOf s) (octetsOf node s) i
+
+unfoldable pub headerOf : Node → Speech → (i seq ttl : ℕ) → Header
+headerOf node s i seq ttl =
+    record {
+      key = s .network;
+      iv = s .auth .iv;
+      ctl = isControl (s .words);
+      ttl = ttl;
+      seq = seq;
+      src = s .src;
+      dst = s .dst;
+      len = length (segmentOf node s i);
+      transport = padded 16 (segmentOf node s i);
+    }
+
+-- the PDU, sealed by the network key
+abbrev pub segmentPdu : Node → Speech → (i seq ttl : ℕ) → List ℕ
+segmentPdu node s i seq ttl = pduOf (keyAt (node .keys) (s .network)) (headerOf node s i seq ttl)
+
+-- ---- a speech that this node is to read
+-- there is a payload, and so many octets are cut at most
+pub record Fits (payload cut : List ℕ) (most : ℕ) : Type 0 where
+  pub some : 1 ≤ length payload
+  pub enough : length cut ≤ most
+
+-- a secured message has 384 octets at most. Its application key is held, of its AID and bound to the network key, and no key tried earlier opens the message; the
+-- device key needs a unicast DST. A control message has 256 octets at most, and an opcode of 0x01-0x7F.
+abbrev pub WordsRead : Node → Speech → Words → Type 0
+WordsRead node s (Access (Application i) szmic payload) =
+    Fits payload (octetsOf node s) 384
+    × ((msg : List ℕ) → 384 ≤ length msg
+    → message.Receives (node .secrets) (node .applications) i (envelopeOf node s (Application i) szmic) (octetsOf node s) msg)
+WordsRead node s (Access Device szmic payload) = Fits payload (octetsOf node s) 384 × (isUnicast (s .dst) ≡ true)
+WordsRead node s (Control opcode parameters) = Fits parameters parameters 256 × OpcodeInRange opcode
+
+pub record Speakable (node : Node) (s : Speech) : Type 0 where
+  pub from-unicast : isUnicast (s .src) ≡ true
+  pub for-here : forNode node (s .dst) ≡ true
+  -- DST has 16 bits
+  pub dst-fits : s .dst < 65536
+  -- the network key is held, and the IV Index is the current one or the one before
+  pub held : s .network < min (node .networks) 4
+  pub near : (s .auth .iv ≡ node .iv) ⊎ (s .auth .iv + 1 ≡ node .iv)
+  pub words-read : WordsRead node s (s .words)
+
+-- ---- what is handed up: the answer, and the octets that it counts in the message buffer
+pub record Handed : Type 0 where
+  pub answer : Answer
+  pub octets : List ℕ
+
+abbrev pub handUpAs : Speech → Words → Handed
+handUpAs s (Access key szmic payload) =
+    record { answer = answer.Access (s .src) (s .dst) (s .network) key (s .auth) (length payload); octets = payload }
+handUpAs s (Control opcode parameters) =
+    record { answer = answer.Control (s .src) (s .dst) (s .network) opcode (s .auth) (length parameters); octets = parameters }
+
+abbrev pub handUp : Speech → Handed
+handUp s = handUpAs s (s .words)
