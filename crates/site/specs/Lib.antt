@@ -1,0 +1,2 @@
+-- How a node of the training site is set up.
+pub mod Setting

@@ -1,0 +1,72 @@
+// The rooftop wind box: each digit of standard input asks for the wind, which then has that force (Beaufort), and the box sends a short status.
+//
+// A line of output is what the box sent: its SEQ and the Network PDU. Every other octet of the input asks nothing.
+use receiver::state::Receiver;
+use sending::answer::Answer;
+use sending::request::Request;
+use sending::request::Ttl;
+use transport::securing::MessageKey;
+
+// The group that listens for the wind.
+const LISTENERS: u16 = 0xC0A1;
+
+// Sets the box up, reads standard input, its first 4,096 octets, and answers it.
+fn main() {
+    let mut input = io::buffer();
+    let n = io::read_full(0, &mut input);
+    let wind_box = site::setting::node(0x0101, 0x000100, 0x12345678, false);
+    answer_all(wind_box, &input[..n]);
+}
+
+// Answers each octet in turn.
+fn answer_all(r: Receiver, questions: &[u8]) {
+    let mut wind_box = r;
+    let mut i: usize = 0;
+    while i < questions.len() {
+        let after = answer(wind_box, questions[i]);
+        wind_box = after;
+        i += 1;
+    }
+}
+
+// Answers one octet, and gives the box as it is then.
+fn answer(wind_box: Receiver, question: u8) -> Receiver {
+    match question {
+        b'0'..=b'9' => send_status(wind_box, question - b'0'),
+        _ => wind_box,
+    }
+}
+
+// Sends the wind's force: a status to a group, under the application key, with no TTL named.
+fn send_status(wind_box: Receiver, force: u8) -> Receiver {
+    let request = Request {
+        element: 0,
+        dst: LISTENERS,
+        ttl: Ttl::Unnamed,
+        network: 0,
+    };
+    // A vendor's opcode of three octets (MP 3.7.3.1), and the force.
+    let status = [0xC1, 0xFF, 0xFF, force];
+    let mut pdu = [0u8; 29];
+    let spoken = sending::access::send(
+        wind_box,
+        request,
+        MessageKey::Application(0),
+        false,
+        &status,
+        &mut pdu,
+    );
+    let answer = spoken.answer;
+    let next = wind_box.next;
+    show(next[0], answer, &pdu);
+    spoken.receiver
+}
+
+// Writes what was sent with a SEQ, or why nothing was.
+fn show(seq: u32, answer: Answer, pdu: &[u8]) {
+    let Answer::Sent(len) = answer else {
+        site::write::refused(sending::answer::number(answer));
+        return;
+    };
+    site::write::sent(seq, site::first(pdu, len));
+}
