@@ -1,6 +1,6 @@
-"""Makes crates/samples/stdin (requests) and crates/samples/stdout (their answers) from ciphers.json and mp_samples.json.
+"""Makes crates/samples/stdin (requests), crates/samples/stdout (their answers) and crates/spoken/stdout from ciphers.json and mp_samples.json.
 
-  python3 vectors/make_samples.py            writes both files
+  python3 vectors/make_samples.py            writes the files
   python3 vectors/make_samples.py --check    writes nothing; fails, and names the first difference, where the files differ
 
 Every answer is what a document prints: nothing here computes a cipher. Two are known without one: `refused`, for what was damaged by
@@ -12,8 +12,10 @@ import sys
 from itertools import zip_longest
 from pathlib import Path
 
+from spoken import spoken
+
 HERE = Path(__file__).resolve().parent
-CRATE = HERE.parent / "crates" / "samples"
+CRATES = HERE.parent / "crates"
 # The program reads no more than this.
 MOST = 65536
 # Lines that are no request, by what is wrong with them.
@@ -58,6 +60,11 @@ NETOPEN = (
 )
 
 
+def text_of(lines):
+    """Lines as a file has them."""
+    return "".join(line + "\n" for line in lines)
+
+
 class Samples:
     """Requests and their answers, line by line, and how many there are of each kind."""
 
@@ -81,8 +88,7 @@ class Samples:
 
     def files(self):
         """The two files, by their names."""
-        texts = {"stdin": self.requests, "stdout": self.answers}
-        return {name: "".join(line + "\n" for line in lines) for name, lines in texts.items()}
+        return {"samples/stdin": text_of(self.requests), "samples/stdout": text_of(self.answers)}
 
 
 def expect(true, what):
@@ -300,7 +306,7 @@ def all_samples():
 
 def first_difference(name, made):
     """Where the file in the tree differs from what is made now, or nothing."""
-    path = CRATE / name
+    path = CRATES / name
     if not path.exists():
         return f"{name}: there is no such file"
     old, new = path.read_bytes().split(b"\n"), made.encode().split(b"\n")
@@ -316,15 +322,18 @@ def main(words):
         sys.exit(__doc__)
     samples = all_samples()
     files = samples.files()
-    expect(len(files["stdin"].encode()) <= MOST, f"more than {MOST} octets of requests")
+    expect(len(files["samples/stdin"].encode()) <= MOST, f"more than {MOST} octets of requests")
+    messages = spoken(json.loads((HERE / "mp_samples.json").read_text())["messages"])
+    files["spoken/stdout"] = text_of(messages)
     for name, made in files.items():
         if words:
             difference = first_difference(name, made)
             if difference:
                 sys.exit(difference)
         else:
-            (CRATE / name).write_bytes(made.encode())
-    print(", ".join(f"{count} {kind}" for kind, count in samples.counts.items()))
+            (CRATES / name).write_bytes(made.encode())
+    pdus = sum(line.startswith("SEQ ") for line in messages)
+    print(", ".join(f"{count} {kind}" for kind, count in samples.counts.items()) + f", {pdus} sent")
 
 
 if __name__ == "__main__":

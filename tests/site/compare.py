@@ -82,7 +82,7 @@ def compare_bench(sender=0x0102, station=0x0201, first=0x000200, acknowledged=0x
     """The segments carry the message that is read back, and the last PDU acknowledges all of them."""
     lines = lines_of("training_bench", "stdout")
     *segments, (seq, acknowledgement) = sent(lines)
-    text = next(line.split(": ", 1)[1] for line in lines if line.startswith(f"access message from {sender:04x}: "))
+    text = lines[lines.index(f"access message from {sender:04x}:") + 1]
     last, upper = len(segments) - 1, b""
     for place, (number, pdu) in enumerate(segments):
         expect(number, first + place, "the bench: SEQ")

@@ -1,5 +1,6 @@
 // The training site: nodes of one element with the keys of MP's sample data, and what the site's programs write.
 pub mod setting;
+pub mod words;
 pub mod write;
 
 ghost use mathlib.Core.Path.{_≡_};

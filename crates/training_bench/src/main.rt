@@ -1,8 +1,6 @@
 // The training bench: a box sends one long message to the receiver, segment by segment, and the receiver's answers and the message are shown.
 //
 // A line of output is a PDU that was sent, with its SEQ, or what the node that hears it answers.
-mod words;
-
 use receiver::state::Receiver;
 use sending::answer::Answer;
 use sending::answer::Spoken;
@@ -81,7 +79,7 @@ fn carry(bench: Bench, spoken: Spoken, pdu: &[u8]) -> Bench {
     let before = bench.sender;
     let next = before.next;
     let answer = spoken.answer;
-    let heard = words::say(next[0], answer, pdu);
+    let heard = site::words::say(next[0], answer, pdu);
     let station = hear(bench.station, heard);
     let sender = spoken.receiver;
     Bench { sender, station }
@@ -93,7 +91,11 @@ fn hear(node: Receiver, pdu: &[u8]) -> Receiver {
     let mut message = [0u8; 384];
     let heard = receiver::hear::hear(node, pdu, &mut forward, &mut message);
     let answer = heard.answer;
-    words::show(answer, &message);
+    let n = site::words::answer(answer);
+    if 0 < n {
+        site::write::text(site::first(&message, n));
+        site::write::text(b"\n");
+    }
     heard.receiver
 }
 
@@ -104,6 +106,6 @@ fn acknowledge(bench: Bench) {
     let mut pdu = [0u8; 29];
     let spoken = sending::acknowledge::send(station, 0, SENDER, &mut pdu);
     let answer = spoken.answer;
-    let heard = words::say(next[0], answer, &pdu);
+    let heard = site::words::say(next[0], answer, &pdu);
     hear(bench.sender, heard);
 }

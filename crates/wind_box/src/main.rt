@@ -2,7 +2,6 @@
 //
 // A line of output is what the box sent: its SEQ and the Network PDU. Every other octet of the input asks nothing.
 use receiver::state::Receiver;
-use sending::answer::Answer;
 use sending::request::Request;
 use sending::request::Ttl;
 use transport::securing::MessageKey;
@@ -58,15 +57,6 @@ fn send_status(wind_box: Receiver, force: u8) -> Receiver {
     );
     let answer = spoken.answer;
     let next = wind_box.next;
-    show(next[0], answer, &pdu);
+    site::words::say(next[0], answer, &pdu);
     spoken.receiver
-}
-
-// Writes what was sent with a SEQ, or why nothing was.
-fn show(seq: u32, answer: Answer, pdu: &[u8]) {
-    let Answer::Sent(len) = answer else {
-        site::write::refused(sending::answer::number(answer));
-        return;
-    };
-    site::write::sent(seq, site::first(pdu, len));
 }

@@ -1,0 +1,93 @@
+// Sends MP's sample messages (MP 8.3) from their payloads through the sending operations, and writes each Network PDU with its SEQ.
+//
+// A line that begins with # names the message. Friends and low power nodes, whose credentials we have not, are left out.
+mod exchange;
+
+use receiver::state::Receiver;
+use sending::request::Request;
+use sending::request::Ttl;
+use transport::securing::MessageKey;
+
+// Sends all with MP's IV Index, then in an update to the next one, in which the one before is still sent with.
+fn main() {
+    title(b"IV Index 12345678");
+    send_all(0x12345678, false);
+    title(b"IV Index 12345679, in an update");
+    send_all(0x12345679, true);
+    title(b"MP 8.3.22: Message #22, to a virtual address, which sending refuses");
+    send_to_label();
+    exchange::acknowledge_all();
+    title(b"left out: Message #4, #5, #10, #11, whose credentials are those of a friendship");
+}
+
+// Writes a line that begins with #.
+pub(crate) fn title(words: &[u8]) {
+    site::write::text(b"# ");
+    site::write::text(words);
+    site::write::text(b"\n");
+}
+
+// What a request to send names.
+pub(crate) fn request(dst: u16, ttl: u8) -> Request {
+    Request {
+        element: 0,
+        dst,
+        ttl: Ttl::Named(ttl),
+        network: 0,
+    }
+}
+
+// Each message by the node that sends it.
+fn send_all(iv: u32, flag: bool) {
+    title(b"MP 8.3.1: Message #1");
+    let request = b"\x4b\x50\x05\x7e\x40\x00\x00\x01\x00\x00";
+    control(
+        site::setting::node(0x1201, 0x000001, iv, flag),
+        0xFFFD,
+        3,
+        request,
+    );
+    title(b"MP 8.3.2: Message #2");
+    let offer = b"\x32\x03\x08\xba\x07\x2f";
+    control(
+        site::setting::node(0x2345, 0x014820, iv, flag),
+        0x1201,
+        4,
+        offer,
+    );
+    title(b"MP 8.3.3: Message #3");
+    let other = b"\xfa\x02\x05\xa6\x00\x0a";
+    control(
+        site::setting::node(0x2FE3, 0x2B3832, iv, flag),
+        0x1201,
+        4,
+        other,
+    );
+    exchange::send_all(site::setting::node(0x0003, 0x3129AB, iv, flag));
+}
+
+// A node sends a control message with TTL 0.
+fn control(node: Receiver, dst: u16, opcode: u8, parameters: &[u8]) {
+    let next = node.next;
+    let mut pdu = [0u8; 29];
+    let spoken = sending::control::send(node, request(dst, 0), opcode, parameters, &mut pdu);
+    let answer = spoken.answer;
+    site::words::say(next[0], answer, &pdu);
+}
+
+// A node sends message #22, under the application key.
+fn send_to_label() {
+    let node = site::setting::node(0x1234, 0x07080B, 0x12345677, false);
+    let next = node.next;
+    let mut pdu = [0u8; 29];
+    let spoken = sending::access::send(
+        node,
+        request(0xB529, 3),
+        MessageKey::Application(0),
+        false,
+        b"\xd5\x0a\x00Hello",
+        &mut pdu,
+    );
+    let answer = spoken.answer;
+    site::words::say(next[0], answer, &pdu);
+}
