@@ -48,7 +48,7 @@ fn send_message(bench: Bench) -> Bench {
     );
     let begun = carry(bench, spoken, &pdu);
     let answer = spoken.answer;
-    let Answer::Started { len: _, segn } = answer else {
+    let Answer::Started { segn, .. } = answer else {
         return begun;
     };
     send_rest(begun, segn)
