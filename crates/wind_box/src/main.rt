@@ -1,6 +1,7 @@
-// The rooftop wind box: each digit of standard input asks for the wind, which then has that force (Beaufort), and the box sends a short status.
+// The rooftop wind box: it sends a short status every time it is asked.
 //
-// A line of output is what the box sent: its SEQ and the Network PDU. Every other octet of the input asks nothing.
+// Each digit of standard input asks, while the wind blows with that force (Beaufort); every other octet asks nothing. A line of output is
+// what the box sent: its SEQ and the Network PDU.
 use receiver::state::Receiver;
 use sending::request::Request;
 use sending::request::Ttl;
