@@ -415,6 +415,7 @@ ends-alike setup speeches l c all =
       no-session =
           no-sessions (nodeOf setup) (well setup speeches l c) speeches (c .eight-at-most) (c .speakable) (c .sources-differ) (c .spent)
           (behind setup speeches l) (λ k. come k l) sc (λ k hk. ended setup speeches l c all k hk .no-slot);
+      entries-are = λ k hk. ended setup speeches l c all k hk .entry-is;
       entries-alike = λ k hk. ended setup speeches l c all k hk .entry-is ∙ sym (ended setup speeches (turns speeches l) d all-turn k hk .entry-is);
       once = λ k hk. one-message setup speeches l c all k hk;
       once-in-turn = λ k hk. one-message setup speeches (turns speeches l) d all-turn k hk;

@@ -219,7 +219,13 @@ turns speeches l = inTurn (length speeches) l
 
 pub record Alike (setup : Setup) (speeches : List Speech) (l : List Arrival) : Type 0 where
   pub no-session : behind setup speeches l .sessions ≡ noSessions
-  -- the replay list, looked up by each source
+  -- each source's replay entry is its message's SeqAuth, and that message is remembered as the last
+  pub entries-are :
+      (k : ℕ) → k < length speeches
+      → (let s = speechAt speeches k in
+      lookUp (behind setup speeches l .replay) (s .src)
+      ≡ record { src = s .src; pair = s .auth; last = record { auth = s .auth; segn = lastOf (nodeOf setup) s; dst = s .dst } })
+  -- and it is that of the speeches heard in turn
   pub entries-alike :
       (k : ℕ) → k < length speeches
       → (let src = speechAt speeches k .src in
