@@ -16,3 +16,10 @@ pub mod StepLaws
 pub mod SceneLaws
 pub mod ArrivalLaws
 pub mod Interleaved
+pub mod SentLaws
+pub mod SaidLaws
+pub mod SegmentsSent
+pub mod SegmentsHeard
+pub mod WholeHeard
+pub mod WholeSent
+pub mod ReadBack

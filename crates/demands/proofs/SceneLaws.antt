@@ -67,7 +67,7 @@ seen-or-new c src seq a q long e =
     inl (lt-ltb (first (isEntry a q) l) 16 (omega arith)))
 
 -- an empty one has seen nothing of a source
-seen-none : (a q : ℕ) → (a ≡ 0 → ⊥) → seen noCache a q ≡ true → ⊥
+pub seen-none : (a q : ℕ) → (a ≡ 0 → ⊥) → seen noCache a q ≡ true → ⊥
 unfolding seen
 seen-none a q z e =
     let l = replicate 16 noSeen in

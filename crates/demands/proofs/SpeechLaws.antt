@@ -59,18 +59,18 @@ use Rattle.receiver.specs.declared.answer.Taken.{Taken}
 use Rattle.receiver.specs.declared.state.Receiver.{Receiver}
 use Rattle.receiver.specs.Hearing.{takenAs}
 use Rattle.receiver.specs.Segmented as segments
-use Rattle.demands.specs.Speech.{Words, Access, Control, Speech, isControl, szmicOf, keyOf, aidOf, akfOf, firstOf, envelopeOf, cutOf, octetsOf, sizeOf, lastOf, segmentOf, headerOf, WordsRead, Speakable, Handed, handUpAs, handUp}
+use Rattle.demands.specs.Speech.{Words, Access, Control, Speech, isControl, szmicOf, keyOf, aidOf, akfOf, firstOf, envelopeOf, cutOf, octetsOf, sizeOf, lastOf, segmentOf, headerOf, Fits, WordsRead, Speakable, Handed, handUpAs, handUp}
 
--- ---- octets in an array of sixteen
-module _ (l : List ℕ) (short : length l ≤ 16) where
-  padded-behind : padded 16 l ≡ l ++ drop (length l) (replicate 16 0)
-  padded-behind = sym (onto-zeros 16 l short)
+-- ---- octets in an array with room for them
+module _ (n : ℕ) (l : List ℕ) (short : length l ≤ n) where
+  pub padded-behind : padded n l ≡ l ++ drop (length l) (replicate n 0)
+  padded-behind = sym (onto-zeros n l short)
 
-  taken-back : take (length l) (padded 16 l) ≡ l
-  taken-back = rw padded-behind (take-append-seam l (drop (length l) (replicate 16 0)))
+  pub taken-back : take (length l) (padded n l) ≡ l
+  taken-back = rw padded-behind (take-append-seam l (drop (length l) (replicate n 0)))
 
 -- AID has 6 bits
-aid-low : (key : List ℕ) → k4 key < 64
+pub aid-low : (key : List ℕ) → k4 key < 64
 unfolding k4
 aid-low key = omega arith
 
@@ -96,7 +96,7 @@ pub size-bounds : (s : Speech) → (1 ≤ sizeOf s) × (sizeOf s ≤ 12)
 size-bounds s = by-test (isControl (s .words)) (λ t. rw t (omega arith, omega arith)) (λ t. rw t (omega arith, omega arith))
 
 module _ (node : Node) (s : Speech) where
-  cut-is : (ws : Words) → s .words ≡ ws → octetsOf node s ≡ cutOf node s ws
+  pub cut-is : (ws : Words) → s .words ≡ ws → octetsOf node s ≡ cutOf node s ws
   unfolding octetsOf
   cut-is ws e = ap (cutOf node s) e
 
@@ -129,6 +129,46 @@ module _ (node : Node) (s : Speech) where
         most = rw c (omega arith);
         few = rw (ap (λ (x : Words). fullOctets (isControl x)) e, c) (omega arith);
       }
+
+  -- ---- the message opens again
+  -- AID has 6 bits, AKF 0 needs a unicast DST, and the receiver's keys give the payload after so many trials
+  pub record Opens (key : MessageKey) (szmic : Bool) (payload msg : List ℕ) : Type 0 where
+    pub aid-fits : aidOf node key < 64
+    pub unicast : akfOf key ≡ false → isUnicast (s .dst) ≡ true
+    pub trials : ℕ
+    pub opens-to :
+        unsecuring (node .secrets) (node .applications) (node .device) (envelopeOf node s key szmic) (octetsOf node s) msg
+        ≡ lent (Message key trials (length payload)) (onto payload msg)
+
+  module _ (made : WellMade node) (szmic : Bool) (payload msg : List ℕ) (room : 384 ≤ length msg) where
+    fits-here : (key : MessageKey) → s .words ≡ Access key szmic payload → Fits payload (octetsOf node s) 384 → message.Fits payload msg
+    fits-here key e f =
+        let l = secured-length (keyOf node key) (envelopeOf node s key szmic) payload in
+        record { some-payload = f .some; short = let m = rw (cut-is (Access key szmic payload) e) at (f .enough) in omega arith; room = room }
+
+    pub message-opens : (key : MessageKey) → s .words ≡ Access key szmic payload → WordsRead node s (Access key szmic payload) → Opens key szmic payload msg
+    message-opens (Application j) e q =
+        let k = q .1 msg room in
+        let held = k .held in
+        let c = cut-is (Access (Application j) szmic payload) e in
+        record {
+          aid-fits = rw (made .aid-derived j (omega arith)) (aid-low (applicationKeyAt (node .secrets) j .key));
+          unicast = λ f. absurd (true≢false f);
+          trials = length (applicationCandidates (node .secrets) j (envelopeOf node s (Application j) szmic)) + 1;
+          opens-to =
+              rw c
+              (unsecure-secure (node .secrets) (node .applications) j (node .device) (envelopeOf node s (Application j) szmic) payload msg
+              (fits-here (Application j) e (q .0)) (rw c at k));
+        }
+    message-opens Device e q =
+        record {
+          aid-fits = omega arith;
+          unicast = λ _. q .1;
+          trials = 0;
+          opens-to =
+              rw (cut-is (Access Device szmic payload) e)
+              (unsecure-secure-device (node .secrets) (node .applications) (node .device) (envelopeOf node s Device szmic) payload msg (fits-here Device e (q .0)) refl);
+        }
 
   module _ (w : Speakable node s) where
     pub cut : Cut node s
@@ -187,7 +227,7 @@ module _ (node : Node) (s : Speech) where
 
         transport-is : transportOf h ≡ segmentOf node s i
         unfolding headerOf
-        transport-is = taken-back (segmentOf node s i) segment-short
+        transport-is = taken-back 16 (segmentOf node s i) segment-short
 
         pub segment-octets : segmentOctets h ≡ part
         unfolding segmentOctets segmentOf
@@ -203,7 +243,7 @@ module _ (node : Node) (s : Speech) where
             record {
               behind = part ++ drop (length (segmentOf node s i)) (replicate 16 0);
               ctl-is = e;
-              begins = padded-behind (segmentOf node s i) segment-short ∙ append-assoc front part (drop (length (segmentOf node s i)) (replicate 16 0));
+              begins = padded-behind 16 (segmentOf node s i) segment-short ∙ append-assoc front part (drop (length (segmentOf node s i)) (replicate 16 0));
             }
 
         fits : (full : ℕ) → full ≡ 4 + sizeOf s → segmentFits i (lastOf node s) (h .len) full ≡ true
@@ -257,10 +297,9 @@ module _ (node : Node) (s : Speech) where
 
         module _ (made : WellMade node) where
           taken-as : (r : Receiver) (msg : List ℕ) (ws : Words) → s .words ≡ ws → WordsRead node s ws → takenAs (formOf h) r h msg ≡ asSegment r msg
-          taken-as r msg (Access (Application j) szmic payload) e q =
-              let held = q .1 (replicate 384 0) (omega arith) .held in
-              taken-access r msg (Application j) szmic payload e (rw (made .aid-derived j (omega arith)) (aid-low (applicationKeyAt (node .secrets) j .key))) (λ f. absurd (true≢false f))
-          taken-as r msg (Access Device szmic payload) e q = taken-access r msg Device szmic payload e (omega arith) (λ _. q .1)
+          taken-as r msg (Access key szmic payload) e q =
+              let o = message-opens made szmic payload (replicate 384 0) (omega arith) key e q in
+              taken-access r msg key szmic payload e (o .aid-fits) (o .unicast)
           taken-as r msg (Control code parameters) e q = taken-control r msg code parameters e (q .1)
 
           pub segment-taken : (r : Receiver) (msg : List ℕ) → takenAs (formOf h) r h msg ≡ asSegment r msg
@@ -335,20 +374,9 @@ module _ (node : Node) (made : WellMade node) (s : Speech) (w : Speakable node s
 
     up-as : (ws : Words) → s .words ≡ ws → WordsRead node s ws → Up msg
     unfolding segments.controlUp segments.messageOf
-    up-as (Access (Application j) szmic payload) e q =
-        let k = q .1 msg room in
-        let held = k .held in
-        let c = cut-is node s (Access (Application j) szmic payload) e in
-        let l = secured-length (keyOf node (Application j)) (envelopeOf node s (Application j) szmic) payload in
-        let fits : message.Fits payload msg = record { some-payload = q .0 .some; short = let m = rw c at (q .0 .enough) in omega arith; room = room } in
-        opened-up (Application j) szmic payload (length (applicationCandidates (node .secrets) j (envelopeOf node s (Application j) szmic)) + 1) e (rw (made .aid-derived j (omega arith)) (aid-low (applicationKeyAt (node .secrets) j .key)))
-        (rw c (unsecure-secure (node .secrets) (node .applications) j (node .device) (envelopeOf node s (Application j) szmic) payload msg fits (rw c at k)))
-    up-as (Access Device szmic payload) e q =
-        let c = cut-is node s (Access Device szmic payload) e in
-        let l = secured-length (keyOf node Device) (envelopeOf node s Device szmic) payload in
-        let fits : message.Fits payload msg = record { some-payload = q .0 .some; short = let m = rw c at (q .0 .enough) in omega arith; room = room } in
-        opened-up Device szmic payload 0 e (omega arith)
-        (rw c (unsecure-secure-device (node .secrets) (node .applications) (node .device) (envelopeOf node s Device szmic) payload msg fits refl))
+    up-as (Access key szmic payload) e q =
+        let o = message-opens node s made szmic payload msg room key e q in
+        opened-up key szmic payload (o .trials) e (o .aid-fits) (o .opens-to)
     up-as (Control code parameters) e q =
         record {
           trials = 0;

@@ -7,4 +7,5 @@ pub mod Determinacy
 pub mod NeverTwice
 pub mod Speech
 pub mod Interleaved
+pub mod ReadBack
 pub mod Invariant

@@ -1,0 +1,328 @@
+-- Demand 2. A call that made a PDU went one of two ways. Whole: the PDU opens to the header that was sealed; a fresh receiver has nothing against it; the transport PDU reads back as it was
+-- written, and the message's key, which both hold, opens what it secured. In segments: the sender keeps the secured octets and each later call seals their next chunk under the next
+-- SEQ, so the PDUs are those of one speech, each segment once and in order; that is a scene of demand 3 with one speaker, where segment n finds the places below it
+-- filled, and so SegN is the one that was missing last. Requests that are allowed name keys and lengths that both sides agree on. Assumes nothing.
+use mathlib.Core.Bool.{Bool, true, false, _&&_, _||_, not, false≢true, true≢false}
+use mathlib.Core.List.{List, [], _∷_, _++_, map}
+use mathlib.Core.Path.{_≡_, refl, sym, ap, _∙_, subst}
+use Prim.Native.Nat.{ℕ, zero, suc, _+_, _-_, _≤_, _<_, min}
+use native.Mathlib.Omega.{arith}
+use borrow.Author.Tests.{eqb-true, eqb-false, leb-true}
+use lib.Dec.{eqb, leb}
+use lib.ListN.{length, take, drop, replicate, length-set}
+use lib.Seq.{getD-set-same}
+use Rattle.common.specs.Choice.{if_then_else_}
+use Rattle.common.specs.Lent.{Lent, lent}
+use Rattle.common.specs.Lists.{tabFrom, onto, padded}
+use Rattle.common.proofs.Tests.{by-test, and-first, and-second}
+use Rattle.modes.specs.Ccm.{micOctets}
+use Rattle.keys.specs.declared.NetworkKeys.{NetworkKeys}
+use Rattle.network.specs.declared.header.Header.{Header}
+use Rattle.network.specs.Address.{isUnicast, destinationKind, addressesAllowed, kindOf}
+use Rattle.network.specs.Candidates.{keyAt}
+use Rattle.network.specs.Header.{transportOf}
+use Rattle.network.specs.Pdu.{pduOf}
+use Rattle.network.specs.Sealing.{sealable}
+use Rattle.network.specs.SealOpen.{Formed, Receives}
+use Rattle.network.proofs.Sealed.{within}
+use Rattle.transport.specs.declared.form.Form.the-variants as form
+use Rattle.transport.specs.declared.securing.Envelope.{Envelope}
+use Rattle.transport.specs.declared.securing.MessageKey.{MessageKey}
+use Rattle.transport.specs.declared.securing.MessageKey.the-variants.{Application, Device}
+use Rattle.transport.specs.declared.securing.Opened.the-variants.{Message}
+use Rattle.transport.specs.Form.{keyFits, formOf}
+use Rattle.transport.specs.Ranges.{KeyInRange}
+use Rattle.transport.specs.ReadsBack.{Carries}
+use Rattle.transport.specs.SecureOpen as message
+use Rattle.transport.specs.Securing.{transMic, secured, applicationKeyAt, applicationCandidates, unsecuring}
+use Rattle.transport.specs.Segment.{accessOctet, controlOctet}
+use Rattle.transport.proofs.ReadsBack.{access-reads-back, control-reads-back}
+use Rattle.transport.proofs.SecureOpen.{secured-length, unsecure-secure, unsecure-secure-device}
+use Rattle.memory.specs.declared.outgoing.Outgoing.{Outgoing}
+use Rattle.memory.specs.declared.session.Terms.{Terms}
+use Rattle.node.specs.declared.addresses.Node.{Node}
+use Rattle.node.specs.declared.setup.Setup.{Setup}
+use Rattle.node.specs.Made.{WellMade}
+use Rattle.receiver.specs.declared.state.Receiver.{Receiver}
+use Rattle.receiver.specs.Good.{Good}
+use Rattle.receiver.specs.Whole.{wholeEnvelope}
+use Rattle.receiver.proofs.Good.{good-fresh}
+use Rattle.sending.specs.declared.access.KeyUsed.{KeyUsed}
+use Rattle.sending.specs.declared.answer.Spoken.{Spoken}
+use Rattle.sending.specs.declared.request.Request.{Request}
+use Rattle.sending.specs.Access as access
+use Rattle.sending.specs.Control as control
+use Rattle.sending.specs.Request.{ttlOf}
+use Rattle.sending.specs.Segment.{segmentHeader}
+use Rattle.sending.specs.Transmission.{sendingIv, addressOf, nextSeq, withNext, stamped}
+use Rattle.demands.specs.Call.{Call, Hear, Outcome, Said, step, left, run}
+use Rattle.demands.specs.Interleaved as scene
+use Rattle.demands.specs.Interleaved.{Spent, start, nodeOf, speechAt, Each, handed}
+use Rattle.demands.specs.NeverTwice.{made}
+use Rattle.demands.specs.ReadBack.{sayCall, restOf, pduMade, pdus, outcomes, saidBy, Shared, OwnKeyFirst, OwnMessageFirst, Sending, lastOnly, hearAll, ReadBack}
+use Rattle.demands.specs.Speech.{Words, Access, Control, Speech, keyOf, aidOf, akfOf, envelopeOf, octetsOf, lastOf, headerOf, segmentPdu, Speakable, Handed, handUp}
+use Rattle.demands.proofs.SaidLaws.{KeySame, key-same, keys-allowed, envelope-same, octets-same, access-fits, access-read, opcode-range, words-of, near, held, element-there, Kept, kept}
+use Rattle.demands.proofs.SceneLaws.{begins, unicast-some}
+use Rattle.demands.proofs.SegmentsHeard.{heard-in-order}
+use Rattle.demands.proofs.SegmentsSent.{Can, pduAt, Keeps, keeps-next, can-said, pdu-said, Rest, rest-sent}
+use Rattle.demands.proofs.SentLaws.{Transmits, SaidBy, StartedBy, allowedAs, wholeAs, headerAs, keptAs, sendingAs, Way, Whole, Begun, way}
+use Rattle.demands.proofs.SpeechLaws.{padded-behind, taken-back, aid-low, last-low, formed}
+use Rattle.demands.proofs.WholeSent.{wholeHeader, Passes, access-whole, control-whole}
+
+-- each of a table is one of its places
+each-place : {A : Type 0} (P : A → Type 0) (f : ℕ → A) (n m : ℕ) → Each P (tabFrom f n m) → (j : ℕ) → n ≤ j → j < n + m → P (f j)
+each-place P f n zero e j l h = absurd (omega arith)
+each-place P f n (suc m) e j l h =
+    by-test (eqb j n)
+    (λ t. subst (λ (x : ℕ). P (f x)) (sym (eqb-true j n t)) (e .0))
+    (λ t. let q = eqb-false j n t in each-place P f (suc n) m (e .1) j (omega arith) (omega arith))
+
+-- what may be sent comes from a unicast address
+sent-unicast : (ctl : Bool) (src dst : ℕ) → addressesAllowed ctl src dst ≡ true → isUnicast src ≡ true
+unfolding addressesAllowed
+sent-unicast ctl src dst a = and-first (isUnicast src) _ a
+
+module _ (sender : Receiver) (setup : Setup) (q : Request) (words : Words) (buf fwd msg : List ℕ) (p : Sending sender setup q words buf)
+    (wide : 29 ≤ length fwd) (big : 384 ≤ length msg) where
+  abbrev node : Node
+  node = nodeOf setup
+
+  abbrev s : Speech
+  s = saidBy sender q words
+
+  abbrev said : Lent Spoken
+  said = sendingAs sender q words buf
+
+  well : WellMade node
+  well = good-fresh setup (p .ready) .node-made
+
+  -- ---- what was sent, by the answer to the first call
+  step-is : (ws : Words) → step sender (sayCall q ws buf) ≡ Said (sendingAs sender q ws buf)
+  step-is (Access key szmic payload) = refl
+  step-is (Control code parameters) = refl
+
+  abbrev madeOf : Outcome → List (List ℕ)
+  madeOf o = pduMade o ∷ map pduMade (run (left o) (restOf o buf))
+
+  abbrev Made : Outcome → Type 0
+  Made o = Each (λ x. made x ≡ true) (o ∷ run (left o) (restOf o buf))
+
+  all-made : Made (Said said)
+  all-made = subst Made (step-is words) (p .sent)
+
+  all-first : Each (OwnKeyFirst node s) (madeOf (Said said))
+  all-first = subst (λ (o : Outcome). Each (OwnKeyFirst node s) (madeOf o)) (step-is words) (p .own-key-first)
+
+  abbrev Read : List (List ℕ) → Type 0
+  Read l = map handed (run (start setup) (hearAll fwd msg l)) ≡ lastOnly (handUp s) l
+
+  -- what the receiver's keys are to a header of the speech
+  receives : (h : Header) (pdu : List ℕ) → allowedAs sender q words ≡ true → h .key ≡ q .network → h .iv ≡ sendingIv (sender .node) → OwnKeyFirst node s pdu
+      → Receives (node .keys) (node .networks) (node .iv) h pdu
+  receives h pdu a ek ei f =
+      record {
+        held = rw ek (held sender node (p .shared) q words a);
+        near = rw ei (near sender node (p .shared) q (p .good .node-made));
+        none-before = rw (ek, ei) f;
+      }
+
+  -- ---- in segments
+  module _ (a : allowedAs sender q words ≡ true) (w : wholeAs sender q words ≡ false) (b : StartedBy sender (q .element) (keptAs sender q words) said) where
+    abbrev o : Outgoing
+    o = keptAs sender q words
+
+    abbrev first : ℕ
+    first = nextSeq sender (q .element)
+
+    there : q .element < min (sender .node .elements) 8
+    there = element-there sender node (p .shared) q words a
+
+    keeping : Kept sender node (p .shared) q s o
+    keeping = kept sender node (p .shared) q words a
+
+    abbrev last : ℕ
+    last = lastOf node s
+
+    abbrev pduOfSegment : ℕ → List ℕ
+    pduOfSegment n = segmentPdu node s n (first + n) (ttlOf (q .ttl))
+
+    last-is : o .terms .segn ≡ last
+    last-is = ap (λ (t : Terms). t .segn) (keeping .terms-is)
+
+    -- segment 0, and the sender behind it
+    zero-next : nextSeq sender (q .element) ≡ first + 0
+    zero-next = omega arith
+
+    can-zero : Can sender (p .good .node-made) node (p .shared) q there s refl o keeping first 0
+    can-zero = can-said sender (p .good .node-made) node (p .shared) q there s refl o keeping first sender 0 refl zero-next _ _ (b .transmitted-is)
+
+    pdu-zero : pduMade (Said said) ≡ pduOfSegment 0
+    pdu-zero =
+        rw (b .says)
+        (pdu-said sender (p .good .node-made) node (p .shared) q there s refl o keeping first sender 0 refl zero-next (b .len) _ (b .transmitted-is))
+
+    keeps-one : Keeps sender (p .good .node-made) node (p .shared) q there s refl o keeping first (said .answer .receiver) 1
+    unfolding withNext
+    keeps-one =
+        let places = p .good .next-well .places in
+        let low = there in
+        rw (b .leaves)
+        (record {
+          out-is = refl;
+          node-is = refl;
+          next-is = getD-set-same (sender .next) (q .element) (first + 1) 0 (omega arith);
+          places = length-set (sender .next) (q .element) (first + 1) ∙ places;
+        })
+
+    rest : Rest sender (p .good .node-made) node (p .shared) q there s refl o keeping first buf (said .answer .receiver) 1 last
+    rest =
+        rest-sent sender (p .good .node-made) node (p .shared) q there s refl o keeping first buf (said .answer .receiver) 1 last keeps-one
+        (rw (b .says, last-is) at (all-made .1))
+
+    made-are : madeOf (Said said) ≡ tabFrom pduOfSegment 0 (suc last)
+    made-are =
+        ap (λ (x : List ℕ). x ∷ map pduMade (run (said .answer .receiver) (restOf (Said said) buf))) pdu-zero
+        ∙ rw (b .says, last-is) (ap (λ (l : List (List ℕ)). pduOfSegment 0 ∷ l) (rest .pdus-are))
+
+    -- the speech is one that the receiver is to read
+    speaks : Speakable node s
+    unfolding headerOf
+    speaks =
+        let h = headerOf node s 0 (first + 0) (ttlOf (q .ttl)) in
+        record {
+          from-unicast = sent-unicast (h .ctl) (h .src) (h .dst) (within (keyAt (node .keys) (q .network)) h can-zero .allowed);
+          for-here = p .for-here;
+          dst-fits = p .dst-fits;
+          held = held sender node (p .shared) q words a;
+          near = near sender node (p .shared) q (p .good .node-made);
+          words-read = words-of sender node (p .shared) q words a w (p .own-message-first);
+        }
+
+    -- a number is spent on the segment that it is behind the first
+    abbrev spent : Spent
+    spent k n = n - first
+
+    sent : (n : ℕ) → n ≤ last → scene.Sent node (s ∷ []) spent 0 n (first + n) (ttlOf (q .ttl))
+    unfolding headerOf
+    sent n h =
+        let low = last-low node s speaks in
+        let key = each-place (OwnKeyFirst node s) pduOfSegment 0 (suc last) (subst (Each (OwnKeyFirst node s)) made-are all-first) n (omega arith) (omega arith) in
+        record {
+          one-of = omega arith;
+          segment-there = h;
+          number-spent = omega arith;
+          in-time = record { later = omega arith; near = omega arith };
+          can-be-sent =
+              by-test (eqb n 0)
+              (λ t. let z = eqb-true n 0 t in rw z can-zero)
+              (λ t. let z = eqb-false n 0 t in rest .can n (omega arith) (omega arith));
+          own-key-first = receives (headerOf node s n (first + n) (ttlOf (q .ttl))) (pduOfSegment n) a refl refl key;
+        }
+
+    one : (k : ℕ) → k < 1 → Speakable node (speechAt (s ∷ []) k)
+    one zero h = speaks
+    one (suc k) h = absurd (omega arith)
+
+    read-segments : Read (madeOf (Said said))
+    read-segments =
+        subst Read (sym made-are)
+        (heard-in-order node well s speaks spent (λ n. first + n) (ttlOf (q .ttl)) fwd msg wide big sent last 0 (omega arith) (start setup) (λ _. 0)
+        (begins setup (p .ready) (s ∷ []) spent one) refl)
+
+  -- ---- whole
+  module _ (b : SaidBy sender (q .element) (headerAs sender q words) said) where
+    abbrev h : Header
+    h = stamped sender (q .element) (headerAs sender q words)
+
+    made-one : (key : ℕ) → headerAs sender q words .key ≡ key → madeOf (Said said) ≡ pduOf (keyAt (node .keys) key) h ∷ []
+    made-one key e =
+        let own = headerAs sender q words .key in
+        let same = ap (λ (k : List NetworkKeys). pduOf (keyAt k own) h) (p .shared .keys-same) ∙ ap (λ (n : ℕ). pduOf (keyAt (node .keys) n) h) e in
+        rw (b .says) (ap (λ (x : List ℕ). x ∷ []) (b .transmitted-is .pdu ∙ same))
+
+    can-one : (key : ℕ) → headerAs sender q words .key ≡ key → sealable (keyAt (node .keys) key) h ≡ true
+    can-one key e =
+        let own = headerAs sender q words .key in
+        subst (λ (n : ℕ). sealable (keyAt (node .keys) n) h ≡ true) e
+        (subst (λ (k : List NetworkKeys). sealable (keyAt k own) h ≡ true) (p .shared .keys-same) (b .transmitted-is .can))
+
+    src-some : (key : ℕ) → headerAs sender q words .key ≡ key → h .src ≡ 0 → ⊥
+    src-some key e = unicast-some (h .src) (sent-unicast (h .ctl) (h .src) (h .dst) (within (keyAt (node .keys) key) h (can-one key e) .allowed))
+
+    -- what the receiver needs of it
+    passes : q .network ≡ headerAs sender q words .key → h .key ≡ q .network → h .iv ≡ sendingIv (sender .node) → h .src ≡ s .src → allowedAs sender q words ≡ true
+        → Passes setup s h fwd msg
+    passes e ek ei es a =
+        let first = subst (Each (OwnKeyFirst node s)) (made-one (q .network) (sym e)) all-first .0 in
+        record {
+          can = can-one (q .network) (sym e);
+          receives = receives h (pduOf (keyAt (node .keys) (q .network)) h) a ek ei first;
+          spoken = λ z. src-some (q .network) (sym e) (es ∙ z);
+          here = p .for-here;
+          dst-fits = p .dst-fits;
+          wide = wide;
+          big = big;
+        }
+
+    read-one : q .network ≡ headerAs sender q words .key → handed (step (start setup) (Hear (pduOf (keyAt (node .keys) (q .network)) h) fwd msg)) ≡ handUp s ∷ []
+        → Read (madeOf (Said said))
+    read-one e g = subst Read (sym (made-one (q .network) (sym e))) (ap (λ (x : List Handed). x ∷ []) g)
+
+-- ---- a message that goes whole has the header of its speech
+module _ (sender : Receiver) (node : Node) (shared : Shared (sender .node) node) (q : Request) where
+  access-stamped :
+      (key : MessageKey) (payload : List ℕ) → access.accessAllowed sender q key false (length payload) ≡ true
+      → (let words = Access key false payload in
+      let s = saidBy sender q words in
+      stamped sender (q .element) (headerAs sender q words) ≡ wholeHeader s false (ttlOf (q .ttl)) (accessOctet false (akfOf key) (aidOf node key) ∷ octetsOf node s))
+  unfolding stamped access.wholeHeader access.wholePdu access.envelopeOf
+  access-stamped key payload a =
+      let c = key-same sender node shared q key (keys-allowed sender node shared q key false payload a) in
+      rw (octets-same sender node shared q key false payload a, c .akf-same, c .aid-same) refl
+
+  control-stamped :
+      (code : ℕ) (parameters : List ℕ)
+      → (let words = Control code parameters in
+      stamped sender (q .element) (headerAs sender q words) ≡ wholeHeader (saidBy sender q words) true (ttlOf (q .ttl)) (controlOctet false code ∷ parameters))
+  unfolding stamped control.wholeHeader
+  control-stamped code parameters = refl
+
+-- ---- the promise
+module _ (sender : Receiver) (setup : Setup) (q : Request) (buf fwd msg : List ℕ) (wide : 29 ≤ length fwd) (big : 384 ≤ length msg) where
+  read-whole :
+      (words : Words) (p : Sending sender setup q words buf) → allowedAs sender q words ≡ true → wholeAs sender q words ≡ true
+      → (b : SaidBy sender (q .element) (headerAs sender q words) (sendingAs sender q words buf))
+      → Read sender setup q words buf fwd msg p wide big (madeOf sender setup q words buf fwd msg p wide big (Said (sendingAs sender q words buf)))
+  unfolding access.isWhole stamped access.wholeHeader access.envelopeOf control.wholeHeader
+  read-whole (Access key true payload) p a w b = absurd (false≢true w)
+  read-whole (Access key false payload) p a w b =
+      let words = Access key false payload in
+      let node = nodeOf setup in
+      let s = saidBy sender q words in
+      let e = access-stamped sender node (p .shared) q key payload a in
+      let made = well sender setup q words buf fwd msg p wide big in
+      let read = access-read sender node (p .shared) q key false payload a (p .own-message-first) in
+      let passing = passes sender setup q words buf fwd msg p wide big b refl refl refl refl a in
+      read-one sender setup q words buf fwd msg p wide big b refl
+      (rw e (access-whole setup s (ttlOf (q .ttl)) fwd msg made key payload refl read (leb-true (length payload) 11 w) (rw e at passing)))
+  read-whole (Control code parameters) p a w b =
+      let words = Control code parameters in
+      let node = nodeOf setup in
+      let s = saidBy sender q words in
+      let passing = passes sender setup q words buf fwd msg p wide big b refl refl refl refl a in
+      read-one sender setup q words buf fwd msg p wide big b refl
+      (control-whole setup s (ttlOf (q .ttl)) fwd msg code parameters refl (opcode-range sender node (p .shared) q code parameters a)
+      (leb-true (length parameters) 11 w) passing)
+
+  read-way :
+      (words : Words) (p : Sending sender setup q words buf) → Way sender q words (sendingAs sender q words buf)
+      → Read sender setup q words buf fwd msg p wide big (madeOf sender setup q words buf fwd msg p wide big (Said (sendingAs sender q words buf)))
+  read-way words p (Whole a w b) = read-whole words p a w b
+  read-way words p (Begun a w b) = read-segments sender setup q words buf fwd msg p wide big a w b
+
+pub read-back : ReadBack
+read-back sender setup q words buf fwd msg p wide big =
+    let made = all-made sender setup q words buf fwd msg p wide big in
+    subst (λ (o : Outcome). Read sender setup q words buf fwd msg p wide big (madeOf sender setup q words buf fwd msg p wide big o))
+    (sym (step-is sender setup q words buf fwd msg p wide big words))
+    (read-way sender setup q buf fwd msg wide big words p (way sender q words buf (made .0)))

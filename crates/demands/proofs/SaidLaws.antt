@@ -1,0 +1,229 @@
+-- What a sender says is a speech that a receiver with the same keys is to read: a request that is allowed names keys that both hold, and its message has a length that fits. What the sender
+-- keeps of it are the speech's octets, and each segment's header is the speech's. Assumes nothing.
+--   speakable    the speech is one that the receiver is to read
+--   Kept         the message that is kept is the speech's
+--   header-said  a segment's header, stamped
+use mathlib.Core.Bool.{Bool, true, false, _&&_, _||_, not, false≢true}
+use mathlib.Core.List.{List, [], _∷_, _++_}
+use mathlib.Core.Logic.{_⊎_, inl, inr}
+use mathlib.Core.Path.{_≡_, refl, sym, ap, _∙_, subst}
+use Prim.Native.Nat.{ℕ, _+_, _-_, _%_, _≤_, _<_, min}
+use native.Mathlib.Omega.{arith}
+use borrow.Author.Tests.{eq-eqb, eqb-true, leb-true, lt-ltb, le-leb, ltb-true, leb-false}
+use lib.Dec.{eqb, leb, ltb}
+use lib.ListN.{length, getD, take}
+use Rattle.common.specs.Choice.{if_then_else_}
+use Rattle.common.specs.Chunks.{chunk, chunkCount}
+use Rattle.common.specs.Lists.{padded}
+use Rattle.common.proofs.Tests.{by-test, and-first, and-second}
+use Rattle.modes.specs.Ccm.{micOctets}
+use Rattle.network.specs.declared.header.Header.{Header}
+use Rattle.network.specs.Address.{isUnicast}
+use Rattle.network.specs.IvIndex.{ivIndexSent}
+use Rattle.transport.specs.declared.securing.Envelope.{Envelope}
+use Rattle.transport.specs.declared.securing.MessageKey.{MessageKey}
+use Rattle.transport.specs.declared.securing.MessageKey.the-variants.{Application, Device}
+use Rattle.transport.specs.Ranges.{OpcodeInRange}
+use Rattle.transport.specs.SecureOpen as message
+use Rattle.transport.specs.Securing.{transMic, secured, applicationKeyAt, fitsKey}
+use Rattle.transport.specs.Segment.{segmentFront, fullOctets}
+use Rattle.transport.proofs.SecureOpen.{secured-length}
+use Rattle.memory.specs.declared.outgoing.Outgoing.{Outgoing}
+use Rattle.node.specs.declared.addresses.Node.{Node}
+use Rattle.node.specs.Addresses.{forNode}
+use Rattle.node.specs.Made.{WellMade}
+use Rattle.receiver.specs.declared.state.Receiver.{Receiver}
+use Rattle.receiver.specs.Good.{Good}
+use Rattle.sending.specs.declared.access.KeyUsed.{KeyUsed}
+use Rattle.sending.specs.declared.request.Request.{Request}
+use Rattle.sending.specs.Access as access
+use Rattle.sending.specs.Control as control
+use Rattle.sending.specs.Request.{ttlOf, requestAllowed}
+use Rattle.sending.specs.Segment as segment
+use Rattle.sending.specs.Transmission.{sendingIv, addressOf, nextSeq, stamped}
+use Rattle.demands.specs.ReadBack.{saidBy, Shared, OwnMessageFirst}
+use Rattle.demands.specs.Speech.{Words, Access, Control, Speech, isControl, szmicOf, keyOf, aidOf, akfOf, firstOf, envelopeOf, cutOf, octetsOf, sizeOf, lastOf, segmentOf, headerOf, Fits, WordsRead, Speakable}
+use Rattle.demands.proofs.SentLaws.{allowedAs, wholeAs, keptAs}
+use Rattle.demands.proofs.SpeechLaws.{taken-back, termsOf}
+
+module _ (sender : Receiver) (node : Node) (shared : Shared (sender .node) node) (q : Request) where
+  -- ---- the keys are the same
+  pub record KeySame (key : MessageKey) : Type 0 where
+    pub akf-same : access.keyed (sender .node) key .akf ≡ akfOf key
+    pub aid-same : access.keyed (sender .node) key .aid ≡ aidOf node key
+    pub key-same : access.keyed (sender .node) key .key ≡ keyOf node key
+
+  pub key-same : (key : MessageKey) → access.keyAllowed (sender .node) q key ≡ true → KeySame key
+  key-same (Application i) a =
+      let h = ltb-true i (min (sender .node .applications) 4) (and-first (ltb i (min (sender .node .applications) 4)) _ a) in
+      let four = lt-ltb i 4 (omega arith) in
+      record {
+        akf-same = rw four refl;
+        aid-same = rw (four, shared .secrets-same) refl;
+        key-same = rw (four, shared .secrets-same) refl;
+      }
+  key-same Device a = record { akf-same = refl; aid-same = refl; key-same = shared .device-same }
+
+  -- ---- an access message
+  module _ (key : MessageKey) (szmic : Bool) (payload : List ℕ) (allowed : access.accessAllowed sender q key szmic (length payload) ≡ true) where
+    abbrev s : Speech
+    s = saidBy sender q (Access key szmic payload)
+
+    abbrev k : KeyUsed
+    k = access.keyed (sender .node) key
+
+    abbrev e : Envelope
+    e = access.envelopeOf sender q k szmic
+
+    asked : requestAllowed (sender .node) q ≡ true
+    unfolding access.accessAllowed
+    asked = and-first (requestAllowed (sender .node) q) _ allowed
+
+    pub keys-allowed : access.keyAllowed (sender .node) q key ≡ true
+    unfolding access.accessAllowed
+    keys-allowed = and-first (access.keyAllowed (sender .node) q key) _ (and-second (requestAllowed (sender .node) q) _ allowed)
+
+    sized : access.sizeAllowed szmic (length payload) ≡ true
+    unfolding access.accessAllowed
+    sized =
+        and-first (access.sizeAllowed szmic (length payload)) _
+        (and-second (access.keyAllowed (sender .node) q key) _ (and-second (requestAllowed (sender .node) q) _ allowed))
+
+    pub envelope-same : e ≡ envelopeOf node s key szmic
+    unfolding access.envelopeOf
+    envelope-same = let c = key-same key keys-allowed in rw (c .akf-same, c .aid-same) refl
+
+    pub octets-same : secured (k .key) e payload ≡ octetsOf node s
+    unfolding octetsOf
+    octets-same = let c = key-same key keys-allowed in rw (c .key-same, envelope-same) refl
+
+    sizes : (b : Bool) → szmic ≡ b → (1 ≤ length payload) × (length payload + micOctets (transMic b) ≤ 384)
+    unfolding access.sizeAllowed
+    sizes true u =
+        let z = rw u at sized in (
+          leb-true 1 (length payload) (and-first (leb 1 (length payload)) _ z),
+          (let m = leb-true (length payload) 376 (and-second (leb 1 (length payload)) _ z) in omega arith),
+        )
+    sizes false u =
+        let z = rw u at sized in (
+          leb-true 1 (length payload) (and-first (leb 1 (length payload)) _ z),
+          (let m = leb-true (length payload) 380 (and-second (leb 1 (length payload)) _ z) in omega arith),
+        )
+
+    pub access-fits : Fits payload (octetsOf node s) 384
+    access-fits =
+        let z = sizes szmic refl in
+        let l = secured-length (k .key) e payload in
+        record { some = z .0; enough = subst (λ (c : List ℕ). length c ≤ 384) octets-same (rw l (rw envelope-same (z .1))) }
+
+    -- the receiver holds the key, and it is the first that opens the message
+    application-reads :
+        (i : ℕ) → key ≡ Application i → OwnMessageFirst node s (Access (Application i) szmic payload) → (msg : List ℕ)
+        → message.Receives (node .secrets) (node .applications) i (envelopeOf node s (Application i) szmic) (octetsOf node s) msg
+    application-reads i c first msg =
+        let a = rw c at keys-allowed in
+        let h = ltb-true i (min (sender .node .applications) 4) (and-first (ltb i (min (sender .node .applications) 4)) _ a) in
+        let b = and-second (ltb i (min (sender .node .applications) 4)) _ a in
+        record {
+          akf-set = refl;
+          held = rw (sym (shared .applications-same)) h;
+          fitting = rw (eq-eqb (applicationKeyAt (node .secrets) i .aid) (applicationKeyAt (node .secrets) i .aid) refl, sym (shared .secrets-same)) b;
+          none-before = first msg;
+        }
+
+  pub access-read :
+      (key : MessageKey) (szmic : Bool) (payload : List ℕ) → access.accessAllowed sender q key szmic (length payload) ≡ true
+      → (let s = saidBy sender q (Access key szmic payload) in OwnMessageFirst node s (Access key szmic payload) → WordsRead node s (Access key szmic payload))
+  access-read (Application i) szmic payload a f =
+      (access-fits (Application i) szmic payload a, λ msg _. application-reads (Application i) szmic payload a i refl f msg)
+  access-read Device szmic payload a f = (access-fits Device szmic payload a, keys-allowed Device szmic payload a)
+
+  -- ---- a control message; one that is segmented has more than 11 parameters
+  module _ (code : ℕ) (parameters : List ℕ) (allowed : control.controlAllowed sender q code (length parameters) ≡ true) where
+    asked-control : requestAllowed (sender .node) q ≡ true
+    unfolding control.controlAllowed
+    asked-control = and-first (requestAllowed (sender .node) q) _ allowed
+
+    pub opcode-range : OpcodeInRange code
+    unfolding control.controlAllowed
+    opcode-range =
+        let b = and-second (requestAllowed (sender .node) q) _ allowed in
+        record {
+          not-zero = leb-true 1 code (and-first (leb 1 code) _ b);
+          opcode-fits = leb-true code 0x7F (and-first (leb code 0x7F) _ (and-second (leb 1 code) _ b));
+        }
+
+    pub parameters-most : length parameters ≤ 256
+    unfolding control.controlAllowed
+    parameters-most =
+        let b = and-second (leb code 0x7F) _ (and-second (leb 1 code) _ (and-second (requestAllowed (sender .node) q) _ allowed)) in
+        leb-true (length parameters) 256 (and-first (leb (length parameters) 256) _ b)
+
+  -- ---- the speech is one that the receiver is to read
+  request-of : (words : Words) → allowedAs sender q words ≡ true → requestAllowed (sender .node) q ≡ true
+  request-of (Access key szmic payload) a = asked key szmic payload a
+  request-of (Control code parameters) a = asked-control code parameters a
+
+  pub words-of :
+      (words : Words) → allowedAs sender q words ≡ true → wholeAs sender q words ≡ false
+      → (let s = saidBy sender q words in OwnMessageFirst node s words → WordsRead node s words)
+  words-of (Access key szmic payload) a w f = access-read key szmic payload a f
+  words-of (Control code parameters) a w f =
+      let n = leb-false (length parameters) 11 w in
+      (record { some = omega arith; enough = parameters-most code parameters a }, opcode-range code parameters a)
+
+  module _ (made : WellMade (sender .node)) where
+    pub near : (sendingIv (sender .node) ≡ node .iv) ⊎ (sendingIv (sender .node) + 1 ≡ node .iv)
+    unfolding sendingIv ivIndexSent
+    near =
+        by-test (sender .node .flag)
+        (λ t. let l = made .index-least t in let i = shared .iv-same in rw t (inr (omega arith)))
+        (λ t. rw t (inl (shared .iv-same)))
+
+  pub held : (words : Words) → allowedAs sender q words ≡ true → q .network < min (node .networks) 4
+  unfolding requestAllowed
+  held words a =
+      let b = and-second (ltb (q .element) (min (sender .node .elements) 8)) _ (request-of words a) in
+      let h = ltb-true (q .network) (min (sender .node .networks) 4) (and-first (ltb (q .network) (min (sender .node .networks) 4)) _ b) in
+      rw (sym (shared .networks-same)) h
+
+  pub element-there : (words : Words) → allowedAs sender q words ≡ true → q .element < min (sender .node .elements) 8
+  unfolding requestAllowed
+  element-there words a = ltb-true (q .element) (min (sender .node .elements) 8) (and-first (ltb (q .element) (min (sender .node .elements) 8)) _ (request-of words a))
+
+  -- ---- what is kept
+  pub record Kept (s : Speech) (o : Outgoing) : Type 0 where
+    pub src-is : o .src ≡ s .src
+    pub auth-is : o .auth ≡ s .auth
+    pub terms-is : o .terms ≡ termsOf node s
+    pub octets-are : take (o .len) (o .bytes) ≡ octetsOf node s
+    pub ttl-is : o .ttl ≡ ttlOf (q .ttl)
+
+  pub kept : (words : Words) → allowedAs sender q words ≡ true → Kept (saidBy sender q words) (keptAs sender q words)
+  unfolding access.outgoingOf access.lastSegment lastOf control.outgoingOf octetsOf
+  kept (Access key szmic payload) a =
+      let s = saidBy sender q (Access key szmic payload) in
+      let c = key-same key (keys-allowed key szmic payload a) in
+      let m = octets-same key szmic payload a in
+      let f = access-fits key szmic payload a .enough in
+      let x = envelope-same key szmic payload a in
+      record {
+        src-is = rw x refl;
+        auth-is = rw x refl;
+        terms-is = rw (m, x, c .akf-same, c .aid-same) refl;
+        octets-are = rw m (taken-back 384 (octetsOf node s) f);
+        ttl-is = refl;
+      }
+  kept (Control code parameters) a =
+      let f = parameters-most code parameters a in
+      record { src-is = refl; auth-is = refl; terms-is = refl; octets-are = taken-back 384 parameters (omega arith); ttl-is = refl }
+
+  -- ---- a segment's header is the speech's
+  module _ (s : Speech) (o : Outgoing) (c : Kept s o) (r : Receiver) (element n : ℕ) (address : addressOf (r .node) element ≡ s .src) where
+    pdu-said : segment.segmentPdu o n ≡ segmentOf node s n
+    unfolding segment.segmentPdu segment.outgoingChunk segmentOf
+    pdu-said = rw (c .terms-is, c .auth-is, c .octets-are) refl
+
+    pub header-said : stamped r element (segment.segmentHeader o n) ≡ headerOf node s n (nextSeq r element) (ttlOf (q .ttl))
+    unfolding stamped segment.segmentHeader headerOf
+    header-said = rw (pdu-said, c .terms-is, c .auth-is, c .ttl-is, address) refl

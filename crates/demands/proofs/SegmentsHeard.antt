@@ -1,0 +1,87 @@
+-- The segments of one speech heard in their order by a fresh receiver: the places filled before segment n are those below it, so segment SegN is the last that was missing, and no other is.
+-- Assumes nothing.
+use mathlib.Core.Bool.{Bool, true, false, _&&_, not, false≢true, true≢false}
+use mathlib.Core.List.{List, [], _∷_, map}
+use mathlib.Core.Path.{_≡_, refl, sym, ap, _∙_, subst}
+use Prim.Native.Nat.{ℕ, zero, suc, _+_, _-_, _^_, _≤_, _<_, min}
+use native.Mathlib.Nat.{pow-suc}
+use native.Mathlib.Omega.{arith}
+use borrow.Author.Tests.{eq-eqb, ne-eqb, eqb-true}
+use lib.Dec.{eqb}
+use lib.ListN.{length}
+use lib.Pow.{pow-pos}
+use Rattle.common.specs.Bits.{hasBit, withBit, allBits}
+use Rattle.common.specs.Choice.{if_then_else_}
+use Rattle.common.specs.Lists.{tabFrom}
+use Rattle.common.proofs.BitLaws.{has-none, has-all, has-all-above, with-of-clear}
+use Rattle.node.specs.declared.addresses.Node.{Node}
+use Rattle.node.specs.Made.{WellMade}
+use Rattle.receiver.specs.declared.state.Receiver.{Receiver}
+use Rattle.demands.specs.Call.{Call, Hear, step, left, run}
+use Rattle.demands.specs.Interleaved as scene
+use Rattle.demands.specs.Interleaved.{Segment, speechAt, comeWith, isLastMissing, Spent, handed}
+use Rattle.demands.specs.ReadBack.{lastOnly, hearAll}
+use Rattle.demands.specs.Speech.{Speech, lastOf, segmentPdu, Speakable, Handed, handUp}
+use Rattle.demands.proofs.ArrivalLaws.{Next, event-next}
+use Rattle.demands.proofs.SceneLaws.{speakerOf, Scenery}
+use Rattle.demands.proofs.SpeechLaws.{last-low}
+
+-- ---- the places below n
+abbrev pub below : ℕ → ℕ
+below zero = 0
+below (suc n) = allBits n
+
+below-clear : (n : ℕ) → hasBit (below n) n ≡ false
+below-clear zero = has-none 0
+below-clear (suc n) = has-all-above n (suc n) (omega arith)
+
+below-more : (n : ℕ) → n < 32 → withBit (below n) n ≡ below (suc n)
+unfolding allBits
+below-more zero h = with-of-clear 0 0 h (has-none 0)
+below-more (suc n) h =
+    let e : min n 31 ≡ n = omega arith in
+    let f : min (suc n) 31 ≡ suc n = omega arith in
+    let g : n + 1 ≡ suc n = omega arith in
+    let k : suc n + 1 ≡ suc (suc n) = omega arith in
+    with-of-clear (allBits n) (suc n) h (below-clear (suc n)) ∙ rw (e, f, g, k) (omega (arith, pow-suc 2 (suc n), pow-pos (suc n)))
+
+-- segment n is the last that is missing where it is SegN
+last-here : (n last : ℕ) → n < 32 → n ≡ last → isLastMissing (below n) n last ≡ true
+last-here n last h e = rw (below-clear n, below-more n h, e, eq-eqb (allBits last) (allBits last) refl) refl
+
+not-last : (n last : ℕ) → n < last → last < 32 → isLastMissing (below n) n last ≡ false
+not-last n last b h =
+    let d : allBits n ≡ allBits last → ⊥ =
+    λ e. true≢false (sym (has-all last last (omega arith) h) ∙ ap (λ (x : ℕ). hasBit x last) (sym e) ∙ has-all-above n last b) in
+    rw (below-clear n, below-more n (omega arith), ne-eqb (allBits n) (allBits last) d) refl
+
+-- ---- heard in order
+module _ (node : Node) (made : WellMade node) (s : Speech) (w : Speakable node s) (spent : Spent) (number : ℕ → ℕ) (ttl : ℕ) (fwd msg : List ℕ)
+    (wide : 29 ≤ length fwd) (big : 384 ≤ length msg)
+    (sent : (n : ℕ) → n ≤ lastOf node s → scene.Sent node (s ∷ []) spent 0 n (number n) ttl) where
+  abbrev pduAt : ℕ → List ℕ
+  pduAt n = segmentPdu node s n (number n) ttl
+
+  one : (k : ℕ) → k < 1 → Speakable node (speechAt (s ∷ []) k)
+  one zero h = w
+  one (suc k) h = absurd (omega arith)
+
+  next : (r : Receiver) (filled : ℕ → ℕ) → Scenery node (s ∷ []) spent r filled → (n : ℕ) → n ≤ lastOf node s
+      → Next node (s ∷ []) spent r filled (Segment 0 n (number n) ttl) (Hear (pduAt n) fwd msg)
+  next r filled sc n h =
+      event-next node (s ∷ []) spent made (omega arith) one (λ j k hj hk _. omega arith) r filled sc fwd msg wide big (Segment 0 n (number n) ttl) (sent n h)
+
+  pub heard-in-order :
+      (m n : ℕ) → n + m ≡ lastOf node s → (r : Receiver) (filled : ℕ → ℕ) → Scenery node (s ∷ []) spent r filled → filled 0 ≡ below n
+      → (let l = tabFrom pduAt n (suc m) in map handed (run r (hearAll fwd msg l)) ≡ lastOnly (handUp s) l)
+  heard-in-order zero n e r filled sc f =
+      let low = last-low node s w in
+      let x = next r filled sc n (omega arith) in
+      let here : n ≡ lastOf node s = omega arith in
+      rw (x .hands, f, last-here n (lastOf node s) (omega arith) here) refl
+  heard-in-order (suc m) n e r filled sc f =
+      let low = last-low node s w in
+      let x = next r filled sc n (omega arith) in
+      let y = heard-in-order m (suc n) (omega arith) (left (step r (Hear (pduAt n) fwd msg))) (λ k. comeWith k (filled k) (Segment 0 n (number n) ttl)) (x .scenery)
+      (rw f (below-more n (omega arith))) in
+      rw (x .hands, f, not-last n (lastOf node s) (omega arith) low) (ap (λ (l : List (List Handed)). [] ∷ l) y)

@@ -1,0 +1,125 @@
+-- A message that went whole, heard by a fresh receiver: its PDU opens to the header that was sealed, nothing is in the cache or the replay list, and the form is the one that was written.
+-- Assumes nothing.
+--   access-heard, control-heard   what is handed up
+use mathlib.Core.Bool.{Bool, true, false, _&&_, _||_, not, false≢true, true≢false}
+use mathlib.Core.List.{List, [], _∷_, _++_}
+use mathlib.Core.Logic.{_⊎_}
+use mathlib.Core.Path.{_≡_, refl, sym, ap, _∙_, subst}
+use Prim.Native.Nat.{ℕ, _+_, _≤_, _<_, min}
+use native.Mathlib.Omega.{arith}
+use borrow.Author.Tests.{le-ltb, leb-true}
+use lib.Dec.{eqb, leb, ltb}
+use lib.ListN.{length, take, drop, replicate}
+use lib.Seq.{take-append-seam}
+use Rattle.common.specs.Choice.{if_then_else_}
+use Rattle.common.specs.Lent.{Lent, lent}
+use Rattle.common.specs.Lists.{onto, padded}
+use Rattle.common.specs.Search.{first}
+use Rattle.common.proofs.Tests.{by-test, and-first, and-second}
+use Rattle.modes.specs.Ccm.{micOctets}
+use Rattle.network.specs.declared.header.Header.{Header}
+use Rattle.network.specs.declared.opening.Answer.the-variants as network
+use Rattle.network.specs.Address.{isUnicast}
+use Rattle.network.specs.Candidates.{keyAt, candidates}
+use Rattle.network.specs.Header.{transportOf}
+use Rattle.network.specs.Opening.{opening}
+use Rattle.network.specs.Pdu.{pduOf}
+use Rattle.network.specs.Sealing.{sealable}
+use Rattle.network.specs.SealOpen.{Formed, Receives}
+use Rattle.network.proofs.Sealed.{within}
+use Rattle.network.proofs.SealOpen.{open-seal}
+use Rattle.transport.specs.declared.form.Form.{Form}
+use Rattle.transport.specs.declared.form.Form.the-variants as form
+use Rattle.transport.specs.declared.securing.MessageKey.{MessageKey}
+use Rattle.transport.specs.declared.securing.MessageKey.the-variants.{Application, Device}
+use Rattle.transport.specs.declared.securing.Opened.{Opened}
+use Rattle.transport.specs.declared.securing.Opened.the-variants.{Message}
+use Rattle.transport.specs.Form.{keyFits, formOf}
+use Rattle.transport.specs.Ranges.{KeyInRange, OpcodeInRange}
+use Rattle.transport.specs.ReadsBack.{Carries}
+use Rattle.transport.specs.SecureOpen as message
+use Rattle.transport.specs.Securing.{transMic, secured, unsecuring}
+use Rattle.transport.specs.Segment.{accessOctet, controlOctet}
+use Rattle.transport.proofs.ReadsBack.{access-reads-back, control-reads-back}
+use Rattle.memory.specs.Cache.{noCache, seen, remembered}
+use Rattle.memory.specs.Replay.{noEntry, noEntries, entryPlace, lookUp, stale, hasRoom}
+use Rattle.memory.proofs.ReplayMap.{lookUp-none}
+use Rattle.node.specs.declared.setup.Setup.{Setup}
+use Rattle.node.specs.Addresses.{forNode}
+use Rattle.receiver.specs.declared.answer.Answer.the-variants as answer
+use Rattle.receiver.specs.declared.answer.Taken.{Taken}
+use Rattle.receiver.specs.declared.state.Receiver.{Receiver}
+use Rattle.receiver.specs.declared.whole.Admission.the-variants.{Admitted}
+use Rattle.receiver.specs.Fresh.{settingUp}
+use Rattle.receiver.specs.Hearing.{Outcome, takenAs, taken, passed, uncached, openedAs, hearing}
+use Rattle.receiver.specs.State.{withCache}
+use Rattle.receiver.specs.Whole as whole
+use Rattle.demands.specs.Call.{Hear, step}
+use Rattle.demands.specs.Interleaved.{start, nodeOf, handedAs, handed}
+use Rattle.demands.proofs.SceneLaws.{seen-none}
+
+-- a fresh receiver admits every message
+admits : (h : Header) → whole.admission noEntries h ≡ Admitted
+unfolding whole.admission stale hasRoom entryPlace first
+admits h =
+    rw (lookUp-none (h .src))
+    (by-test (ltb (entryPlace noEntries (h .src)) 32) (λ t. rw t refl) (λ t. rw t refl))
+
+module _ (setup : Setup) (h : Header) (sealed : sealable (keyAt (nodeOf setup .keys) (h .key)) h ≡ true) (formed : Formed h)
+    (receives : Receives (nodeOf setup .keys) (nodeOf setup .networks) (nodeOf setup .iv) h (pduOf (keyAt (nodeOf setup .keys) (h .key)) h))
+    (spoken : h .src ≡ 0 → ⊥) (here : forNode (nodeOf setup) (h .dst) ≡ true) (fwd msg : List ℕ) (wide : 29 ≤ length fwd) (big : 384 ≤ length msg) where
+  abbrev pdu : List ℕ
+  pdu = pduOf (keyAt (nodeOf setup .keys) (h .key)) h
+
+  -- the receiver with the PDU in its cache
+  abbrev q : Receiver
+  q = withCache (start setup) (remembered (start setup .cache) (h .src) (h .seq))
+
+  unseen : seen (start setup .cache) (h .src) (h .seq) ≡ false
+  unfolding settingUp
+  unseen = by-test (seen noCache (h .src) (h .seq)) (λ t. absurd (seen-none (h .src) (h .seq) spoken t)) (λ t. t)
+
+  abbrev t : Form → Lent Taken
+  t f = takenAs f q h msg
+
+  -- what is handed up is what the message of its form hands up
+  heard-whole : (f : Form) → formOf h ≡ f → handed (step (start setup) (Hear pdu fwd msg)) ≡ handedAs (t f .answer .answer) (t f .buffer)
+  unfolding hearing openedAs uncached passed taken
+  heard-whole f e =
+      rw (
+        le-ltb (length fwd) 29 wide,
+        le-ltb (length msg) 384 big,
+        open-seal (nodeOf setup .keys) (nodeOf setup .networks) (nodeOf setup .iv) h sealed formed receives,
+        unseen,
+        here,
+        e,
+      ) refl
+
+  replay-none : q .replay ≡ noEntries
+  unfolding settingUp
+  replay-none = refl
+
+  -- ---- an access message
+  pub access-heard :
+      (akf : Bool) (aid trials : ℕ) (key : MessageKey) (payload : List ℕ) → formOf h ≡ form.Access akf aid
+      → (let node = nodeOf setup in
+      unsecuring (node .secrets) (node .applications) (node .device) (whole.wholeEnvelope h akf aid) (drop 1 (transportOf h)) msg
+      ≡ lent (Message key trials (length payload)) (onto payload msg))
+      → handed (step (start setup) (Hear pdu fwd msg))
+      ≡ record { answer = answer.Access (h .src) (h .dst) (h .key) key (whole.pairOf h) (length payload); octets = payload } ∷ []
+  unfolding takenAs whole.wholeAccess whole.unless whole.openedWhole whole.openedAs
+  access-heard akf aid trials key payload f u =
+      heard-whole (form.Access akf aid) f
+      ∙ rw (replay-none, admits h, u)
+      (ap (λ (l : List ℕ). record { answer = answer.Access (h .src) (h .dst) (h .key) key (whole.pairOf h) (length payload); octets = l } ∷ []) (take-append-seam payload _))
+
+  -- ---- a control message
+  pub control-heard :
+      (code : ℕ) (parameters : List ℕ) → formOf h ≡ form.Control code → drop 1 (transportOf h) ≡ parameters
+      → handed (step (start setup) (Hear pdu fwd msg))
+      ≡ record { answer = answer.Control (h .src) (h .dst) (h .key) code (whole.pairOf h) (length parameters); octets = parameters } ∷ []
+  unfolding takenAs whole.wholeControl whole.unless whole.wholeControlUp
+  control-heard code parameters f m =
+      heard-whole (form.Control code) f
+      ∙ rw (replay-none, admits h, m)
+      (ap (λ (l : List ℕ). record { answer = answer.Control (h .src) (h .dst) (h .key) code (whole.pairOf h) (length parameters); octets = l } ∷ []) (take-append-seam parameters _))

@@ -1,0 +1,150 @@
+-- A message that goes whole, as its sender stamps it, and what a fresh receiver with the same keys hands up of it. Assumes nothing.
+--   wholeHeader          the header of a transport PDU that goes whole
+--   access-whole, control-whole   what is handed up
+use mathlib.Core.Bool.{Bool, true, false, true≢false}
+use mathlib.Core.List.{List, [], _∷_, _++_}
+use mathlib.Core.Path.{_≡_, refl, sym, ap, _∙_, subst}
+use Prim.Native.Nat.{ℕ, _+_, _≤_, _<_, min}
+use native.Mathlib.Omega.{arith}
+use borrow.Author.Tests.{eq-eqb}
+use lib.ListN.{length, take, drop, replicate}
+use Rattle.common.specs.Choice.{if_then_else_}
+use Rattle.common.specs.Lent.{Lent, lent}
+use Rattle.common.specs.Lists.{onto, padded}
+use Rattle.common.proofs.Tests.{by-test}
+use Rattle.modes.specs.Ccm.{micOctets}
+use Rattle.network.specs.declared.header.Header.{Header}
+use Rattle.network.specs.Address.{isUnicast}
+use Rattle.network.specs.Candidates.{keyAt}
+use Rattle.network.specs.Header.{transportOf}
+use Rattle.network.specs.Pdu.{pduOf}
+use Rattle.network.specs.Sealing.{sealable}
+use Rattle.network.specs.SealOpen.{Formed, Receives}
+use Rattle.transport.specs.declared.form.Form.the-variants as form
+use Rattle.transport.specs.declared.securing.Envelope.{Envelope}
+use Rattle.transport.specs.declared.securing.MessageKey.{MessageKey}
+use Rattle.transport.specs.declared.securing.MessageKey.the-variants.{Application, Device}
+use Rattle.transport.specs.declared.securing.Opened.the-variants.{Message}
+use Rattle.transport.specs.Form.{keyFits, formOf}
+use Rattle.transport.specs.Ranges.{KeyInRange, OpcodeInRange}
+use Rattle.transport.specs.ReadsBack.{Carries}
+use Rattle.transport.specs.SecureOpen as message
+use Rattle.transport.specs.Securing.{secured, applicationKeyAt, applicationCandidates, unsecuring}
+use Rattle.transport.specs.Segment.{accessOctet, controlOctet}
+use Rattle.transport.proofs.ReadsBack.{access-reads-back, control-reads-back}
+use Rattle.transport.proofs.SecureOpen.{secured-length, unsecure-secure, unsecure-secure-device}
+use Rattle.node.specs.declared.addresses.Node.{Node}
+use Rattle.node.specs.declared.setup.Setup.{Setup}
+use Rattle.node.specs.Addresses.{forNode}
+use Rattle.node.specs.Made.{WellMade}
+use Rattle.receiver.specs.Whole.{wholeEnvelope}
+use Rattle.demands.specs.Call.{Hear, step}
+use Rattle.demands.specs.Interleaved.{start, nodeOf, handed}
+use Rattle.demands.specs.Speech.{Words, Access, Control, Speech, keyOf, aidOf, akfOf, envelopeOf, octetsOf, Fits, WordsRead, Handed, handUp}
+use Rattle.demands.proofs.SpeechLaws.{padded-behind, taken-back, cut-is, message-opens}
+use Rattle.demands.proofs.WholeHeard.{access-heard, control-heard}
+
+-- the header of a speech that goes in one PDU: its pair is the PDU's own
+abbrev pub wholeHeader : Speech → Bool → ℕ → List ℕ → Header
+wholeHeader s ctl ttl pdu =
+    record {
+      key = s .network;
+      iv = s .auth .iv;
+      ctl = ctl;
+      ttl = ttl;
+      seq = s .auth .seq;
+      src = s .src;
+      dst = s .dst;
+      len = length pdu;
+      transport = padded 16 pdu;
+    }
+
+-- what sending and receiving it needs
+pub record Passes (setup : Setup) (s : Speech) (h : Header) (fwd msg : List ℕ) : Type 0 where
+  pub can : sealable (keyAt (nodeOf setup .keys) (s .network)) h ≡ true
+  pub receives : Receives (nodeOf setup .keys) (nodeOf setup .networks) (nodeOf setup .iv) h (pduOf (keyAt (nodeOf setup .keys) (s .network)) h)
+  pub spoken : s .src ≡ 0 → ⊥
+  pub here : forNode (nodeOf setup) (s .dst) ≡ true
+  pub dst-fits : s .dst < 65536
+  pub wide : 29 ≤ length fwd
+  pub big : 384 ≤ length msg
+
+module _ (setup : Setup) (s : Speech) (ttl : ℕ) (fwd msg : List ℕ) where
+  abbrev node : Node
+  node = nodeOf setup
+
+  abbrev heard : Header → List Handed
+  heard h = handed (step (start setup) (Hear (pduOf (keyAt (node .keys) (s .network)) h) fwd msg))
+
+  -- ---- a transport PDU in its header
+  module _ (ctl : Bool) (first : ℕ) (body : List ℕ) (short : length (first ∷ body) ≤ 16) where
+    abbrev h : Header
+    h = wholeHeader s ctl ttl (first ∷ body)
+
+    transport-is : transportOf h ≡ first ∷ body
+    transport-is = taken-back 16 (first ∷ body) short
+
+    formed : s .dst < 65536 → Formed h
+    formed d = record { dst-fits = d; zeros-behind = ap (padded 16) transport-is }
+
+    carries : Carries h ctl (first ∷ [])
+    carries = record { behind = body ++ drop (length (first ∷ body)) (replicate 16 0); ctl-is = refl; begins = padded-behind 16 (first ∷ body) short }
+
+    body-is : drop 1 (transportOf h) ≡ body
+    body-is = ap (drop 1) transport-is
+
+  -- ---- control
+  pub control-whole :
+      (code : ℕ) (parameters : List ℕ) → s .words ≡ Control code parameters → OpcodeInRange code → length parameters ≤ 11
+      → (let h = wholeHeader s true ttl (controlOctet false code ∷ parameters) in Passes setup s h fwd msg → heard h ≡ handUp s ∷ [])
+  control-whole code parameters e o m p =
+      let short : length (controlOctet false code ∷ parameters) ≤ 16 = omega arith in
+      let first = controlOctet false code in
+      let h = wholeHeader s true ttl (first ∷ parameters) in
+      control-heard setup h (p .can) (formed true first parameters short (p .dst-fits)) (p .receives) (p .spoken) (p .here) fwd msg (p .wide) (p .big) code parameters
+      (control-reads-back h code (carries true first parameters short) o) (body-is true first parameters short)
+      ∙ rw e refl
+
+  -- ---- access
+  module _ (made : WellMade node) (key : MessageKey) (payload : List ℕ) (e : s .words ≡ Access key false payload) (read : WordsRead node s (Access key false payload))
+      (few : length payload ≤ 11) where
+    abbrev octet : ℕ
+    octet = accessOctet false (akfOf key) (aidOf node key)
+
+    abbrev secured-octets : List ℕ
+    secured-octets = octetsOf node s
+
+    octets-long : length secured-octets ≡ length payload + 4
+    octets-long = rw (cut-is node s (Access key false payload) e) (secured-length (keyOf node key) (envelopeOf node s key false) payload)
+
+    fits-one : length (octet ∷ secured-octets) ≤ 16
+    fits-one = let l = octets-long in omega arith
+
+    key-range : (aid : ℕ) → aid < 64 → (akfOf key ≡ false → (aid ≡ 0) × (isUnicast (s .dst) ≡ true)) → KeyInRange (akfOf key) aid (s .dst)
+    unfolding keyFits
+    key-range aid low u =
+        record {
+          aid-fits = low;
+          fits = by-test (akfOf key) (λ t. rw t refl) (λ t. let z = u t in rw (t, eq-eqb aid 0 (z .0), z .1) refl);
+        }
+
+    read-some : (k : MessageKey) → WordsRead node s (Access k false payload) → 1 ≤ length payload
+    read-some (Application i) r = r .0 .some
+    read-some Device r = r .0 .some
+
+    device-aid : (k : MessageKey) → akfOf k ≡ false → aidOf node k ≡ 0
+    device-aid (Application i) f = absurd (true≢false f)
+    device-aid Device f = refl
+
+    pub access-whole : (let h = wholeHeader s false ttl (octet ∷ secured-octets) in Passes setup s h fwd msg → heard h ≡ handUp s ∷ [])
+    access-whole p =
+        let h = wholeHeader s false ttl (octet ∷ secured-octets) in
+        let o = message-opens node s made false payload msg (p .big) key e read in
+        let range = key-range (aidOf node key) (o .aid-fits) (λ f. (device-aid key f, o .unicast f)) in
+        let some = read-some key read in
+        let l = octets-long in
+        access-heard setup h (p .can) (formed false octet secured-octets fits-one (p .dst-fits)) (p .receives) (p .spoken) (p .here) fwd msg (p .wide) (p .big)
+        (akfOf key) (aidOf node key) (o .trials) key payload
+        (access-reads-back h (akfOf key) (aidOf node key) (carries false octet secured-octets fits-one) range (omega arith))
+        (rw (body-is false octet secured-octets fits-one) (o .opens-to))
+        ∙ rw e refl

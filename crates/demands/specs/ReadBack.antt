@@ -1,0 +1,129 @@
+-- Demand 2: a message sent in full, to a DST that is for a fresh node with the same keys and IV Index, is read back byte for byte, if no key tried earlier opens it too.
+-- The sender's own operations send it, whole or in segments, and the fresh receiver's `hear` hears it.
+--   sayCall q words buf         the call that sends a message
+--   sentInFull sender q words buf   that call, and one for each segment behind the first
+--   Shared                      the same keys and IV Index
+--   Sending                     the premises
+--   ReadBack                    the promise
+use mathlib.Core.Bool.{Bool, true, false}
+use mathlib.Core.List.{List, [], _∷_, map}
+use mathlib.Core.Path.{_≡_}
+use Prim.Native.Nat.{ℕ, zero, suc, _≤_, _<_}
+use lib.ListN.{length, take}
+use Rattle.common.specs.Lists.{tabFrom}
+use Rattle.network.specs.Candidates.{keyAt, opens}
+use Rattle.transport.specs.declared.securing.MessageKey.{MessageKey}
+use Rattle.transport.specs.declared.securing.MessageKey.the-variants.{Application, Device}
+use Rattle.transport.specs.Securing.{applicationKeyAt, fitsKey, openedBy}
+use Rattle.node.specs.declared.addresses.Node.{Node}
+use Rattle.node.specs.declared.setup.Setup.{Setup}
+use Rattle.node.specs.Addresses.{forNode}
+use Rattle.receiver.specs.declared.fresh.Answer.the-variants.{Ready}
+use Rattle.receiver.specs.declared.state.Receiver.{Receiver}
+use Rattle.receiver.specs.Fresh.{settingUp}
+use Rattle.receiver.specs.Good.{Good}
+use Rattle.sending.specs.declared.answer.Answer.{Answer}
+use Rattle.sending.specs.declared.answer.Answer.the-variants.{Sent, Started, Refused}
+use Rattle.sending.specs.declared.request.Request.{Request}
+use Rattle.sending.specs.Transmission.{sendingIv, addressOf, nextSeq}
+use Rattle.demands.specs.Call.{Call, Hear, SendAccess, SendControl, SendSegment, Outcome, Heard, Said, Ended, step, run}
+use Rattle.demands.specs.Interleaved.{start, nodeOf, Each, handed}
+use Rattle.demands.specs.NeverTwice.{made, holds, octetsMade}
+use Rattle.demands.specs.Speech.{Words, Access, Control, Speech, envelopeOf, octetsOf, Handed, handUp}
+
+-- ---- the sender
+-- the call that sends a message
+abbrev pub sayCall : Request → Words → List ℕ → Call
+sayCall q (Access key szmic payload) buf = SendAccess q key szmic payload buf
+sayCall q (Control opcode parameters) buf = SendControl q opcode parameters buf
+
+-- a message that was begun with segment 0 has segments 1 to SegN besides
+abbrev pub restAs : Answer → List ℕ → List Call
+restAs (Sent len) buf = []
+restAs (Started len segN) buf = tabFrom (λ n. SendSegment n buf) 1 segN
+restAs (Refused n) buf = []
+
+abbrev pub restOf : Outcome → List ℕ → List Call
+restOf (Heard o) buf = []
+restOf (Said s) buf = restAs (s .answer .answer) buf
+restOf (Ended g) buf = []
+
+abbrev pub sentInFull : Receiver → Request → Words → List ℕ → List Call
+sentInFull sender q words buf = let c = sayCall q words buf in c ∷ restOf (step sender c) buf
+
+-- the PDU that a call made
+abbrev pub pduMade : Outcome → List ℕ
+pduMade o = take (octetsMade o) (holds o)
+
+abbrev pub outcomes : Receiver → Request → Words → List ℕ → List Outcome
+outcomes sender q words buf = run sender (sentInFull sender q words buf)
+
+abbrev pub pdus : Receiver → Request → Words → List ℕ → List (List ℕ)
+pdus sender q words buf = map pduMade (outcomes sender q words buf)
+
+-- what is said: the element speaks, with its next SEQ
+abbrev pub saidBy : Receiver → Request → Words → Speech
+saidBy sender q words =
+    record {
+      src = addressOf (sender .node) (q .element);
+      dst = q .dst;
+      network = q .network;
+      auth = record { iv = sendingIv (sender .node); seq = nextSeq sender (q .element) };
+      words = words;
+    }
+
+-- ---- the premises
+-- the same keys and IV Index; flag, relay, elements and groups may differ
+pub record Shared (a b : Node) : Type 0 where
+  pub networks-same : a .networks ≡ b .networks
+  pub keys-same : a .keys ≡ b .keys
+  pub applications-same : a .applications ≡ b .applications
+  pub secrets-same : a .secrets ≡ b .secrets
+  pub device-same : a .device ≡ b .device
+  pub iv-same : a .iv ≡ b .iv
+
+-- no network key before the message's own opens this PDU
+abbrev pub OwnKeyFirst : Node → Speech → List ℕ → Type 0
+OwnKeyFirst node s pdu =
+    (j : ℕ) → j < s .network → keyAt (node .keys) j .nid ≡ keyAt (node .keys) (s .network) .nid → opens (node .keys) (s .auth .iv) pdu j ≡ false
+
+-- nor an application key before its own the message
+abbrev pub OwnMessageFirst : Node → Speech → Words → Type 0
+OwnMessageFirst node s (Access (Application i) szmic payload) =
+    (msg : List ℕ) (j : ℕ) → (let e = envelopeOf node s (Application i) szmic in
+    j < i → fitsKey e (applicationKeyAt (node .secrets) j) ≡ true
+    → openedBy (applicationKeyAt (node .secrets) j .key) e (octetsOf node s) msg .answer ≡ false)
+OwnMessageFirst node s (Access Device szmic payload) = Unit {0}
+OwnMessageFirst node s (Control opcode parameters) = Unit {0}
+
+pub record Sending (sender : Receiver) (setup : Setup) (q : Request) (words : Words) (buf : List ℕ) : Type 0 where
+  -- the sender was set up, and used since; the receiver is fresh
+  pub good : Good sender
+  pub ready : settingUp setup .answer ≡ Ready
+  pub shared : Shared (sender .node) (nodeOf setup)
+  -- each call made a PDU: the message was sent in full
+  pub sent : Each (λ o. made o ≡ true) (outcomes sender q words buf)
+  -- DST, of 16 bits, is for the receiver
+  pub for-here : forNode (nodeOf setup) (q .dst) ≡ true
+  pub dst-fits : q .dst < 65536
+  pub own-key-first : Each (OwnKeyFirst (nodeOf setup) (saidBy sender q words)) (pdus sender q words buf)
+  pub own-message-first : OwnMessageFirst (nodeOf setup) (saidBy sender q words) words
+
+-- ---- the promise
+-- every PDU but the last hands up nothing, and that one the message
+abbrev pub lastOnly : Handed → List (List ℕ) → List (List Handed)
+lastOnly m [] = []
+lastOnly m (p ∷ []) = (m ∷ []) ∷ []
+lastOnly m (p ∷ r ∷ l) = [] ∷ lastOnly m (r ∷ l)
+
+abbrev pub hearAll : List ℕ → List ℕ → List (List ℕ) → List Call
+hearAll fwd msg l = map (λ p. Hear p fwd msg) l
+
+abbrev pub ReadBack : Type 0
+ReadBack =
+    (sender : Receiver) (setup : Setup) (q : Request) (words : Words) (buf fwd msg : List ℕ)
+    → Sending sender setup q words buf
+    -- the receiver's buffers are not refused 16
+    → 29 ≤ length fwd → 384 ≤ length msg
+    → (let l = pdus sender q words buf in
+    map handed (run (start setup) (hearAll fwd msg l)) ≡ lastOnly (handUp (saidBy sender q words)) l)
