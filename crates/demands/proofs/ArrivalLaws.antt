@@ -38,7 +38,8 @@ use Rattle.receiver.specs.declared.answer.Refusal.the-variants as refusal
 use Rattle.receiver.specs.declared.answer.Taken.{Taken}
 use Rattle.receiver.specs.declared.state.Receiver.{Receiver}
 use Rattle.receiver.specs.Good.{Good}
-use Rattle.receiver.specs.Hearing.{Outcome, outcome, refusedHeard, takenAs, taken, passed, uncached, openedAs, hearing}
+use Rattle.receiver.specs.Hearing as hear
+use Rattle.receiver.specs.Hearing.{outcome, refusedHeard, takenAs, taken, passed, uncached, openedAs, hearing}
 use Rattle.receiver.specs.Segmented as segments
 use Rattle.receiver.specs.State.{withCache}
 use Rattle.receiver.proofs.Good.{good-hear}
@@ -50,9 +51,9 @@ use Rattle.sending.specs.declared.transmission.Transmitted.{Transmitted}
 use Rattle.sending.specs.Answer.{spokenAs, spoken}
 use Rattle.sending.specs.Acknowledge.{acknowledging}
 use Rattle.sending.specs.Transmission.{nextSeq, withNext, stamped, noTransmission, sentAs, transmitted}
-use Rattle.demands.specs.Call.{Call, Hear, Acknowledge, step, left}
+use Rattle.demands.specs.Call.{Call, Hear, Acknowledge, Outcome, step, left}
 use Rattle.demands.specs.Interleaved as scene
-use Rattle.demands.specs.Interleaved.{Event, Segment, Foreign, Ask, Arrival, speechAt, callAs, callOf, comeWith, isLastMissing, Spent, Comes, Arrives, handedAs, handed}
+use Rattle.demands.specs.Interleaved.{Event, Segment, Foreign, Ask, Arrival, speechAt, callAs, callOf, comeWith, isLastMissing, Spent, Comes, Arrives, isStored, handedAs, handed}
 use Rattle.demands.specs.Refusal.{noKeyOpens}
 use Rattle.demands.specs.Speech.{Speech, lastOf, headerOf, segmentPdu, Speakable, Handed, handUp}
 use Rattle.demands.proofs.Hears.{fixed-heard}
@@ -92,7 +93,7 @@ foreign-none : (r : Receiver) (pdu fwd msg : List ℕ) → noKeyOpens (opening (
 unfolding hearing
 foreign-none r pdu fwd msg t =
     let o = opening (r .node .keys) (r .node .networks) (r .node .iv) pdu in
-    let P : Outcome → Type 0 = λ o. handedAs (o .heard .answer) (o .message) ≡ [] in
+    let P : hear.Outcome → Type 0 = λ o. handedAs (o .heard .answer) (o .message) ≡ [] in
     by-choice P (ltb (length fwd) 29) (λ _. refl) (λ _. by-choice P (ltb (length msg) 384) (λ _. refl) (λ _. refused-none r (o .answer) (o .header) (o .trials) fwd msg t))
 
 -- ---- the parts of the receiver that a scene is seen by
@@ -170,8 +171,16 @@ module _ (node : Node) (speeches : List Speech) (spent : Spent) where
   dueOf filled (Foreign pdu) = []
   dueOf filled (Ask net src) = []
 
+  -- a segment that is new is stored where another is missing
+  abbrev pub StoresAt : (ℕ → ℕ) → Event → Outcome → Type 0
+  StoresAt filled (Segment k i seq ttl) o =
+      hasBit (filled k) i ≡ false → eqb (withBit (filled k) i) (allBits (lastOf node (speechAt speeches k))) ≡ false → isStored o ≡ true
+  StoresAt filled (Foreign pdu) o = Unit {0}
+  StoresAt filled (Ask net src) o = Unit {0}
+
   pub record Next (r : Receiver) (filled : ℕ → ℕ) (e : Event) (c : Call) : Type 0 where
     pub hands : handed (step r c) ≡ dueOf filled e
+    pub stores : StoresAt filled e (step r c)
     pub scenery : Seen (left (step r c)) (λ k. comeWith k (filled k) e)
 
   module _ (made : WellMade node) (few : length speeches ≤ 8) (speak : (k : ℕ) → k < length speeches → Speakable node (speechAt speeches k))
@@ -235,6 +244,7 @@ module _ (node : Node) (speeches : List Speech) (spent : Spent) where
           (λ u. rw u refl) in
           record {
             hands = rw (o, there) refl;
+            stores = λ f _. absurd (true≢false (sym there ∙ f));
             scenery = rw o (refilled r filled _ more sc);
           }
 
@@ -299,6 +309,7 @@ module _ (node : Node) (speeches : List Speech) (spent : Spent) where
           let stays = fixed-heard r fwd msg pdu .node-stays in
           record {
             hands = rw (l .answers, l .message-is) (steps .due);
+            stores = λ f g. rw (l .answers, steps .stores f g) refl;
             scenery =
                 record {
                   good = hears;
@@ -319,9 +330,10 @@ module _ (node : Node) (speeches : List Speech) (spent : Spent) where
     event-next (Foreign pdu) c =
         let none : noKeyOpens (opening (r .node .keys) (r .node .networks) (r .node .iv) pdu .answer) ≡ true = rw (sc .same) c in
         let u = unopened-leaves r pdu fwd msg none in
-        record { hands = foreign-none r pdu fwd msg none; scenery = rw (u .receiver-stays) sc }
+        record { hands = foreign-none r pdu fwd msg none; stores = tt {0}; scenery = rw (u .receiver-stays) sc }
     event-next (Ask net src) c =
         record {
           hands = refl;
+          stores = tt {0};
           scenery = kept-scene r _ filled (kept-acknowledging r net src fwd) (good-step r (Acknowledge net src fwd) (sc .good)) sc;
         }

@@ -59,7 +59,7 @@ use Rattle.demands.specs.Call.{Call, Hear, Outcome, Said, step, left, ru
 use Rattle.demands.specs.Interleaved as scene
 use Rattle.demands.specs.Interleaved.{Spent, start, nodeOf, speechAt, Each, handed}
 use Rattle.demands.specs.NeverTwice.{made}
-use Rattle.demands.specs.ReadBack.{sayCall, restOf, pduMade, pdus, outcomes, saidBy, Shared, OwnKeyFirst, OwnMessageFirst, Sending, lastOnly, hearAll, ReadBack}
+use Rattle.demands.specs.ReadBack.{sayCall, restOf, pduMade, pdus, outcomes, saidBy, Shared, OwnKeyFirst, OwnMessageFirst, Sending, Heard, ReadBack}
 use Rattle.demands.specs.Speech.{Words, Access, Control, Speech, keyOf, aidOf, akfOf, envelopeOf, octetsOf, lastOf, headerOf, segmentPdu, Speakable, Handed, handUp}
 use Rattle.demands.proofs.SaidLaws.{KeySame, key-same, keys-allowed, envelope-same, octets-same, access-fits, access-read, opcode-range, words-of, near, held, element-there, Kept, kept}
 use Rattle.demands.proofs.SceneLaws.{begins, unicast-some}
@@ -114,7 +114,7 @@ module _ (sender : Receiver) (setup : Setup) (q : Request) (words : Words) (buf 
   all-first = subst (λ (o : Outcome). Each (OwnKeyFirst node s) (madeOf o)) (step-is words) (p .own-key-first)
 
   abbrev Read : List (List ℕ) → Type 0
-  Read l = map handed (run (start setup) (hearAll fwd msg l)) ≡ lastOnly (handUp s) l
+  Read l = Heard setup s fwd msg l
 
   -- what the receiver's keys are to a header of the speech
   receives : (h : Header) (pdu : List ℕ) → allowedAs sender q words ≡ true → h .key ≡ q .network → h .iv ≡ sendingIv (sender .node) → OwnKeyFirst node s pdu
@@ -225,9 +225,9 @@ module _ (sender : Receiver) (setup : Setup) (q : Request) (words : Words) (buf 
 
     read-segments : Read (madeOf (Said said))
     read-segments =
-        subst Read (sym made-are)
-        (heard-in-order node well s speaks spent (λ n. first + n) (ttlOf (q .ttl)) fwd msg wide big sent last 0 (omega arith) (start setup) (λ _. 0)
-        (begins setup (p .ready) (s ∷ []) spent one) refl)
+        let x = heard-in-order node well s speaks spent (λ n. first + n) (ttlOf (q .ttl)) fwd msg wide big sent last 0 (omega arith) (start setup) (λ _. 0)
+        (begins setup (p .ready) (s ∷ []) spent one) refl in
+        subst Read (sym made-are) (record { hands = x .hands; stores = x .stores })
 
   -- ---- whole
   module _ (b : SaidBy sender (q .element) (headerAs sender q words) said) where
@@ -266,7 +266,7 @@ module _ (sender : Receiver) (setup : Setup) (q : Request) (words : Words) (buf 
 
     read-one : q .network ≡ headerAs sender q words .key → handed (step (start setup) (Hear (pduOf (keyAt (node .keys) (q .network)) h) fwd msg)) ≡ handUp s ∷ []
         → Read (madeOf (Said said))
-    read-one e g = subst Read (sym (made-one (q .network) (sym e))) (ap (λ (x : List Handed). x ∷ []) g)
+    read-one e g = subst Read (sym (made-one (q .network) (sym e))) (record { hands = ap (λ (x : List Handed). x ∷ []) g; stores = tt {0} })
 
 -- ---- a message that goes whole has the header of its speech
 module _ (sender : Receiver) (node : Node) (shared : Shared (sender .node) node) (q : Request) where

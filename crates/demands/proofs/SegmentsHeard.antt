@@ -20,7 +20,7 @@ use Rattle.receiver.specs.declared.state.Receiver.{Receiver}
 use Rattle.demands.specs.Call.{Call, Hear, step, left, run}
 use Rattle.demands.specs.Interleaved as scene
 use Rattle.demands.specs.Interleaved.{Segment, speechAt, comeWith, isLastMissing, Spent, handed}
-use Rattle.demands.specs.ReadBack.{lastOnly, hearAll}
+use Rattle.demands.specs.ReadBack.{lastOnly, storedFirst, hearAll}
 use Rattle.demands.specs.Speech.{Speech, lastOf, segmentPdu, Speakable, Handed, handUp}
 use Rattle.demands.proofs.ArrivalLaws.{Next, event-next}
 use Rattle.demands.proofs.SceneLaws.{speakerOf, Scenery}
@@ -49,6 +49,9 @@ below-more (suc n) h =
 last-here : (n last : ℕ) → n < 32 → n ≡ last → isLastMissing (below n) n last ≡ true
 last-here n last h e = rw (below-clear n, below-more n h, e, eq-eqb (allBits last) (allBits last) refl) refl
 
+other-bits : (n last : ℕ) → n < last → last < 32 → allBits n ≡ allBits last → ⊥
+other-bits n last b h e = true≢false (sym (has-all last last (omega arith) h) ∙ ap (λ (x : ℕ). hasBit x last) (sym e) ∙ has-all-above n last b)
+
 not-last : (n last : ℕ) → n < last → last < 32 → isLastMissing (below n) n last ≡ false
 not-last n last b h =
     let d : allBits n ≡ allBits last → ⊥ =
@@ -71,17 +74,32 @@ module _ (node : Node) (made : WellMade node) (s : Speech) (w : Speakable node s
   next r filled sc n h =
       event-next node (s ∷ []) spent made (omega arith) one (λ j k hj hk _. omega arith) r filled sc fwd msg wide big (Segment 0 n (number n) ttl) (sent n h)
 
+  -- not the last that is missing: the two tests of it
+  another : (n : ℕ) → n < lastOf node s → eqb (withBit (below n) n) (allBits (lastOf node s)) ≡ false
+  another n h =
+      let low = last-low node s w in
+      rw (below-more n (omega arith)) (ne-eqb (allBits n) (allBits (lastOf node s)) (other-bits n (lastOf node s) h low))
+
+  abbrev told : ℕ → ℕ → List (List ℕ)
+  told n m = tabFrom pduAt n (suc m)
+
+  pub record InOrder (r : Receiver) (n m : ℕ) : Type 0 where
+    pub hands : map handed (run r (hearAll fwd msg (told n m))) ≡ lastOnly (handUp s) (told n m)
+    pub stores : storedFirst (run r (hearAll fwd msg (told n m)))
+
   pub heard-in-order :
-      (m n : ℕ) → n + m ≡ lastOf node s → (r : Receiver) (filled : ℕ → ℕ) → Scenery node (s ∷ []) spent r filled → filled 0 ≡ below n
-      → (let l = tabFrom pduAt n (suc m) in map handed (run r (hearAll fwd msg l)) ≡ lastOnly (handUp s) l)
+      (m n : ℕ) → n + m ≡ lastOf node s → (r : Receiver) (filled : ℕ → ℕ) → Scenery node (s ∷ []) spent r filled → filled 0 ≡ below n → InOrder r n m
   heard-in-order zero n e r filled sc f =
       let low = last-low node s w in
       let x = next r filled sc n (omega arith) in
       let here : n ≡ lastOf node s = omega arith in
-      rw (x .hands, f, last-here n (lastOf node s) (omega arith) here) refl
+      record { hands = rw (x .hands, f, last-here n (lastOf node s) (omega arith) here) refl; stores = tt {0} }
   heard-in-order (suc m) n e r filled sc f =
       let low = last-low node s w in
       let x = next r filled sc n (omega arith) in
       let y = heard-in-order m (suc n) (omega arith) (left (step r (Hear (pduAt n) fwd msg))) (λ k. comeWith k (filled k) (Segment 0 n (number n) ttl)) (x .scenery)
       (rw f (below-more n (omega arith))) in
-      rw (x .hands, f, not-last n (lastOf node s) (omega arith) low) (ap (λ (l : List (List Handed)). [] ∷ l) y)
+      record {
+        hands = rw (x .hands, f, not-last n (lastOf node s) (omega arith) low) (ap (λ (l : List (List Handed)). [] ∷ l) (y .hands));
+        stores = (x .stores (rw f (below-clear n)) (rw f (another n (omega arith))), y .stores);
+      }

@@ -58,6 +58,9 @@ EntriesOwned n speaker l = Owned (λ (e : Entry). e .src) noEntry 32 n speaker l
 pub record Step (node : Node) (s : Speech) (r : Receiver) (bits i : ℕ) (t : Lent Taken) : Type 0 where
   -- the message is handed up where this was the last segment that was missing
   pub due : handedAs (t .answer .answer) (t .buffer) ≡ (if isLastMissing bits i (lastOf node s) then handUp s ∷ [] else [])
+  -- it is stored where it is new and another is missing
+  pub stores :
+      hasBit bits i ≡ false → eqb (withBit bits i) (allBits (lastOf node s)) ≡ false → t .answer .answer ≡ Stored (s .src) (s .auth) (withBit bits i)
   -- its place is filled
   pub own : Stage node s (t .answer .receiver .replay) (t .answer .receiver .sessions) (withBit bits i)
   -- another source's stage stays
@@ -91,6 +94,7 @@ module _ (node : Node) (made : WellMade node) (s : Speech) (w : Speakable node s
     again b st a e =
         record {
           due = rw b e;
+          stores = λ f _. absurd (true≢false (sym b ∙ f));
           own = rw (with-of-set bits i b) st;
           others = λ o n _ _ k. k;
           sessions-owned = λ n f k h q o. o;
@@ -124,11 +128,12 @@ module _ (node : Node) (made : WellMade node) (s : Speech) (w : Speakable node s
 
       -- not yet complete
       stored-step :
-          eqb filled (allBits (lastOf node s)) ≡ false → (a : Answer) → handedAs a msg ≡ []
-          → Step node s r bits i (lent (record { answer = a; trials = 0; receiver = withSession r slot session }) msg)
-      stored-step c a e =
+          eqb filled (allBits (lastOf node s)) ≡ false
+          → Step node s r bits i (lent (record { answer = Stored (s .src) (s .auth) filled; trials = 0; receiver = withSession r slot session }) msg)
+      stored-step c =
           record {
-            due = rw (fresh, c) e;
+            due = rw (fresh, c) refl;
+            stores = λ _ _. refl;
             own =
                 Gathers len bytes some (eqb-false filled (allBits (lastOf node s)) c)
                 (rw (place-set-own (r .sessions) slot session (omega arith) before) within)
@@ -167,6 +172,7 @@ module _ (node : Node) (made : WellMade node) (s : Speech) (w : Speakable node s
       up-step c trials =
           record {
             due = rw (fresh, c) (handed-up s (s .words) msg);
+            stores = λ _ f. absurd (true≢false (sym c ∙ f));
             own =
                 Done (eqb-true filled (allBits (lastOf node s)) c) (freed-none (r .sessions) slot (s .src) long spoken only) entry-own;
             others = λ o b n z k.
@@ -185,7 +191,7 @@ module _ (node : Node) (made : WellMade node) (s : Speech) (w : Speakable node s
           let all = subst (λ (b : ℕ). Holds node s b len bytes) (eqb-true filled (allBits (lastOf node s)) c) holds in
           let u = session-up node made s w (withSession r slot noSession) same filled len bytes msg big (holds-all node s w len bytes all) in
           rw c (subst (Step node s r bits i) (sym (u .is)) (up-step c (u .trials))))
-          (λ c. rw c (stored-step c _ refl))
+          (λ c. rw c (stored-step c))
 
     -- ---- at each stage
     module _ (sent : s .dst ≡ 0 → ⊥) (big : 384 ≤ length msg) (seq ttl : ℕ) (room : hasRoom (r .replay) (s .src) ≡ true)

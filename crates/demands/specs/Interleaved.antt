@@ -156,6 +156,20 @@ handed (Heard o) = handedAs (o .heard .answer) (o .message)
 handed (Said s) = []
 handed (Ended g) = []
 
+-- a segment was stored
+abbrev pub storedAs : Answer → Bool
+storedAs (answer.Refused n) = false
+storedAs (answer.Stored src auth bits) = true
+storedAs (answer.Repeated src auth bits) = false
+storedAs (answer.Access src dst net key pair len) = false
+storedAs (answer.Control src dst net opcode pair len) = false
+storedAs (answer.Acknowledgement src bits effect) = false
+
+abbrev pub isStored : Outcome → Bool
+isStored (Heard o) = storedAs (o .heard .answer)
+isStored (Said s) = false
+isStored (Ended g) = false
+
 abbrev pub dueAs : Node → List Speech → List Arrival → Event → List Handed
 dueAs node speeches before (Segment k i seq ttl) =
     if isLastMissing (come k before) i (lastOf node (speechAt speeches k)) then handUp (speechAt speeches k) ∷ [] else

@@ -26,8 +26,9 @@ use Rattle.sending.specs.declared.answer.Answer.{Answer}
 use Rattle.sending.specs.declared.answer.Answer.the-variants.{Sent, Started, Refused}
 use Rattle.sending.specs.declared.request.Request.{Request}
 use Rattle.sending.specs.Transmission.{sendingIv, addressOf, nextSeq}
-use Rattle.demands.specs.Call.{Call, Hear, SendAccess, SendControl, SendSegment, Outcome, Heard, Said, Ended, step, run}
-use Rattle.demands.specs.Interleaved.{start, nodeOf, Each, handed}
+use Rattle.demands.specs.Call.{Call, Hear, SendAccess, SendControl, SendSegment, Outcome, Said, Ended, step, run}
+use Rattle.demands.specs.Call as call
+use Rattle.demands.specs.Interleaved.{start, nodeOf, Each, handed, isStored}
 use Rattle.demands.specs.NeverTwice.{made, holds, octetsMade}
 use Rattle.demands.specs.Speech.{Words, Access, Control, Speech, envelopeOf, octetsOf, Handed, handUp}
 
@@ -44,7 +45,7 @@ restAs (Started len segN) buf = tabFrom (λ n. SendSegment n buf) 1 segN
 restAs (Refused n) buf = []
 
 abbrev pub restOf : Outcome → List ℕ → List Call
-restOf (Heard o) buf = []
+restOf (call.Heard o) buf = []
 restOf (Said s) buf = restAs (s .answer .answer) buf
 restOf (Ended g) buf = []
 
@@ -110,14 +111,23 @@ pub record Sending (sender : Receiver) (setup : Setup) (q : Request) (words : Wo
   pub own-message-first : OwnMessageFirst (nodeOf setup) (saidBy sender q words) words
 
 -- ---- the promise
--- every PDU but the last hands up nothing, and that one the message
+-- every PDU but the last is stored and hands up nothing, and the last hands up the message
 abbrev pub lastOnly : Handed → List (List ℕ) → List (List Handed)
 lastOnly m [] = []
 lastOnly m (p ∷ []) = (m ∷ []) ∷ []
 lastOnly m (p ∷ r ∷ l) = [] ∷ lastOnly m (r ∷ l)
 
+abbrev pub storedFirst : List Outcome → Type 0
+storedFirst [] = Unit {0}
+storedFirst (o ∷ []) = Unit {0}
+storedFirst (o ∷ p ∷ l) = (isStored o ≡ true) × storedFirst (p ∷ l)
+
 abbrev pub hearAll : List ℕ → List ℕ → List (List ℕ) → List Call
 hearAll fwd msg l = map (λ p. Hear p fwd msg) l
+
+pub record Heard (setup : Setup) (s : Speech) (fwd msg : List ℕ) (l : List (List ℕ)) : Type 0 where
+  pub hands : map handed (run (start setup) (hearAll fwd msg l)) ≡ lastOnly (handUp s) l
+  pub stores : storedFirst (run (start setup) (hearAll fwd msg l))
 
 abbrev pub ReadBack : Type 0
 ReadBack =
@@ -125,5 +135,4 @@ ReadBack =
     → Sending sender setup q words buf
     -- the receiver's buffers are not refused 16
     → 29 ≤ length fwd → 384 ≤ length msg
-    → (let l = pdus sender q words buf in
-    map handed (run (start setup) (hearAll fwd msg l)) ≡ lastOnly (handUp (saidBy sender q words)) l)
+    → Heard setup (saidBy sender q words) fwd msg (pdus sender q words buf)
