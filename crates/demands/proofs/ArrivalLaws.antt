@@ -24,7 +24,7 @@ use Rattle.network.specs.declared.sealing.Answer.the-variants.{Sealed, OutsideR
 use Rattle.network.specs.Address.{kindOf, isUnicast, destinationKind, addressesAllowed}
 use Rattle.network.specs.Candidates.{keyAt, candidates}
 use Rattle.network.specs.Opening.{opening}
-use Rattle.network.specs.Sealing.{sealing}
+use Rattle.network.specs.Sealing.{sealable, sealing}
 use Rattle.network.proofs.Sealed.{within}
 use Rattle.network.proofs.SealOpen.{open-seal}
 use Rattle.transport.specs.Form.{formOf}
@@ -60,7 +60,7 @@ use Rattle.demands.proofs.Hears.{fixed-heard}
 use Rattle.demands.proofs.Invariant.{good-step}
 use Rattle.demands.proofs.Refusal.{unopened-leaves}
 use Rattle.demands.proofs.SceneLaws.{seen-or-new, speakerOf, Scenery, unicast-some, entry-room, session-room}
-use Rattle.demands.proofs.SpeechLaws.{last-low, formed, segment-taken, segment-placed}
+use Rattle.demands.proofs.SpeechLaws.{last-low, formed, segment-sealable, segment-taken, segment-placed}
 use Rattle.demands.proofs.StageLaws.{segmentAt, Stage}
 use Rattle.demands.proofs.StepLaws.{Step, placed-steps, SessionsOwned, EntriesOwned}
 use Rattle.demands.proofs.Walks.{saying, walk-acknowledge}
@@ -215,11 +215,14 @@ module _ (node : Node) (speeches : List Speech) (spent : Spent) where
       low : i < 32
       low = let l = last-low node s w in let m = sent .segment-there in omega arith
 
+      can : sealable (keyAt (node .keys) (s .network)) h ≡ true
+      can = segment-sealable node s w i (sent .segment-there) seq ttl made (sent .seq-fits) (sent .ttl-fits)
+
       opens : opening (r .node .keys) (r .node .networks) (r .node .iv) pdu ≡ record { answer = network.Opened; trials = trials; header = h }
       unfolding headerOf
       opens =
           rw (sc .same)
-          (open-seal (node .keys) (node .networks) (node .iv) h (sent .can-be-sent) (formed node s w i (sent .segment-there) seq ttl) (sent .own-key-first))
+          (open-seal (node .keys) (node .networks) (node .iv) h can (formed node s w i (sent .segment-there) seq ttl) (sent .own-key-first))
 
       heard-as : hearing r pdu fwd msg ≡ uncached r h trials fwd msg
       unfolding hearing openedAs
@@ -253,7 +256,7 @@ module _ (node : Node) (speeches : List Speech) (spent : Spent) where
       unfolding headerOf
       steps =
           let c = length-remembered (r .cache) (s .src) seq ∙ sc .good .cache-places in
-          let dst = allowed-some (h .ctl) (h .src) (h .dst) (within (keyAt (node .keys) (s .network)) h (sent .can-be-sent) .allowed) in
+          let dst = allowed-some (h .ctl) (h .src) (h .dst) (within (keyAt (node .keys) (s .network)) h can .allowed) in
           placed-steps node made s w spoken-of q (sc .same) (good-cache r (sc .good) _ c) (filled k) i (sent .segment-there) msg dst big seq ttl
           (entry-room node speeches spent r filled sc few (s .src)) (session-room node speeches spent r filled sc few k (sent .one-of)) (sc .stages k (sent .one-of))
 

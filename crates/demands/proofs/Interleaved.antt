@@ -15,7 +15,7 @@ use lib.Seq.{ext-getD}
 use Rattle.common.specs.Bits.{hasBit, withBit, allBits}
 use Rattle.common.specs.Choice.{if_then_else_}
 use Rattle.common.specs.Search.{first, picked}
-use Rattle.common.proofs.BitLaws.{has-none, has-all, with-of-set, all-of-bits}
+use Rattle.common.proofs.BitLaws.{has-none, has-all, has-with-own, has-with-other, with-of-set, all-of-bits}
 use Rattle.common.proofs.Search.{first-passes, first-upto}
 use Rattle.common.proofs.Tests.{by-test, and-first, and-second}
 use Rattle.network.specs.declared.address.AddressKind.{AddressKind}
@@ -28,9 +28,9 @@ use Rattle.memory.specs.Replay.{lookUp}
 use Rattle.memory.specs.Session.{noSession, noSessions, sessionPlace, complete, blockAck}
 use Rattle.node.specs.declared.addresses.Node.{Node}
 use Rattle.node.specs.declared.setup.Setup.{Setup}
-use Rattle.node.specs.Addresses.{isLocal, listens, forNode}
+use Rattle.node.specs.Addresses.{isLocal, forNode}
 use Rattle.node.specs.Made.{WellMade}
-use Rattle.node.specs.Setup.{groupKind, isGroup, making}
+use Rattle.node.specs.Setup.{groupKind}
 use Rattle.receiver.specs.declared.answer.Answer.{Answer}
 use Rattle.receiver.specs.declared.state.Receiver.{Receiver}
 use Rattle.receiver.specs.Fresh.{settingUp}
@@ -39,13 +39,25 @@ use Rattle.receiver.proofs.Good.{good-fresh}
 use Rattle.sending.specs.Acknowledge.{chosen, acknowledging, sayingAcknowledgement}
 use Rattle.sending.specs.Segment.{elementOf}
 use Rattle.demands.specs.Call.{Call, Outcome, step, left, run, after}
-use Rattle.demands.specs.Interleaved.{Event, Segment, Foreign, Ask, Arrival, start, nodeOf, speechAt, callOf, calls, comeWith, comeFrom, come, isLastMissing, Spent, Comes, Arrives, Each, Scene, AllCome, handed, dueAs, behind, HandedUp, Acknowledges, ofSpeech, arrivalsOf, inTurn, sourceOf, messages, turns, Alike, EndsAlike}
+use Rattle.demands.specs.Interleaved.{Event, Segment, Foreign, Ask, Arrival, start, nodeOf, speechAt, callOf, calls, comeWith, comeFrom, come, isSegment, among, ComeNames, isLastMissing, Spent, Comes, Arrives, Each, Scene, AllCome, handed, dueAs, behind, HandedUp, Acknowledges, ofSpeech, arrivalsOf, inTurn, sourceOf, messages, turns, Alike, EndsAlike}
 use Rattle.demands.specs.Speech.{Words, Access, Control, Speech, lastOf, Speakable, Handed, handUpAs, handUp}
 use Rattle.demands.proofs.ArrivalLaws.{dueOf, Next, event-next}
 use Rattle.demands.proofs.SceneLaws.{speakerOf, Scenery, begins, unicast-some}
-use Rattle.demands.proofs.SpeechLaws.{last-low, sessionOf}
+use Rattle.demands.proofs.SpeechLaws.{for-kind, last-low, sessionOf}
 use Rattle.demands.proofs.StageLaws.{entryOf, Stage, Silent, Gathers, Done}
 use Rattle.demands.proofs.StepLaws.{past}
+
+or-true : (b : Bool) → b || true ≡ true
+or-true true = refl
+or-true false = refl
+
+or-false : (b : Bool) → b || false ≡ b
+or-false true = refl
+or-false false = refl
+
+or-assoc : (a b c : Bool) → (a || b) || c ≡ a || (b || c)
+or-assoc true b c = refl
+or-assoc false b c = refl
 
 -- ---- what holds of each of a list
 module _ {A : Type 0} (P : A → Type 0) where
@@ -240,6 +252,27 @@ module _ (node : Node) (made : WellMade node) (speeches : List Speech) (few : le
         ext-getD past (r .sessions) noSessions (long ∙ sym (length-replicate 8 noSession))
         (λ i h. let w : i < 8 = omega arith in slot-zero i w ∙ sym (getD-replicate 8 i noSession past w))
 
+-- ---- the bits name the segments that came
+come-with : (k i bits : ℕ) (e : Event) → i < 32 → hasBit (comeWith k bits e) i ≡ hasBit bits i || isSegment k i e
+come-with k i bits (Segment j n seq ttl) h =
+    by-test (eqb j k)
+    (λ t. rw t
+    (by-test (eqb n i)
+    (λ u. let e = eqb-true n i u in rw (u, or-true (hasBit bits i)) (subst (λ (x : ℕ). hasBit (withBit bits x) i ≡ true) (sym e) (has-with-own bits i h)))
+    (λ u. rw (u, or-false (hasBit bits i)) (has-with-other bits n i (λ e. eqb-false n i u (sym e))))))
+    (λ t. rw (t, or-false (hasBit bits i)) refl)
+come-with k i bits (Foreign pdu) h = sym (or-false (hasBit bits i))
+come-with k i bits (Ask net src) h = sym (or-false (hasBit bits i))
+
+come-from : (k i bits : ℕ) (l : List Arrival) → i < 32 → hasBit (comeFrom k bits l) i ≡ hasBit bits i || among k i l
+come-from k i bits [] h = sym (or-false (hasBit bits i))
+come-from k i bits (a ∷ l) h =
+    come-from k i (comeWith k bits (a .event)) l h ∙ ap (λ (b : Bool). b || among k i l) (come-with k i bits (a .event) h)
+    ∙ or-assoc (hasBit bits i) (isSegment k i (a .event)) (among k i l)
+
+pub come-names : ComeNames
+come-names k i l h = come-from k i 0 l h ∙ rw (has-none i) refl
+
 -- ---- in turn: the same segments come
 module _ (k : ℕ) where
   come-append : (bits : ℕ) (a b : List Arrival) → comeFrom k bits (a ++ b) ≡ comeFrom k (comeFrom k bits a) b
@@ -304,20 +337,10 @@ kind-unicast Unicast u g = false≢true g
 kind-unicast Virtual u g = false≢true u
 kind-unicast Group u g = false≢true u
 
--- a unicast address that is for a node is one of its elements'
+-- so one that is for a node is one of its elements'
 local-of : (node : Node) → WellMade node → (a : ℕ) → isUnicast a ≡ true → forNode node a ≡ true → isLocal node a ≡ true
-unfolding forNode listens isUnicast kindOf
-local-of node made a u f =
-    by-test (isLocal node a) (λ t. t)
-    (λ t.
-    let f1 = ne-eqb a 0xFFFF (λ e. false≢true (rw e at u)) in
-    let f2 = ne-eqb a 0xFFFE (λ e. false≢true (rw e at u)) in
-    let j = first (λ g. eqb g a) (node .groups) in
-    let l : ltb j (min (node .listened) 8) ≡ true = rw (t, f1, f2) at f in
-    let h = ltb-true j (min (node .listened) 8) l in
-    let places = made .groups-places in
-    let e = eqb-true (getD (node .groups) j 0) a (first-passes (λ g. eqb g a) (node .groups) 0 (omega arith)) in
-    absurd (kind-unicast (kindOf a) u (subst (λ (x : ℕ). isGroup x ≡ true) e (made .groups-only j (omega arith)))))
+unfolding isUnicast
+local-of node made a u f = ⊎-elim (λ l. l) (λ g. absurd (kind-unicast (kindOf a) u g)) (for-kind node made a f)
 
 element-low : (node : Node) → WellMade node → (a : ℕ) → isLocal node a ≡ true → elementOf node a < 8
 unfolding elementOf isLocal

@@ -206,16 +206,19 @@ module _ (sender : Receiver) (setup : Setup) (q : Request) (words : Words) (buf 
     unfolding headerOf
     sent n h =
         let low = last-low node s speaks in
+        let can : sealable (keyAt (node .keys) (q .network)) (headerOf node s n (first + n) (ttlOf (q .ttl))) ≡ true =
+        by-test (eqb n 0)
+        (λ t. let z = eqb-true n 0 t in rw z can-zero)
+        (λ t. let z = eqb-false n 0 t in rest .can n (omega arith) (omega arith)) in
+        let bounds = within (keyAt (node .keys) (q .network)) (headerOf node s n (first + n) (ttlOf (q .ttl))) can in
         let key = each-place (OwnKeyFirst node s) pduOfSegment 0 (suc last) (subst (Each (OwnKeyFirst node s)) made-are all-first) n (omega arith) (omega arith) in
         record {
           one-of = omega arith;
           segment-there = h;
           number-spent = omega arith;
           in-time = record { later = omega arith; near = omega arith };
-          can-be-sent =
-              by-test (eqb n 0)
-              (λ t. let z = eqb-true n 0 t in rw z can-zero)
-              (λ t. let z = eqb-false n 0 t in rest .can n (omega arith) (omega arith));
+          seq-fits = bounds .seq-fits;
+          ttl-fits = bounds .ttl-fits;
           own-key-first = receives (headerOf node s n (first + n) (ttlOf (q .ttl))) (pduOfSegment n) a refl refl key;
         }
 

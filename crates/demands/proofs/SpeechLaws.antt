@@ -4,12 +4,13 @@
 --   segment-taken      a header of the speech is taken as segment i
 --   segment-octets     its octets are chunk i
 --   session-up         a complete session hands up the message
-use mathlib.Core.Bool.{Bool, true, false, _&&_, _||_, true≢false}
+use mathlib.Core.Bool.{Bool, true, false, _&&_, _||_, true≢false, false≢true}
 use mathlib.Core.List.{List, [], _∷_, _++_, append-assoc}
+use mathlib.Core.Logic.{_⊎_, inl, inr, ⊎-elim}
 use mathlib.Core.Path.{_≡_, refl, sym, ap, _∙_, subst}
 use Prim.Native.Nat.{ℕ, suc, _+_, _-_, _*_, _/_, _%_, _≤_, _<_, min}
 use native.Mathlib.Omega.{arith}
-use borrow.Author.Tests.{eq-eqb, ne-eqb, le-leb, lt-leb, leb-true, eqb-true, eqb-false}
+use borrow.Author.Tests.{eq-eqb, ne-eqb, le-leb, lt-leb, leb-true, eqb-true, eqb-false, ltb-true}
 use lib.Dec.{eqb, leb}
 use lib.ListN.{length, getD, take, drop, replicate, length-append}
 use lib.Seq.{take-append-seam, drop-at}
@@ -19,15 +20,21 @@ use Rattle.common.specs.Lent.{Lent, lent}
 use Rattle.common.specs.Lists.{onto, padded}
 use Rattle.common.proofs.Chunks.{chunk-full, chunk-some, chunkCount-zero}
 use Rattle.common.proofs.Lists.{length-tab}
+use Rattle.common.specs.Search.{first}
+use Rattle.common.proofs.Search.{first-passes}
 use Rattle.common.proofs.Tests.{by-test}
-use Rattle.keys.specs.Derivation.{k4}
+use Rattle.keys.specs.Derivation.{k2, k4}
 use Rattle.modes.specs.Ccm.{micOctets}
 use Rattle.modes.proofs.CcmLaws.{mic-octets-bounds}
 use Rattle.network.specs.declared.header.Header.{Header}
-use Rattle.network.specs.Address.{isUnicast}
+use Rattle.network.specs.declared.address.AddressKind.{AddressKind}
+use Rattle.network.specs.declared.address.AddressKind.the-variants.{Unassigned, Unicast, Virtual, Group}
+use Rattle.network.specs.Address.{kindOf, unicastKind, isUnicast, destinationKind, addressesAllowed}
+use Rattle.network.specs.Candidates.{keyAt}
 use Rattle.network.specs.Header.{transportOf}
 use Rattle.network.specs.Octets.{octets}
 use Rattle.network.specs.SealOpen.{Formed}
+use Rattle.network.specs.Sealing.{mostTransport, sealable}
 use Rattle.network.proofs.TrialLaws.{onto-zeros}
 use Rattle.transport.specs.declared.form.Form.{Form}
 use Rattle.transport.specs.declared.form.Form.the-variants as form
@@ -54,7 +61,10 @@ use Rattle.memory.specs.declared.session.Session.{Session}
 use Rattle.memory.specs.declared.session.Terms.{Terms}
 use Rattle.memory.specs.Session.{segmentOctets}
 use Rattle.node.specs.declared.addresses.Node.{Node}
+use Rattle.node.specs.Addresses.{isLocal, listens, forNode}
 use Rattle.node.specs.Made.{WellMade}
+use Rattle.node.specs.Setup.{groupKind, isGroup}
+use Rattle.node.proofs.SetupLaws.{local-is-unicast}
 use Rattle.receiver.specs.declared.answer.Taken.{Taken}
 use Rattle.receiver.specs.declared.state.Receiver.{Receiver}
 use Rattle.receiver.specs.Hearing.{takenAs}
@@ -73,6 +83,51 @@ module _ (n : ℕ) (l : List ℕ) (short : length l ≤ n) where
 pub aid-low : (key : List ℕ) → k4 key < 64
 unfolding k4
 aid-low key = omega arith
+
+-- NID has 7
+nid-low : (key : List ℕ) → k2 key .nid ≤ 127
+unfolding k2
+nid-low key = omega arith
+
+or-true : (b : Bool) → b || true ≡ true
+or-true true = refl
+or-true false = refl
+
+-- ---- who is spoken to
+-- a kind that may be sent to, control or not
+kind-allowed : (ctl : Bool) (k : AddressKind) → unicastKind k || groupKind k ≡ true → destinationKind ctl k ≡ true
+kind-allowed ctl Unassigned e = e
+kind-allowed ctl Unicast e = e
+kind-allowed ctl Virtual e = absurd (false≢true e)
+kind-allowed ctl Group e = e
+
+-- a group that is listened to
+listened-group : (node : Node) → WellMade node → (a : ℕ) → listens node a ≡ true → groupKind (kindOf a) ≡ true
+unfolding listens
+listened-group node made a l =
+    let j = first (λ g. eqb g a) (node .groups) in
+    let h = ltb-true j (min (node .listened) 8) l in
+    let places = made .groups-places in
+    let e = eqb-true (getD (node .groups) j 0) a (first-passes (λ g. eqb g a) (node .groups) 0 (omega arith)) in
+    subst (λ (x : ℕ). isGroup x ≡ true) e (made .groups-only j (omega arith))
+
+-- an address that is for a node is a local one, or a group's
+pub for-kind : (node : Node) → WellMade node → (a : ℕ) → forNode node a ≡ true → (isLocal node a ≡ true) ⊎ (groupKind (kindOf a) ≡ true)
+unfolding forNode kindOf
+for-kind node made a f =
+    by-test (isLocal node a) (λ t. inl t)
+    (λ t. inr
+    (by-test (eqb a 0xFFFF) (λ u. rw (eqb-true a 0xFFFF u) refl)
+    (λ u. by-test (eqb a 0xFFFE) (λ v. rw (eqb-true a 0xFFFE v) refl)
+    (λ v. listened-group node made a (rw (t, u, v) at f)))))
+
+for-allowed : (ctl : Bool) (node : Node) → WellMade node → (a : ℕ) → forNode node a ≡ true → destinationKind ctl (kindOf a) ≡ true
+unfolding isUnicast
+for-allowed ctl node made a f =
+    ⊎-elim
+    (λ l. kind-allowed ctl (kindOf a) (rw (local-is-unicast node made a l) refl))
+    (λ g. kind-allowed ctl (kindOf a) (rw g (or-true (unicastKind (kindOf a)))))
+    (for-kind node made a f)
 
 -- what the segments of a speech have in common
 abbrev pub termsOf : Node → Speech → Terms
@@ -236,6 +291,26 @@ module _ (node : Node) (s : Speech) where
         pub formed : Formed h
         unfolding headerOf
         formed = record { dst-fits = w .dst-fits; zeros-behind = ap (padded 16) transport-is }
+
+        -- it can be sealed: every number has its bits, and a DST that is for a node may be sent to
+        pub segment-sealable : WellMade node → seq ≤ 0xFFFFFF → ttl ≤ 127 → sealable (keyAt (node .keys) (s .network)) h ≡ true
+        unfolding sealable headerOf addressesAllowed
+        segment-sealable made eseq ettl =
+            let l = segment-long in
+            let p = part-bounds in
+            let k : keyAt (node .keys) (s .network) .nid ≤ 127 = let n = w .held in rw (made .derived (s .network) (omega arith)) (nid-low _) in
+            let most : length (segmentOf node s i) ≤ mostTransport (isControl (s .words)) =
+            let q = p .1 in
+            by-test (isControl (s .words)) (λ t. let m : sizeOf s ≡ 8 = ap fullOctets t in rw t (omega arith)) (λ t. let m : sizeOf s ≡ 12 = ap fullOctets t in rw t (omega arith)) in
+            rw (
+              le-leb (keyAt (node .keys) (s .network) .nid) 127 k,
+              le-leb ttl 127 ettl,
+              le-leb seq 0xFFFFFF eseq,
+              w .from-unicast,
+              for-allowed (isControl (s .words)) node made (s .dst) (w .for-here),
+              le-leb 1 (length (segmentOf node s i)) (omega arith),
+              le-leb (length (segmentOf node s i)) (mostTransport (isControl (s .words))) most,
+            ) refl
 
         carries : (ctl : Bool) → isControl (s .words) ≡ ctl → Carries h ctl front
         unfolding headerOf segmentOf

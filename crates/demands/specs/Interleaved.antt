@@ -2,13 +2,13 @@
 -- acknowledge. Each message is handed up exactly once, when its last missing segment comes; each acknowledgement names exactly the segments come so far; messages and
 -- replay entries end as if the senders had spoken one after another, no session open.
 --   Arrival, callOf        what comes, and the call that hears or acknowledges it
---   come k l               the segments of speech k among l, a bit each
+--   come k l               the segments of speech k among l, a bit each (`ComeNames`)
 --   brings k i l           segment i is the last of speech k that was missing behind l
 --   Scene                  the premises
 --   HandedUp               1: where a message is handed up
 --   Acknowledges           2: what an acknowledgement names
 --   EndsAlike              3: what is left at the end
-use mathlib.Core.Bool.{Bool, true, false, _&&_, not}
+use mathlib.Core.Bool.{Bool, true, false, _&&_, _||_, not}
 use mathlib.Core.List.{List, [], _∷_, _++_, map}
 use mathlib.Core.Path.{_≡_}
 use Prim.Native.Nat.{ℕ, zero, suc, _+_, _≤_, _<_}
@@ -18,9 +18,7 @@ use Rattle.common.specs.Bits.{hasBit, withBit, allBits}
 use Rattle.common.specs.Choice.{if_then_else_}
 use Rattle.common.specs.Search.{picked}
 use Rattle.network.specs.Address.{isUnicast}
-use Rattle.network.specs.Candidates.{keyAt}
 use Rattle.network.specs.Opening.{opening}
-use Rattle.network.specs.Sealing.{sealable}
 use Rattle.network.specs.SealOpen as network
 use Rattle.transport.specs.LeadsBack.{SegmentOf}
 use Rattle.memory.specs.Replay.{lookUp}
@@ -91,6 +89,20 @@ comeFrom k bits (a ∷ l) = comeFrom k (comeWith k bits (a .event)) l
 abbrev pub come : ℕ → List Arrival → ℕ
 come k l = comeFrom k 0 l
 
+-- whether segment i of speech k is among them
+abbrev pub isSegment : ℕ → ℕ → Event → Bool
+isSegment k i (Segment j n seq ttl) = eqb j k && eqb n i
+isSegment k i (Foreign pdu) = false
+isSegment k i (Ask net src) = false
+
+abbrev pub among : ℕ → ℕ → List Arrival → Bool
+among k i [] = false
+among k i (a ∷ l) = isSegment k i (a .event) || among k i l
+
+-- the bits name exactly those
+abbrev pub ComeNames : Type 0
+ComeNames = (k i : ℕ) (l : List Arrival) → i < 32 → hasBit (come k l) i ≡ among k i l
+
 -- segment i of a speech with this SegN is the last that was missing
 abbrev pub isLastMissing : ℕ → ℕ → ℕ → Bool
 isLastMissing bits i segN = not (hasBit bits i) && eqb (withBit bits i) (allBits segN)
@@ -106,8 +118,9 @@ pub record Sent (node : Node) (speeches : List Speech) (spent : Spent) (k i seq 
   pub number-spent : i ≡ spent k seq
   -- from SeqAuth to SeqAuth + 8,191
   pub in-time : SegmentOf (speechAt speeches k .auth .seq) seq
-  -- TTL has 7 bits, SEQ 24, and the addresses are allowed
-  pub can-be-sent : sealable (keyAt (node .keys) (speechAt speeches k .network)) (headerOf node (speechAt speeches k) i seq ttl) ≡ true
+  -- SEQ has 24 bits, and TTL 7
+  pub seq-fits : seq ≤ 0xFFFFFF
+  pub ttl-fits : ttl ≤ 127
   -- no key tried earlier opens it
   pub own-key-first :
       network.Receives (node .keys) (node .networks) (node .iv) (headerOf node (speechAt speeches k) i seq ttl) (segmentPdu node (speechAt speeches k) i seq ttl)
