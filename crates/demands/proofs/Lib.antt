@@ -23,3 +23,4 @@ pub mod SegmentsHeard
 pub mod WholeHeard
 pub mod WholeSent
 pub mod ReadBack
+pub mod Instance

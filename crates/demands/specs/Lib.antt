@@ -8,4 +8,5 @@ pub mod NeverTwice
 pub mod Speech
 pub mod Interleaved
 pub mod ReadBack
+pub mod Instance
 pub mod Invariant

@@ -1,0 +1,76 @@
+-- Premises are met: a scene of two speakers for demand 3, and a message that is sent and read back for demand 2. Keys are those of MP's sample data.
+--   shed                the receiver's setup: one network key, one application key, one element
+--   boxes, traffic      two boxes' messages, their segments interleaved, with repeats, a PDU that no key opens and a request to acknowledge
+--   SceneMet            all premises of demand 3 hold of it
+use mathlib.Core.Bool.{Bool, true, false}
+use mathlib.Core.List.{List, [], _∷_}
+use Prim.Native.Nat.{ℕ}
+use lib.ListN.{replicate}
+use Rattle.transport.specs.declared.securing.MessageKey.the-variants.{Application}
+use Rattle.node.specs.declared.setup.Setup.{Setup}
+use Rattle.demands.specs.Interleaved.{Event, Segment, Foreign, Ask, Arrival, Scene, AllCome}
+use Rattle.demands.specs.Speech.{Access, Control, Speech}
+
+abbrev pub networkKey : List ℕ
+networkKey = 0x7d ∷ 0xd7 ∷ 0x36 ∷ 0x4c ∷ 0xd8 ∷ 0x42 ∷ 0xad ∷ 0x18 ∷ 0xc1 ∷ 0x7c ∷ 0x2b ∷ 0x82 ∷ 0x0c ∷ 0x84 ∷ 0xc3 ∷ 0xd6 ∷ []
+
+abbrev pub applicationKey : List ℕ
+applicationKey = 0x63 ∷ 0x96 ∷ 0x47 ∷ 0x71 ∷ 0x73 ∷ 0x4f ∷ 0xbd ∷ 0x76 ∷ 0xe3 ∷ 0xb4 ∷ 0x05 ∷ 0x19 ∷ 0xd1 ∷ 0xd9 ∷ 0x4a ∷ 0x48 ∷ []
+
+abbrev pub deviceKey : List ℕ
+deviceKey = 0x9d ∷ 0x6d ∷ 0xd0 ∷ 0xe9 ∷ 0x6e ∷ 0xb2 ∷ 0x5d ∷ 0xc1 ∷ 0x9a ∷ 0x40 ∷ 0xed ∷ 0x99 ∷ 0x14 ∷ 0xf8 ∷ 0xf0 ∷ 0x3f ∷ []
+
+-- the node of one element at an address, which has sent nothing yet
+abbrev pub nodeAt : ℕ → Setup
+nodeAt address =
+    record {
+      networks = 1;
+      keys = record { octets = networkKey } ∷ replicate 3 (record { octets = replicate 16 0 });
+      applications = 1;
+      secrets = record { key = applicationKey; network = 0 } ∷ replicate 3 (record { key = replicate 16 0; network = 0 });
+      device = deviceKey;
+      first = address;
+      elements = 1;
+      next = replicate 8 0;
+      listened = 0;
+      groups = replicate 8 0;
+      iv = 0x12345678;
+      flag = false;
+      relay = true;
+    }
+
+abbrev pub shed : Setup
+shed = nodeAt 0x0001
+
+-- ---- demand 3
+-- one box says 20 octets under the application key, the other a control message of 12; each goes in two segments
+abbrev pub humidity : Speech
+humidity =
+    record { src = 0x0002; dst = 0x0001; network = 0; auth = record { iv = 0x12345678; seq = 0x000100 }; words = Access (Application 0) false (replicate 20 0x5a) }
+
+abbrev pub temperature : Speech
+temperature =
+    record { src = 0x0003; dst = 0x0001; network = 0; auth = record { iv = 0x12345677; seq = 0x000200 }; words = Control 0x11 (replicate 12 0x3c) }
+
+abbrev pub boxes : List Speech
+boxes = humidity ∷ temperature ∷ []
+
+abbrev pub arrival : Event → Arrival
+arrival e = record { event = e; forward = replicate 29 0; message = replicate 384 0 }
+
+abbrev pub traffic : List Arrival
+traffic =
+    arrival (Segment 0 1 0x000101 5)
+    ∷ arrival (Foreign (0x68 ∷ []))
+    ∷ arrival (Segment 1 0 0x000200 7)
+    -- the same PDU again, with another TTL
+    ∷ arrival (Segment 0 1 0x000101 4)
+    ∷ arrival (Ask 0 0x0002)
+    ∷ arrival (Segment 1 1 0x000201 7)
+    -- segment 0, lost before; and once more under a new number
+    ∷ arrival (Segment 0 0 0x000102 5)
+    ∷ arrival (Segment 0 0 0x000103 5)
+    ∷ []
+
+abbrev pub SceneMet : Type 0
+SceneMet = Scene shed boxes traffic × AllCome shed boxes traffic
