@@ -1,0 +1,82 @@
+"""Compares the console with the independent model of document 01, line by line.
+
+  python3 tests/independent/compare.py [--seeds A..B] [--console COMMAND]
+
+Each seed makes one script of some two thousand lines: the traffic of other nodes, requests of every kind, lines that are unread. Without
+--seeds the fixed ones are run, and every kind of answer that coverage.py lists must occur. Where an answer differs, the seed, the line and
+both answers are printed, and the script is cut down to a short one, which is also left in target/independent.
+"""
+import argparse
+import sys
+from collections import Counter
+
+import coverage
+import cutting
+import program
+import samples
+import script
+
+FIXED = range(1, 25)
+SHOWN = 300
+
+
+def seeds(text):
+    first, dots, last = text.partition("..")
+    if not first.isdecimal() or dots and not last.isdecimal() or dots and int(last) < int(first):
+        raise argparse.ArgumentTypeError(f"{text} is neither a number nor A..B")
+    return range(int(first), int(last if dots else first) + 1)
+
+
+def shown(line):
+    text = line.decode("latin-1").encode("unicode_escape").decode()
+    return text if len(text) <= SHOWN else f"{text[:SHOWN]}.. ({len(line)} octets)"
+
+
+def tell(seed, words, lines, ended, found):
+    """Prints the difference, and the short script that still shows one."""
+    at, model, answer = found
+    print(f"seed {seed}, line {at + 1} of {len(lines)}: {shown(lines[at])}\n  model:   {model}\n  program: {answer}")
+    short, (at, model, answer) = cutting.shortest(words, lines, ended)
+    folder = program.ROOT / "target" / "independent"
+    folder.mkdir(parents=True, exist_ok=True)
+    file = folder / f"seed-{seed}"
+    file.write_bytes(program.text_of(short, True))
+    print(f"cut down to {len(short)} lines, {file}:")
+    for line in short:
+        print("  " + shown(line))
+    print(f"  model:   {model}\n  program: {answer}")
+
+
+def main():
+    parser = argparse.ArgumentParser(description="Compares the console with the independent model of document 01.")
+    parser.add_argument("--seeds", type=seeds, help="one seed, or A..B; without it the fixed ones")
+    parser.add_argument("--console", help="the command that runs the console (bin/console)")
+    chosen = parser.parse_args()
+    try:
+        words = program.command(chosen.console)
+    except program.Missing as missing:
+        parser.error(str(missing))
+    published = samples.check()
+    counts, total = Counter(), 0
+    for seed in chosen.seeds or FIXED:
+        steps = script.made(seed)
+        lines, ended = [step.line for step in steps], seed % 2 == 0
+        wanted = [(at, answer) for at, step in enumerate(steps) for answer in step.answers]
+        found = program.difference(words, lines, ended, wanted)
+        if found:
+            tell(seed, words, lines, ended, found)
+            return 1
+        total += len(wanted)
+        for step in steps:
+            counts.update(step.kinds)
+    missing, unlisted = coverage.report(counts)
+    if unlisted or missing and not chosen.seeds:
+        print("not reached: " + ("; ".join(missing) or "none") + "\nnot listed: " + ("; ".join(unlisted) or "none"))
+        return 1
+    print(f"{total} answers to {len(chosen.seeds or FIXED)} scripts are the model's; {len(coverage.required()) - len(missing)} of {len(coverage.required())}"
+          f" kinds of answer occurred; the model gives {published} published values")
+    return 0
+
+
+if __name__ == "__main__":
+    sys.exit(main())

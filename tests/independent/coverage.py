@@ -1,0 +1,86 @@
+"""Which kinds of answer the fixed seeds must reach: every refusal of document 01 by its reasons, from every operation, and every other answer."""
+import textwrap
+
+# Refusals of `hear` by number. Those of the second table must come with and without forwarding, those of the first never forward.
+HEAR_KEPT = {
+    16: ("forward buffer", "message buffer"),
+    1: ("too short", "too long"),
+    2: ("no candidate key", "no IV Index"),
+    3: ("none authenticates",),
+    4: ("SRC unassigned", "SRC virtual", "SRC group", "DST unassigned", "DST virtual"),
+    5: ("in the cache",),
+    13: ("the device key does not open it",),
+}
+HEAR_CACHED = {
+    6: ("DST unicast", "DST virtual", "DST group"),
+    7: ("AKF 0 with an AID", "AKF 0 to no unicast address", "a segment without octets", "a segment with opcode 0", "SegO above SegN",
+        "a segment before the last that is not full", "an acknowledgement not of 7 octets", "an access message of fewer than 5 octets"),
+    8: ("no SeqAuth",),
+    9: ("unsegmented: not above the entry", "segment: not above the entry", "segment: the open session is newer"),
+    10: tuple("differs in " + point for point in ("CTL", "octet 0", "SZMIC", "SegN", "DST", "opening key")),
+    11: ("unsegmented", "an acknowledgement", "a segment that joins", "a segment that would open a session"),
+    12: ("no slot free",),
+    13: ("too short", "no application key fits", "no application key opens it"),
+}
+# Answers of `hear` that are no refusal; a message under the device key, and an acknowledgement that fits, are for a local address, which is never forwarded.
+HEARD = ("access by the device key", "acknowledged complete", "acknowledged cancelled", "acknowledged marked")
+HEARD_CACHED = ("stored", "repeat", "access by an application key", "control", "acknowledged nothing")
+
+COMMON_14 = ("no such element", "DST unassigned", "DST virtual", "TTL 1", "TTL above 127", "no such network key", "another message is kept")
+ASKED = {
+    "setup": {14: ("number of network keys", "number of application keys", "an application key bound to no network key", "number of elements",
+                   "the first element's address", "the last element's address", "a next SEQ too high", "number of groups", "a group address that is none",
+                   "flag 1 with IV Index 0")},
+    "access": {16: ("PDU buffer",), 15: ("no SEQ left",),
+               14: COMMON_14 + ("the device key to no unicast address", "no such application key", "the application key is bound to another network key",
+                                "no payload", "payload too long")},
+    "control": {16: ("PDU buffer",), 15: ("no SEQ left",), 14: COMMON_14 + ("opcode 0", "opcode above 7f", "parameters too long")},
+    "segment": {16: ("PDU buffer",), 15: ("no SEQ left",), 14: ("nothing is kept", "above SegN", "already heard", "over 8,191 after the first")},
+    "ack": {16: ("PDU buffer",), 15: ("no SEQ left",), 14: ("no such network key", "nothing of this source", "its DST is not unicast")},
+    "stop": {14: ("nothing is kept",)},
+    "drop": {14: ("no session of this source",)},
+}
+DONE = ("netkey", "appkey", "devkey", "elements", "group", "ivindex", "relay", "setup ready", "room", "access sent", "access started", "control sent",
+        "control started", "segment sent", "ack sent", "stop", "drop", "show", "skipped")
+UNREAD = ("a line too long", "no such command", "number of fields", "an empty field", "not a digit", "over 8 digits", "a number above its limit", "half an octet",
+          "a key not of 16 octets", "a MIC neither 4 nor 8", "before the first setup")
+CASES = ("a later network key opens it", "several network keys fail", "under the IV Index before", "a later application key opens it",
+         "repeats within the session", "repeats the last message handed up", "repeats the last message handed up while another comes",
+         "joins though the entry is newer", "replaces an older session", "completes with SegN 0", "completes with SegN 31",
+         "completes with a segment before the last", "acknowledges the open session", "acknowledges the last message handed up")
+
+
+def _refusals(table, word, behind=""):
+    return [f"{word} refused {number}: {why}{behind}" for number, reasons in table.items() for why in reasons]
+
+
+def required():
+    """The words for each kind, in the document's order."""
+    kinds = _refusals(HEAR_KEPT, "hear")
+    for behind in ("", ", forwarded"):
+        kinds += _refusals(HEAR_CACHED, "hear", behind) + [f"hear {kind}{behind}" for kind in HEARD_CACHED]
+    kinds += [f"hear {kind}" for kind in HEARD]
+    for word, table in ASKED.items():
+        kinds += _refusals(table, word)
+    return kinds + list(DONE) + [f"unread: {why}" for why in UNREAD] + list(CASES)
+
+
+def _groups(kinds):
+    """The kinds by operation and number, those that were forwarded apart."""
+    groups = {}
+    for kind in kinds:
+        words = kind.removesuffix(", forwarded")
+        head, colon, rest = words.partition(": ")
+        if not colon:
+            head, rest = ("hear", words.removeprefix("hear ")) if words.startswith("hear ") else ("cases met" if kind in CASES else "done", words)
+        groups.setdefault(head + kind.removeprefix(words), []).append((kind, rest))
+    return groups
+
+
+def report(counts):
+    """Prints every count; gives the kinds that were not reached, and those that are not listed here."""
+    kinds = required()
+    for head, group in _groups(kinds).items():
+        text = f"{head}: " + ", ".join(f"{rest} {counts[kind]}" for kind, rest in group)
+        print(textwrap.fill(text, 150, subsequent_indent="    "))
+    return [kind for kind in kinds if not counts[kind]], sorted(set(counts) - set(kinds))

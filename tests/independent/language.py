@@ -1,0 +1,240 @@
+"""The console's language: a line read, the model driven, the answer written."""
+import model
+import sending
+
+LONGEST_LINE = 4095
+DIGITS = frozenset(b"0123456789abcdefABCDEF")
+
+
+class Unread(Exception):
+    """A line that is of no form, or whose fields do not fit; its argument says why."""
+
+
+def _hex(field):
+    if not field:
+        raise Unread("an empty field")
+    if not DIGITS.issuperset(field):
+        raise Unread("not a digit")
+    return field.decode()
+
+
+def _number(most):
+    def read(field):
+        number = int(_hex(field), 16)
+        if len(field) > 8:
+            raise Unread("over 8 digits")
+        if number > most:
+            raise Unread("a number above its limit")
+        return number
+    return read
+
+
+def _octets(field):
+    if field == b"-":
+        return b""
+    if len(_hex(field)) % 2:
+        raise Unread("half an octet")
+    return bytes.fromhex(field.decode())
+
+
+def _key(field):
+    key = _octets(field)
+    if len(key) != 16:
+        raise Unread("a key not of 16 octets")
+    return key
+
+
+def _or(word, meaning, read):
+    return lambda field: meaning if field == word else read(field)
+
+
+def _mic(field):
+    size = BYTE(field)
+    if size not in (4, 8):
+        raise Unread("a MIC neither 4 nor 8")
+    return size
+
+
+BIT, BYTE, ADDRESS, LONG, ROOM = (_number(most) for most in (1, 0xFF, 0xFFFF, 0xFFFFFFFF, 384))
+TTL, APP = _or(b"-", None, BYTE), _or(b"dev", None, BYTE)
+
+# The fields of each command; elements takes any number of its last one.
+FORMS = {
+    b"netkey": (_key,),
+    b"appkey": (BYTE, _key),
+    b"devkey": (_key,),
+    b"elements": (ADDRESS, LONG),
+    b"group": (ADDRESS,),
+    b"ivindex": (LONG, BIT),
+    b"relay": (BIT,),
+    b"setup": (),
+    b"room": (ROOM, ROOM),
+    b"hear": (_octets,),
+    b"access": (BYTE, ADDRESS, TTL, BYTE, APP, _mic, _octets),
+    b"control": (BYTE, ADDRESS, TTL, BYTE, BYTE, _octets),
+    b"segment": (BYTE,),
+    b"ack": (BYTE, ADDRESS),
+    b"stop": (),
+    b"drop": (ADDRESS,),
+    b"show": (),
+}
+
+
+def read(line):
+    """The command and its fields."""
+    if len(line) > LONGEST_LINE:
+        raise Unread("a line too long")
+    word, *fields = line.split(b" ")
+    if word not in FORMS:
+        raise Unread("no such command")
+    form = FORMS[word]
+    if word == b"elements" and fields:
+        form = form[:1] + form[1:] * (len(fields) - 1)
+    if len(form) != len(fields):
+        raise Unread("number of fields")
+    return word.decode(), [parse(each) for parse, each in zip(form, fields)]
+
+
+def _hexed(octets):
+    return octets.hex() or "-"
+
+
+def _pair(pair, word):
+    return f"iv {pair[0]:08x} {word} {pair[1]:06x}"
+
+
+def heard(result):
+    """The answer to `hear`."""
+    answer, trials = result.answer, f"trials {result.trials[0]:x} {result.trials[1]:x}"
+    match answer:
+        case model.Refused():
+            text = f"refused {answer.number} {trials}"
+        case model.Stored() | model.Repeat():
+            text = f"{type(answer).__name__.lower()} src {answer.src:04x} {_pair(answer.auth, 'auth')} bits {answer.bits:08x} {trials}"
+        case model.Access():
+            key = "dev" if answer.key is None else f"{answer.key:x}"
+            text = (f"access src {answer.src:04x} dst {answer.dst:04x} net {answer.net:x} key {key} {_pair(answer.pair, 'seq')}"
+                    f" {trials} message {_hexed(answer.payload)}")
+        case model.Control():
+            text = (f"control src {answer.src:04x} dst {answer.dst:04x} net {answer.net:x} opcode {answer.opcode:x} {_pair(answer.pair, 'seq')}"
+                    f" {trials} message {_hexed(answer.payload)}")
+        case model.Acknowledged():
+            text = f"acknowledgement src {answer.src:04x} bits {answer.bits:08x} {answer.effect} {trials}"
+    return text + (f" forward {result.forward.hex()}" if result.forward else "")
+
+
+def shown(receiver):
+    """The lines of `show`."""
+    yield " ".join(["seq"] + [f"{seq:06x}" for seq in receiver.seqs])
+    yield " ".join(["cache"] + [f"{src:04x}:{seq:06x}" for src, seq in receiver.cache])
+    for entry in receiver.replay:
+        line = f"replay {entry.src:04x} {_pair(entry.pair, 'seq')}"
+        if entry.last:
+            (iv_index, seq), seg_n, dst = entry.last
+            line += f" last {iv_index:08x} {seq:06x} segn {seg_n:x} dst {dst:04x}"
+        yield line
+    for slot, session in enumerate(receiver.sessions):
+        if session:
+            yield f"session {slot:x} src {session.src:04x} {_pair(session.auth, 'auth')} bits {session.bits:08x}"
+    if receiver.out:
+        out = receiver.out
+        yield f"sending dst {out.dst:04x} {_pair(out.auth, 'auth')} segn {len(out.segments) - 1:x} heard {out.heard:08x}"
+    yield "end"
+
+
+class Console:
+    """The program's state: the lines given since the last `setup`, the receiver if there is one, and the buffers' lengths.
+
+    `why` says of the last answer what was refused and why, or what kind it was; `notes` which other cases it met.
+    """
+
+    def __init__(self):
+        self.given = model.Setup()
+        self.receiver = None
+        self.room = (29, 384)
+        self.why = ""
+
+    @property
+    def notes(self):
+        return self.receiver.notes if self.receiver else []
+
+    def answer(self, line):
+        """The lines that answer this one; none where it is skipped."""
+        self.notes.clear()
+        if not line or line.startswith(b"#"):
+            self.why = "skipped"
+            return []
+        try:
+            word, fields = read(line)
+            if word in GIVEN:
+                GIVEN[word](self.given, *fields)
+                self.why = word
+                return ["ok"]
+            return self._setup() if word == "setup" else self._asked(word, fields)
+        except Unread as unread:
+            self.why = f"unread: {unread}"
+            return ["unread"]
+        except model.Refusal as refusal:
+            self.why = f"{word} refused {refusal.number}: {refusal.why}"
+            return [f"refused {refusal.number}"]
+
+    def _setup(self):
+        given, self.given = self.given, model.Setup()
+        self.receiver = model.Receiver(given)
+        self.why = "setup ready"
+        return ["ready"]
+
+    def _asked(self, word, fields):
+        if not self.receiver:
+            raise Unread("before the first setup")
+        self.why = word
+        if word == "room":
+            self.room = tuple(fields)
+            return ["ok"]
+        if word == "show":
+            return list(shown(self.receiver))
+        if word == "hear":
+            return [self._hear(*fields)]
+        if word in ("stop", "drop"):
+            getattr(self.receiver, word)(*fields)
+            return ["given up"]
+        return [self._send(word, fields)]
+
+    def _hear(self, pdu):
+        result = self.receiver.hear(pdu, *self.room)
+        kind = type(result.answer).__name__.lower()
+        match result.answer:
+            case model.Refused(number, why):
+                kind += f" {number}: {why}"
+            case model.Access(key=key):
+                kind += " by the device key" if key is None else " by an application key"
+            case model.Acknowledged(effect=effect):
+                kind += " " + effect
+        self.why = f"hear {kind}{', forwarded' if result.forward else ''}"
+        return heard(result)
+
+    def _send(self, word, fields):
+        result = SENDING[word](self.receiver, self.room[0], *fields)
+        pdu, count = result if isinstance(result, tuple) else (result, None)
+        self.why = f"{word} {'sent' if count is None else 'started'}"
+        return f"sent {pdu.hex()}" if count is None else f"started {pdu.hex()} segments {count:x}"
+
+
+def _elements(given, first, *seqs):
+    given.first, given.seqs = first, list(seqs)
+
+
+def _index(given, index, flag):
+    given.iv_index, given.flag = index, flag
+
+
+GIVEN = {
+    "netkey": lambda given, key: given.net_keys.append(key),
+    "appkey": lambda given, net, key: given.app_keys.append((net, key)),
+    "devkey": lambda given, key: setattr(given, "device_key", key),
+    "elements": _elements,
+    "group": lambda given, group: given.groups.append(group),
+    "ivindex": _index,
+    "relay": lambda given, on: setattr(given, "relay", on),
+}
+SENDING = {"access": sending.access, "control": sending.control, "segment": sending.segment, "ack": sending.acknowledge}

@@ -1,0 +1,115 @@
+"""A script made from a seed, with the answer that the model gives to each of its lines."""
+import random
+from collections import namedtuple
+from dataclasses import replace
+
+import lines
+import orders
+import traffic
+from language import Console
+from world import World, setup_lines, setup_of
+
+# One line of a script: its octets, the answering lines, and the words for what kind of answer it was and which cases it met.
+Step = namedtuple("Step", "line answers kinds")
+# One world of so many is followed by a flood: 8,192 and more transmissions of one element.
+FLOODS = 12
+
+
+class Script:
+    """Lines said to the model one after another."""
+
+    def __init__(self, seed):
+        self.dice = random.Random(seed)
+        self.console = Console()
+        self.steps = []
+
+    def say(self, line):
+        line = line if isinstance(line, bytes) else line.encode()
+        answers = self.console.answer(line)
+        self.steps.append(Step(line, answers, (self.console.why, *self.console.notes)))
+        return answers
+
+    def hear(self, pdu):
+        self.say(b"hear " + (pdu.hex().encode() or b"-"))
+
+    def odd(self):
+        """A line that is mostly unread, made of one of the latest or of any command."""
+        recent = [step.line for step in self.steps[-12:] if 0 < len(step.line) < 400]
+        self.say(lines.odd(self.dice, self.dice.choice((*recent[-4:], *self.dice.sample(lines.RIGHT, 4)))))
+
+
+class Stage:
+    """A world on the script: its actors take turns, with weights that differ from world to world."""
+
+    def __init__(self, script):
+        self.script, self.dice = script, script.dice
+        self.set_up()
+        self.world = World(self.dice, script.console)
+        hears = [(traffic.talk, 3)] * self.dice.randint(1, 12) + [(actor, self.dice.choice((0, 0, 1, 1, 3, 8))) for actor in traffic.ACTORS]
+        asks = [(actor, self.dice.choice((0, 1, 1, 3, 8))) for actor in orders.ACTORS]
+        self.actors = [(actor(self.world), weight, script.hear) for actor, weight in hears]
+        self.actors += [(actor(self.world), weight, self.ask) for actor, weight in asks]
+
+    def set_up(self):
+        """Sets up with odd lines between, which may spoil it, so until it is ready."""
+        answers = []
+        while answers != ["ready"]:
+            for line in setup_lines(setup_of(self.dice), self.dice):
+                if self.dice.random() < 0.04:
+                    self.script.odd()
+                answers = self.script.say(line)
+
+    def ask(self, line):
+        """A request; the PDU that it sends may be heard later."""
+        answers = self.script.say(line)
+        if answers[0].startswith(("sent", "started")):
+            self.world.own = self.world.own[-7:] + [bytes.fromhex(answers[0].split()[1])]
+
+    def turn(self):
+        actor, _, use = self.dice.choices(self.actors, [weight for _, weight, _ in self.actors])[0]
+        for _ in range(self.dice.choice((1, 1, 1, 2, 3, 8))):
+            use(next(actor))
+        if self.dice.random() < 0.04:
+            self.script.odd()
+        if self.dice.random() < 0.08:
+            self.script.say("show")
+
+    def play(self, count):
+        """Turns, a few of them with buffers that are too short."""
+        end = len(self.script.steps) + count
+        while len(self.script.steps) < end:
+            short = self.dice.random() < 0.02
+            if short:
+                self.script.say(orders.short_room(self.dice))
+            for _ in range(self.dice.randint(1, 4)):
+                self.turn()
+            if short:
+                self.script.say(orders.enough_room(self.dice))
+            if self.dice.random() < 0.03:
+                for line in orders.bad_setup(self.dice, self.world.setup):
+                    self.script.say(line)
+
+    def flood(self):
+        """One segment sent until over 8,191 numbers have passed since the message began, some of them near the last SEQ."""
+        start = self.dice.choice((0, 5, 0xFFFFFF - 8191, 0xFFFFFF - 8190))
+        setup = replace(self.world.setup, seqs=[start])
+        for line in setup_lines(setup, self.dice) + [b"room 1d 180", b"control 0 1 - 0 1 " + b"00" * 12]:
+            self.script.say(line)
+        for _ in range(8193):
+            self.script.say("segment 1")
+        for line in ("show", "segment 0", "stop", "control 0 1 - 0 1 -"):
+            self.script.say(line)
+
+
+def made(seed, worlds=3, count=500):
+    """The script of a seed."""
+    script = Script(seed)
+    for _ in range(script.dice.randrange(4)):
+        script.say(script.dice.choice(("show", "hear -", "room 1d 180", "stop", "ack 0 1", "access 0 1 - 0 0 4 00", "setup", "segment 0")))
+    for _ in range(worlds):
+        stage = Stage(script)
+        stage.play(count)
+        script.say("show")
+        if script.dice.randrange(FLOODS) == 0:
+            stage.flood()
+    return script.steps

@@ -1,0 +1,134 @@
+"""What the receiver of document 01 sends: access and control messages, later segments, acknowledgements.
+
+Each function takes the receiver and the length of the buffer lent for the PDU, gives the PDU, and checks in the document's order: 16, 14, 15.
+"""
+from dataclasses import dataclass
+
+import network
+import transport
+from model import Refusal
+from network import kind
+
+UNNAMED_TTL = 7
+LAST_SEQ = 0xFFFFFF
+
+
+@dataclass
+class Outgoing:
+    """The segmented message that is kept; segments are its transport octets in SegO order, heard has a bit for each."""
+    element: int
+    src: int
+    dst: int
+    ttl: int
+    net: int
+    ctl: int
+    auth: tuple
+    segments: list
+    heard: int = 0
+
+
+def _allow(wrong, why):
+    if wrong:
+        raise Refusal(14, why)
+
+
+def _need_room(room):
+    if room < network.LONGEST:
+        raise Refusal(16, "PDU buffer")
+
+
+def _common(receiver, element, dst, ttl, net):
+    """What access and control messages must both keep to; gives the TTL."""
+    _allow(element >= len(receiver.seqs), "no such element")
+    _allow(kind(dst) in ("unassigned", "virtual"), "DST " + kind(dst))
+    _allow(ttl == 1, "TTL 1")
+    _allow(ttl is not None and ttl > 127, "TTL above 127")
+    _allow(net >= len(receiver.networks), "no such network key")
+    return UNNAMED_TTL if ttl is None else ttl
+
+
+def _next(receiver, element):
+    """The element's next SEQ and the IV Index to send under; the SEQ is not taken yet."""
+    if receiver.seqs[element] > LAST_SEQ:
+        raise Refusal(15, "no SEQ left")
+    return receiver.seqs[element], receiver.setup.iv_index - receiver.setup.flag
+
+
+def _transmit(receiver, element, net, ctl, ttl, dst, octets):
+    seq, iv_index = _next(receiver, element)
+    receiver.seqs[element] = seq + 1
+    return network.seal(receiver.networks[net], iv_index, ctl, ttl, seq, receiver.setup.first + element, dst, octets)
+
+
+def _start(receiver, element, net, ctl, ttl, dst, segments):
+    """Keeps the message and sends its segment 0; gives the PDU and the number of segments."""
+    seq, iv_index = _next(receiver, element)
+    receiver.out = Outgoing(element, receiver.setup.first + element, dst, ttl, net, ctl, (iv_index, seq), segments)
+    return _transmit(receiver, element, net, ctl, ttl, dst, segments[0]), len(segments)
+
+
+def access(receiver, room, element, dst, ttl, net, key, mic, payload):
+    """An access message under an application key, or the device key where key is None. Gives the PDU, and the number of segments or None."""
+    _need_room(room)
+    ttl = _common(receiver, element, dst, ttl, net)
+    if key is None:
+        _allow(kind(dst) != "unicast", "the device key to no unicast address")
+        octet, secret = 0, receiver.setup.device_key
+    else:
+        _allow(key >= len(receiver.aids), "no such application key")
+        bound, secret = receiver.setup.app_keys[key]
+        _allow(bound != net, "the application key is bound to another network key")
+        octet = 0x40 | receiver.aids[key]
+    _allow(len(payload) == 0, "no payload")
+    _allow(len(payload) + mic > 384, "payload too long")
+    segmented = mic == 8 or len(payload) > 11
+    _allow(segmented and receiver.out, "another message is kept")
+    seq, iv_index = _next(receiver, element)
+    upper = transport.secure(secret, key is None, mic, seq, receiver.setup.first + element, dst, iv_index, payload)
+    if not segmented:
+        return _transmit(receiver, element, net, 0, ttl, dst, bytes([octet]) + upper), None
+    return _start(receiver, element, net, 0, ttl, dst, transport.cut(0, octet, int(mic == 8), seq, upper))
+
+
+def control(receiver, room, element, dst, ttl, net, opcode, parameters):
+    """A control message. Gives the PDU, and the number of segments or None."""
+    _need_room(room)
+    ttl = _common(receiver, element, dst, ttl, net)
+    _allow(opcode == 0, "opcode 0")
+    _allow(opcode > 0x7F, "opcode above 7f")
+    _allow(len(parameters) > 256, "parameters too long")
+    segmented = len(parameters) > 11
+    _allow(segmented and receiver.out, "another message is kept")
+    seq, _ = _next(receiver, element)
+    if not segmented:
+        return _transmit(receiver, element, net, 1, ttl, dst, bytes([opcode]) + parameters), None
+    return _start(receiver, element, net, 1, ttl, dst, transport.cut(1, opcode, 0, seq, parameters))
+
+
+def segment(receiver, room, seg_o):
+    """One segment of the message that is kept."""
+    _need_room(room)
+    out = receiver.out
+    _allow(not out, "nothing is kept")
+    _allow(seg_o >= len(out.segments), "above SegN")
+    _allow(out.heard >> seg_o & 1, "already heard")
+    _allow(receiver.seqs[out.element] - out.auth[1] >= transport.WINDOW, "over 8,191 after the first")
+    return _transmit(receiver, out.element, out.net, out.ctl, out.ttl, out.dst, out.segments[seg_o])
+
+
+def acknowledge(receiver, room, net, src):
+    """The acknowledgement of a source's open session, else of its last segmented message handed up."""
+    _need_room(room)
+    _allow(net >= len(receiver.networks), "no such network key")
+    slot, entry = receiver.slot_of(src), receiver.entry_of(src)
+    if slot is not None:
+        session = receiver.sessions[slot]
+        auth, bits, dst = session.auth, session.bits, session.terms.dst
+    else:
+        _allow(not entry or not entry.last, "nothing of this source")
+        auth, seg_n, dst = entry.last
+        bits = transport.all_bits(seg_n)
+    _allow(kind(dst) != "unicast", "its DST is not unicast")
+    pdu = _transmit(receiver, dst - receiver.setup.first, net, 1, UNNAMED_TTL, src, transport.acknowledgement(0, auth[1] % transport.WINDOW, bits))
+    receiver.note(True, "acknowledges " + ("the last message handed up" if slot is None else "the open session"))
+    return pdu
