@@ -11,7 +11,7 @@ import sys
 from collections import Counter
 
 import coverage
-import cutting
+import differing
 import program
 import samples
 import script
@@ -20,27 +20,20 @@ FIXED = range(1, 25)
 SHOWN = 300
 
 
-def seeds(text):
-    first, dots, last = text.partition("..")
-    if not first.isdecimal() or dots and not last.isdecimal() or dots and int(last) < int(first):
-        raise argparse.ArgumentTypeError(f"{text} is neither a number nor A..B")
-    return range(int(first), int(last if dots else first) + 1)
-
-
 def shown(line):
     text = line.decode("latin-1").encode("unicode_escape").decode()
     return text if len(text) <= SHOWN else f"{text[:SHOWN]}.. ({len(line)} octets)"
 
 
-def tell(seed, words, lines, ended, found):
+def tell(seed, words, lines, found):
     """Prints the difference, and the short script that still shows one."""
     at, model, answer = found
     print(f"seed {seed}, line {at + 1} of {len(lines)}: {shown(lines[at])}\n  model:   {model}\n  program: {answer}")
-    short, (at, model, answer) = cutting.shortest(words, lines, ended)
+    short, (at, model, answer) = differing.shortest(words, lines, found)
     folder = program.ROOT / "target" / "independent"
     folder.mkdir(parents=True, exist_ok=True)
     file = folder / f"seed-{seed}"
-    file.write_bytes(program.text_of(short, True))
+    file.write_bytes(program.text_of(short))
     print(f"cut down to {len(short)} lines, {file}:")
     for line in short:
         print("  " + shown(line))
@@ -49,7 +42,7 @@ def tell(seed, words, lines, ended, found):
 
 def main():
     parser = argparse.ArgumentParser(description="Compares the console with the independent model of document 01.")
-    parser.add_argument("--seeds", type=seeds, help="one seed, or A..B; without it the fixed ones")
+    parser.add_argument("--seeds", type=program.seeds, help="one seed, or A..B; without it the fixed ones")
     parser.add_argument("--console", help="the command that runs the console (bin/console)")
     chosen = parser.parse_args()
     try:
@@ -62,9 +55,9 @@ def main():
         steps = script.made(seed)
         lines, ended = [step.line for step in steps], seed % 2 == 0
         wanted = [(at, answer) for at, step in enumerate(steps) for answer in step.answers]
-        found = program.difference(words, lines, ended, wanted)
+        found = differing.difference(words, lines, ended, wanted)
         if found:
-            tell(seed, words, lines, ended, found)
+            tell(seed, words, lines, found)
             return 1
         total += len(wanted)
         for step in steps:

@@ -44,6 +44,8 @@ def access(world, node, dst, seq, segmented, mic):
     dice = world.dice
     first, key, of_device = app_key(world, node.net)
     payload = dice.randbytes(length(dice, 12 - mic, 384 - mic) if segmented else dice.randint(1, 11))
+    if segmented and dice.random() < 0.05:
+        payload = NOTHING
     upper = transport.secure(key, of_device, mic, seq, node.src, dst, node.index, payload)
     if dice.random() < 0.04:
         upper = upper[:-1] + bytes([upper[-1] ^ 1])
