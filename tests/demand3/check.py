@@ -85,8 +85,8 @@ def main():
     if chosen.seeds == FIXED and not all(counts[kind] for kind in KINDS):
         print("a kind of answer did not occur")
         return 1
-    print(f"{len(scenarios)} interleavings of 1 to 8 senders: {counts['handed up']} messages handed up once each, {counts['acknowledgement']} acknowledgements exact,"
-          " entries as one after another")
+    print(f"{len(scenarios)} interleavings of 1 to 8 senders: {counts['handed up']} messages handed up once each,"
+          f" {counts['acknowledgement']} acknowledgements exact, entries as one after another")
     return 0
 
 

@@ -47,7 +47,8 @@ UNREAD = ("a line too long", "no such command", "number of fields", "an empty fi
 CASES = ("a later network key opens it", "several network keys fail", "under the IV Index before", "a later application key opens it",
          "repeats within the session", "repeats the last message handed up", "repeats the last message handed up while another comes",
          "joins though the entry is newer", "replaces an older session", "completes with SegN 0", "completes with SegN 31",
-         "completes with a segment before the last", "acknowledges the open session", "acknowledges the last message handed up")
+         "completes with a segment before the last", "acknowledges the open session", "acknowledges the last message handed up",
+         "sends a segment 8,191 after the first", "has no SEQ left 8,191 after the first", "has no SEQ left 8,192 after the first")
 
 
 def _refusals(table, word, behind=""):

@@ -112,7 +112,11 @@ def segment(receiver, room, seg_o):
     _allow(not out, "nothing is kept")
     _allow(seg_o >= len(out.segments), "above SegN")
     _allow(out.heard >> seg_o & 1, "already heard")
-    _allow(receiver.seqs[out.element] - out.auth[1] >= transport.WINDOW, "over 8,191 after the first")
+    ahead = receiver.seqs[out.element] - out.auth[1]
+    receiver.note(ahead == transport.WINDOW - 1 and receiver.seqs[out.element] <= LAST_SEQ, "sends a segment 8,191 after the first")
+    receiver.note(ahead == transport.WINDOW - 1 and receiver.seqs[out.element] > LAST_SEQ, "has no SEQ left 8,191 after the first")
+    receiver.note(ahead == transport.WINDOW and receiver.seqs[out.element] > LAST_SEQ, "has no SEQ left 8,192 after the first")
+    _allow(ahead >= transport.WINDOW, "over 8,191 after the first")
     return _transmit(receiver, out.element, out.net, out.ctl, out.ttl, out.dst, out.segments[seg_o])
 
 

@@ -6,6 +6,7 @@ what it makes comes from the world's nodes.
 import transport
 from ciphers import k2, k4
 from model import Terms
+from network import kind
 from transport import WINDOW
 
 NOTHING = b""
@@ -67,7 +68,8 @@ def message(world, node, dst=None):
     """A message of any kind: CTL, DST and a list of (SEQ, transport octets)."""
     dice, dst = world.dice, world.destination() if dst is None else dst
     ctl, segmented = dice.choice((0, 0, 1)), dice.random() < 0.65
-    if node.seq + 40 > 0xFFFFFF and dice.random() < 0.9:
+    if node.seq > 0xFFFFFF - 40:
+        # near the end of the numbers: messages that the last SEQ cuts off
         node.seq = 0xFFFFFF - dice.randrange(3)
     first = node.take()
     parts = control(dice, first, segmented) if ctl else access(world, node, dst, first, segmented, dice.choice((4, 8)) if segmented else 4)
@@ -259,8 +261,7 @@ def noise(world):
             yield node.say(1, world.ttl(), world.local(), NOTHING)
         else:
             key = k2(dice.choice(world.setup.net_keys))
-            length = dice.choice((13, 14, 15, 17, 18, 28, 29, 30))
-            yield bytes([dice.choice((0, 0x80)) | key.nid]) + dice.randbytes(length - 1)
+            yield bytes([dice.choice((0, 0x80)) | key.nid]) + dice.randbytes(dice.choice((12, 13, 14, 16, 17, 27, 28, 29)))
 
 
 def addresses(world):
@@ -305,9 +306,9 @@ def answers(world):
             yield one_short(world, 1)
             continue
         everything = transport.all_bits(len(out.segments) - 1)
-        bits = dice.choice((everything, 0xFFFFFFFF, 0, 0x80000000, 1 << dice.randrange(32), dice.randrange(1 << 32) & everything, dice.randrange(1 << 32), out.heard))
-        other = dice.random() < 0.2
-        node = world.some_node() if other or not 0 < out.dst < 0x8000 else world.node(out.dst)
+        some = dice.randrange(1 << 32)
+        bits = dice.choice((everything, 0xFFFFFFFF, 0, 0x80000000, 1 << dice.randrange(32), some & everything, some, out.heard))
+        node = world.node(out.dst) if kind(out.dst) == "unicast" and dice.random() < 0.8 else world.some_node()
         zero = out.auth[1] % WINDOW if dice.random() < 0.85 else dice.randrange(WINDOW)
         dst = out.src if dice.random() < 0.8 else world.destination()
         yield node.say(1, world.ttl(), dst, transport.acknowledgement(dice.randint(0, 1), zero, bits, dice.randrange(4)))
