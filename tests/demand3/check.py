@@ -44,7 +44,7 @@ def script(scenario):
 
 
 def judged(scenario, answers):
-    """The counts of the mixed run, or Wrong."""
+    """The mixed run, or Wrong."""
     runs, shown = [], []
     for arrivals in (scenario.arrivals, scenario.sequential()):
         if answers.take(len(scenario.setup()))[-1:] != ["ready"]:
@@ -58,7 +58,7 @@ def judged(scenario, answers):
         runs.append(run)
         shown.append(answers.shown())
     ends(scenario, runs[0], shown[0], runs[1], shown[1])
-    return runs[0].counts
+    return runs[0]
 
 
 def main():
@@ -71,19 +71,21 @@ def main():
         parser.error(str(missing))
     scenarios = [(seed, Scenario(seed)) for seed in chosen.seeds]
     lines = [line.encode() for _, scenario in scenarios for line in script(scenario)]
-    answers, counts = Answers(program.answers(words, program.text_of(lines))), Counter()
+    answers, counts, most = Answers(program.answers(words, program.text_of(lines))), Counter(), 0
     for seed, scenario in scenarios:
         try:
-            counts.update(judged(scenario, answers))
+            run = judged(scenario, answers)
+            counts.update(run.counts)
+            most = max(most, run.most)
         except Wrong as wrong:
             print(f"seed {seed}, arrival {wrong.at + 1} (0: the end) of {len(scenario.arrivals)}\n  wanted:   {wrong.wanted}")
             return 1
         except ValueError:
             print(f"seed {seed}: answers are missing; the last is {answers.lines[-1:]}")
             return 1
-    print(", ".join(f"{kind} {counts[kind]}" for kind in KINDS))
-    if chosen.seeds == FIXED and not all(counts[kind] for kind in KINDS):
-        print("a kind of answer did not occur")
+    print(", ".join(f"{kind} {counts[kind]}" for kind in KINDS) + f", at most {most} messages open at once")
+    if chosen.seeds == FIXED and (most < 8 or not all(counts[kind] for kind in KINDS)):
+        print("a kind of answer, or eight messages at once, did not occur")
         return 1
     print(f"{len(scenarios)} interleavings of 1 to 8 senders: {counts['handed up']} messages handed up once each,"
           f" {counts['acknowledgement']} acknowledgements exact, entries as one after another")

@@ -26,10 +26,14 @@ def handed_up(answer):
 
 
 class Run:
-    """One run of arrivals over a fresh receiver: which segments have come, what was handed up of each source, how often each answer was given."""
+    """One run of arrivals over a fresh receiver.
+
+    It keeps which segments have come, what was handed up of each source, how often each answer was given, and how many messages were open at once.
+    """
 
     def __init__(self, scenario):
         self.scenario = scenario
+        self.most = 0
         self.come = [set() for _ in scenario.speeches]
         self.handed = {speech.src: [] for speech in scenario.speeches}
         self.counts = {}
@@ -53,6 +57,7 @@ class Run:
         speech, come = self.scenario.speeches[arrival.number], self.come[arrival.number]
         last = arrival.part not in come and len(come) == len(speech.parts) - 1
         come.add(arrival.part)
+        self.most = max(self.most, sum(0 < len(parts) < len(each.parts) for parts, each in zip(self.come, self.scenario.speeches)))
         if last:
             if handed_up(answer) != speech.handed:
                 raise Wrong(at, f"{speech.handed[0]} .. message {speech.handed[1]}: the last missing segment comes")

@@ -32,7 +32,7 @@ class Scenario:
         self.index = dice.choice((1, 2, 0xFFFFFFFF, dice.randrange(1, 1 << 32)))
         self.flag = dice.randint(0, 1)
         self.sending_index = self.index - self.flag
-        sources = dice.sample([src for src in range(1, 0x8000) if not self.first <= src < self.first + self.elements], dice.randint(1, 8))
+        sources = dice.sample([src for src in range(1, 0x8000) if not self.first <= src < self.first + self.elements], dice.choice((8, dice.randint(1, 8))))
         self.speeches = [self._speech(src) for src in sources]
         self.arrivals = self._arrivals()
 
@@ -98,16 +98,18 @@ class Scenario:
         number = dice.randrange(len(self.speeches))
         pdu = bytes.fromhex(self.segment(number, 0, self.speeches[number].start, 5).line.split()[1])
         at = dice.randrange(7, len(pdu))
-        octets = dice.choice((pdu[:at] + bytes([pdu[at] ^ 1 << dice.randrange(8)]) + pdu[at + 1:], dice.randbytes(dice.randint(0, 40)), pdu[:-1], pdu + b"\x00"))
+        damaged = pdu[:at] + bytes([pdu[at] ^ 1 << dice.randrange(8)]) + pdu[at + 1:]
+        octets = dice.choice((damaged, dice.randbytes(dice.randint(0, 40)), pdu[:-1], pdu + b"\x00"))
         return Segment(f"hear {octets.hex() or '-'}", None, None)
 
     def _arrivals(self):
-        """All speeches' segments mixed, each speech in its own order or not; then the same PDUs again, noise and requests between."""
+        """All speeches' segments mixed, in half of the scenarios after the first of each; then the same PDUs again, noise and requests between."""
         dice = self.dice
         spoken = [list(self._spoken(number)) for number in range(len(self.speeches))]
-        order = [number for number, parts in enumerate(spoken) for _ in parts]
+        ahead = dice.randint(0, 1)
+        order = [number for number, parts in enumerate(spoken) for _ in parts[ahead:]]
         dice.shuffle(order)
-        arrivals = [spoken[number].pop(0) for number in order]
+        arrivals = [spoken[number].pop(0) for number in [*range(len(spoken))] * ahead + order]
         for _ in range(dice.randint(0, len(arrivals) // 2)):
             at = dice.randrange(len(arrivals))
             arrivals.insert(dice.randint(at + 1, len(arrivals)), arrivals[at])
