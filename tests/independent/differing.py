@@ -32,7 +32,10 @@ def difference(words, lines, ended=True, wanted=None):
 def shortest(words, lines, found):
     """A short script with its difference: what follows it is cut off first, then parts of ever smaller size are left out."""
     end = time.monotonic() + SECONDS
-    lines = lines[:found[0] + 1]
+    whole, lines = lines, lines[:found[0] + 1]
+    if not difference(words, lines):
+        # it takes more: the lines behind, or that the last has no newline
+        lines = whole
     size = len(lines) // 2
     while size >= 1 and time.monotonic() < end:
         at = 0

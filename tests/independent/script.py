@@ -11,8 +11,8 @@ from world import World, setup_lines, setup_of
 
 # One line of a script: its octets, the answering lines, and the words for what kind of answer it was and which cases it met.
 Step = namedtuple("Step", "line answers kinds")
-# One world of so many is followed by a flood: 8,192 and more transmissions of one element.
-FLOODS = 12
+# One script of so many ends with a flood, over 8,192 transmissions of one element, from one of these numbers on in turn.
+FLOODS, STARTS = 6, (0, 0xFFFFFF - 8191, 0xFFFFFF - 8190, 5)
 
 
 class Script:
@@ -89,9 +89,8 @@ class Stage:
                 for line in orders.bad_setup(self.dice, self.world.setup):
                     self.script.say(line)
 
-    def flood(self):
-        """One segment sent until over 8,191 numbers have passed since the message began, some of them near the last SEQ."""
-        start = self.dice.choice((0, 5, 0xFFFFFF - 8191, 0xFFFFFF - 8190))
+    def flood(self, start):
+        """One segment sent until over 8,191 numbers have passed since the message began."""
         setup = replace(self.world.setup, seqs=[start])
         for line in setup_lines(setup, self.dice) + [b"room 1d 180", b"control 0 1 - 0 1 " + b"00" * 12]:
             self.script.say(line)
@@ -110,6 +109,6 @@ def made(seed, worlds=3, count=500):
         stage = Stage(script)
         stage.play(count)
         script.say("show")
-        if script.dice.randrange(FLOODS) == 0:
-            stage.flood()
+    if seed % FLOODS == 0:
+        stage.flood(STARTS[seed // FLOODS % len(STARTS)])
     return script.steps
