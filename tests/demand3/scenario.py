@@ -31,8 +31,10 @@ class Scenario:
         self.groups = [dice.randint(0xC000, 0xFEFF) for _ in range(dice.randint(0, 8))]
         self.index = dice.choice((1, 2, 0xFFFFFFFF, dice.randrange(1, 1 << 32)))
         self.flag = dice.randint(0, 1)
+        self.relay = dice.randint(0, 1)
         self.sending_index = self.index - self.flag
-        sources = dice.sample([src for src in range(1, 0x8000) if not self.first <= src < self.first + self.elements], dice.choice((8, dice.randint(1, 8))))
+        others = [src for src in range(1, 0x8000) if not self.first <= src < self.first + self.elements]
+        sources = dice.sample(others, dice.choice((8, dice.randint(1, 8))))
         self.speeches = [self._speech(src) for src in sources]
         self.arrivals = self._arrivals()
 
@@ -46,31 +48,47 @@ class Scenario:
     def setup(self):
         """The lines that set up a fresh receiver."""
         lines = [f"netkey {key.hex()}" for key in self.nets] + [f"appkey {bound:x} {key.hex()}" for bound, key in self.apps]
-        lines += [f"devkey {self.device.hex()}", f"elements {self.first:x}" + " 0" * self.elements, f"ivindex {self.index:x} {self.flag}", f"relay {self.flag}"]
-        return lines + [f"group {group:x}" for group in self.groups] + ["setup"]
+        lines += [f"devkey {self.device.hex()}", f"elements {self.first:x}" + " 0" * self.elements, f"ivindex {self.index:x} {self.flag}"]
+        return lines + [f"relay {self.relay}"] + [f"group {group:x}" for group in self.groups] + ["setup"]
 
     def _speech(self, src):
         """A segmented message of any kind to a DST that is for the receiver."""
         dice = self.dice
-        net, ctl = dice.randrange(len(self.nets)), dice.choice((0, 0, 1))
-        index, start = self.index - dice.randint(0, 1), dice.choice((dice.randrange(100), dice.randrange(0xFFFFFF - 100), 0xFFFFFF - dice.randint(80, 200)))
-        keys = [at for at, (bound, _) in enumerate(self.apps) if bound == net]
-        local = self.first + dice.randrange(self.elements)
-        if ctl:
-            dst, opcode = dice.choice([local, local, 0xFFFF] + self.groups), dice.randint(1, 0x7F)
-            payload = upper = dice.randbytes(dice.choice((256, dice.randint(1, 256), dice.randint(1, 40))))
-            parts, key = transport.cut(1, opcode, 0, start, upper), f"opcode {opcode:x}"
-        else:
-            mic, of_device = dice.choice((4, 8)), not keys or dice.random() < 0.3
-            dst = local if of_device else dice.choice([local, local, 0xFFFF] + self.groups)
-            at = None if of_device else dice.choice(keys)
-            secret = self.device if of_device else self.apps[at][1]
-            payload = dice.randbytes(dice.choice((384 - mic, dice.randint(1, 384 - mic), dice.randint(1, 40))))
-            upper = transport.secure(secret, of_device, mic, start, src, dst, index, payload)
-            parts = transport.cut(0, 0 if of_device else 0x40 | k4(secret), int(mic == 8), start, upper)
-            key = "key dev" if of_device else f"key {at:x}"
+        net, index = dice.randrange(len(self.nets)), self.index - dice.randint(0, 1)
+        start = dice.choice((dice.randrange(100), dice.randrange(0xFFFFFF - 100), 0xFFFFFF - dice.randint(80, 200)))
+        ctl = dice.choice((0, 0, 1))
+        dst, parts, key, payload = self._control(start) if ctl else self._access(src, net, index, start)
         handed = (f"{'control' if ctl else 'access'} src {src:04x} dst {dst:04x} net {net:x} {key} iv {index:08x} seq {start:06x}", payload.hex())
         return Speech(src, dst, net, k2(self.nets[net]), ctl, index, start, parts, handed)
+
+    def _local(self):
+        return self.first + self.dice.randrange(self.elements)
+
+    def _destination(self):
+        return self.dice.choice([self._local(), self._local(), 0xFFFF] + self.groups)
+
+    def _octets(self, most):
+        return self.dice.randbytes(self.dice.choice((most, self.dice.randint(1, most), self.dice.randint(1, 40))))
+
+    def _control(self, start):
+        """DST, segments, the answer's words for the opcode, and the parameters."""
+        opcode, parameters = self.dice.randint(1, 0x7F), self._octets(256)
+        return self._destination(), transport.cut(1, opcode, 0, start, parameters), f"opcode {opcode:x}", parameters
+
+    def _access(self, src, net, index, start):
+        """DST, segments, the answer's words for the key, and the payload; under the device key the DST is unicast."""
+        fitting = [at for at, (bound, _) in enumerate(self.apps) if bound == net]
+        mic = self.dice.choice((4, 8))
+        payload = self._octets(384 - mic)
+        of_device = not fitting or self.dice.random() < 0.3
+        if of_device:
+            dst, secret, first, key = self._local(), self.device, 0, "key dev"
+        else:
+            at = self.dice.choice(fitting)
+            dst, secret, key = self._destination(), self.apps[at][1], f"key {at:x}"
+            first = 0x40 | k4(secret)
+        upper = transport.secure(secret, of_device, mic, start, src, dst, index, payload)
+        return dst, transport.cut(0, first, int(mic == 8), start, upper), key, payload
 
     def segment(self, number, part, seq, ttl):
         speech = self.speeches[number]

@@ -22,7 +22,7 @@ HEAR_CACHED = {
     12: ("no slot free",),
     13: ("too short", "no application key fits", "no application key opens it"),
 }
-# Answers of `hear` that are no refusal; a message under the device key, and an acknowledgement that fits, are for a local address, which is never forwarded.
+# Answers of `hear` that are no refusal; a message under the device key and an acknowledgement that fits are for a local address: never forwarded.
 HEARD = ("access by the device key", "acknowledged complete", "acknowledged cancelled", "acknowledged marked")
 HEARD_CACHED = ("stored", "repeat", "access by an application key", "control", "acknowledged nothing")
 
@@ -42,8 +42,8 @@ ASKED = {
 }
 DONE = ("netkey", "appkey", "devkey", "elements", "group", "ivindex", "relay", "setup ready", "room", "access sent", "access started", "control sent",
         "control started", "segment sent", "ack sent", "stop", "drop", "show", "skipped")
-UNREAD = ("a line too long", "no such command", "number of fields", "an empty field", "not a digit", "over 8 digits", "a number above its limit", "half an octet",
-          "a key not of 16 octets", "a MIC neither 4 nor 8", "before the first setup")
+UNREAD = ("a line too long", "no such command", "number of fields", "an empty field", "not a digit", "over 8 digits", "a number above its limit",
+          "half an octet", "a key not of 16 octets", "a MIC neither 4 nor 8", "before the first setup")
 CASES = ("a later network key opens it", "several network keys fail", "under the IV Index before", "a later application key opens it",
          "repeats within the session", "repeats the last message handed up", "repeats the last message handed up while another comes",
          "joins though the entry is newer", "replaces an older session", "completes with SegN 0", "completes with SegN 31",

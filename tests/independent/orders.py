@@ -14,7 +14,8 @@ def octets(dice, count):
 def _request(world):
     """The fields that access and control share, all allowed: element, DST, TTL and network key."""
     dice, setup = world.dice, world.setup
-    dst = dice.choice((world.some_node().src, world.some_node().src, world.local(), world.heard_group(), dice.randint(1, 0x7FFF), dice.randint(0xC000, 0xFFFF)))
+    known = world.some_node().src
+    dst = dice.choice((known, known, world.local(), world.heard_group(), dice.randint(1, 0x7FFF), dice.randint(0xC000, 0xFFFF)))
     element = 0 if dice.random() < 0.5 else dice.randrange(len(setup.seqs))
     ttl = dice.choice(("-", "-", "0", "2", "7f", f"{dice.randint(2, 127):x}"))
     return [f"{element:x}", f"{dst:04x}", ttl, f"{dice.randrange(len(setup.net_keys)):x}"]
@@ -74,7 +75,7 @@ def segments(world):
         out = world.receiver.out
         count = len(out.segments) if out else 3
         heard = [place for place in range(count) if out and out.heard >> place & 1] or [0]
-        yield f"segment {dice.choice((dice.choice(heard), dice.randrange(count), dice.randrange(count), count, dice.randrange(256))):x}"
+        yield f"segment {dice.choice((*heard[:2], dice.randrange(count), dice.randrange(count), count, dice.randrange(256))):x}"
 
 
 def acknowledge(world):

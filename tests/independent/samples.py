@@ -72,7 +72,8 @@ def _hearing(messages):
     """MP's message 6, two segments under the device key, heard by the model's console."""
     message = next(each for each in messages if each["section"] == "8.3.6")
     console = Console()
-    for line in (f'netkey {message["net_key"]}', f'devkey {message["dev_key"]}', f'elements {message["dst"]} 0', f'ivindex {message["iv_index"]} 0', "setup"):
+    setup = f'netkey {message["net_key"]}', f'devkey {message["dev_key"]}', f'elements {message["dst"]} 0', f'ivindex {message["iv_index"]} 0', "setup"
+    for line in setup:
         console.answer(line.encode())
     answers = [console.answer(f'hear {pdu["network_pdu"]}'.encode())[0] for pdu in message["pdus"]]
     start = f'src {message["src"]}', f'iv {message["iv_index"]}', message["app_seq"]

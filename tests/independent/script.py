@@ -92,7 +92,8 @@ class Stage:
     def flood(self, start):
         """One segment sent until over 8,191 numbers have passed since the message began."""
         setup = replace(self.world.setup, seqs=[start])
-        for line in setup_lines(setup, self.dice) + [b"room 1d 180", b"control 0 1 - 0 1 " + b"00" * 12]:
+        # the first setup takes away what odd lines have left
+        for line in [b"setup"] + setup_lines(setup, self.dice) + [b"room 1d 180", b"control 0 1 - 0 1 " + b"00" * 12]:
             self.script.say(line)
         for _ in range(8193):
             self.script.say("segment 1")

@@ -127,21 +127,26 @@ def one_short(world, ctl):
 
 
 def crowd(world):
-    """New sources, each with a short message: they fill the replay list."""
+    """New sources, each with a short message or an acknowledgement: they fill the replay list."""
+    dice = world.dice
     while True:
-        yield one_short(world, world.dice.choice((0, 1)))
+        if dice.random() < 0.7:
+            yield one_short(world, dice.choice((0, 1)))
+        else:
+            dst = dice.choice((world.local(), world.heard_group()))
+            yield world.node().say(1, world.ttl(), dst, transport.acknowledgement(1, dice.randrange(WINDOW), 1))
 
 
 def openers(world):
     """New sources, each with the first segment of a longer message: they fill the slots."""
     dice = world.dice
     while True:
-        node = world.node()
+        node, ctl = world.node(), dice.randint(0, 1)
         dst, seq = dice.choice((world.local(), world.heard_group())), node.take()
-        parts = transport.cut(1, dice.randint(1, 0x7F), 0, seq, dice.randbytes(dice.randint(9, 40)))
-        yield node.say(1, world.ttl(), dst, parts[0], seq)
+        parts = transport.cut(ctl, dice.randint(0x40, 0x7F), 0, seq, dice.randbytes(dice.randint(13, 40)))
+        yield node.say(ctl, world.ttl(), dst, parts[0], seq)
         if dice.random() < 0.3:
-            yield node.say(1, world.ttl(), dst, parts[1])
+            yield node.say(ctl, world.ttl(), dst, parts[1])
 
 
 def joined(world):
@@ -254,7 +259,8 @@ def noise(world):
         elif how == 1 and world.said:
             yield damaged(dice, dice.choice(world.said)[3])
         elif how == 2:
-            yield world.sealed(k2(world.strange_net), world.index(), (dice.randint(0, 1), 5, dice.randrange(1 << 24), 7, world.local(), b"\x01" + bytes(6)))
+            said = (dice.randint(0, 1), 5, dice.randrange(1 << 24), 7, world.local(), b"\x01" + bytes(6))
+            yield world.sealed(k2(world.strange_net), world.index(), said)
         elif how == 3:
             # authentic but for its length: a control PDU without transport octets
             node = world.some_node()

@@ -141,8 +141,9 @@ class World:
             return self.local()
         if roll < 0.85:
             return self.heard_group()
-        return self.dice.choice((0xFFFF, 0xFFFE, 0xFFFD, self.dice.randint(0xC000, 0xFFFF), self.dice.randint(0x8000, 0xBFFF), self.dice.randint(1, 0x7FFF),
-                                 self.setup.first - 1 or 1, min(self.setup.first + len(self.setup.seqs), 0x7FFF)))
+        beside = (self.setup.first - 1 or 1, min(self.setup.first + len(self.setup.seqs), 0x7FFF))
+        return self.dice.choice((0xFFFF, 0xFFFE, 0xFFFD, *beside, self.dice.randint(0xC000, 0xFFFF), self.dice.randint(0x8000, 0xBFFF),
+                                 self.dice.randint(1, 0x7FFF)))
 
     def ttl(self):
         return self.dice.choice((0, 1, 2, 3, 7, 127, self.dice.randrange(128)))

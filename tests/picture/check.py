@@ -59,7 +59,8 @@ def check_refusals(folder, text, answers):
              (folder / "in", folder / "long"), (folder / "in", folder / "other"))
     for case in cases:
         run = picture(*case)
-        must(run.returncode == 2 and run.stderr.count("\n") == 1 and not run.stdout, f"{[file.name for file in case]}: status {run.returncode}, {run.stderr}")
+        names = [file.name for file in case]
+        must(run.returncode == 2 and run.stderr.count("\n") == 1 and not run.stdout, f"{names}: status {run.returncode}, {run.stderr}")
     return len(cases)
 
 

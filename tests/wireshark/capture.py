@@ -8,8 +8,9 @@ from pathlib import Path
 LINK_TYPE, ACCESS_ADDRESS, ADV_NONCONN_IND, MESH_MESSAGE = 251, 0x8E89BED6, 0x02, 0x2A
 ADVERTISER = bytes(6)
 CRC = bytes(3)
-FIELDS = ("btmesh.ctl", "btmesh.ttl", "btmesh.seq", "btmesh.src", "btmesh.dst", "btmesh.szmic", "btmesh.seqzero_data", "btmesh.sego", "btmesh.segn",
-          "btmesh.access.decrypted", "btmesh.cntr.opcode", "btmesh.cntr.unknownpayload", "btmesh.obo", "btmesh.seqzero", "btmesh.blockack", "btmesh.acc.akf")
+FIELDS = tuple("btmesh." + name for name in (
+    "ctl", "ttl", "seq", "src", "dst", "szmic", "seqzero_data", "sego", "segn", "acc.akf", "access.decrypted", "cntr.opcode", "cntr.unknownpayload", "obo",
+    "seqzero", "blockack"))
 
 
 class Failed(Exception):

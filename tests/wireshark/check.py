@@ -120,7 +120,8 @@ def main():
         print(wrong)
         return 1
     print(f"{closed} messages of one segment with an 8-octet TransMIC, which tshark cannot open, are compared but for their payload")
-    print(f"tshark reads {fields} fields of {count - len(STATIONS)} PDUs as they were sent, and nothing of {len(STATIONS)} damaged ones; the console hears them all")
+    print(f"tshark reads {fields} fields of {count - len(STATIONS)} PDUs as they were sent, and nothing of {len(STATIONS)} damaged ones;"
+          " the console hears them all")
     return 0
 
 

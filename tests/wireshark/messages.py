@@ -14,8 +14,9 @@ FREE_OPCODES = range(0x0B, 0x80)
 Message = namedtuple("Message", "line element dst ttl net key mic opcode payload")
 
 
-def _line(words):
-    return " ".join(words)
+def _line(word, element, dst, ttl, net, *rest):
+    """A request; a TTL of None is left unnamed."""
+    return " ".join([word, f"{element}", f"{dst:x}", "-" if ttl is None else f"{ttl:x}", f"{net}", *rest])
 
 
 def messages(dice):
@@ -25,14 +26,14 @@ def messages(dice):
             net, element, ttl = key or 0, dice.randrange(2), dice.choice(TTLS)
             # an opcode of two octets that no model has: tshark shows an access payload whatever is in it
             payload = (b"\xbf\xff" + dice.randbytes(size))[:size]
-            words = ["access", f"{element}", f"{dst:x}", "-" if ttl is None else f"{ttl:x}", f"{net}", "dev" if key is None else f"{key}", f"{mic}", payload.hex()]
-            yield Message(_line(words), element, dst, ttl, net, key, mic, None, payload)
+            line = _line("access", element, dst, ttl, net, "dev" if key is None else f"{key}", f"{mic}", payload.hex())
+            yield Message(line, element, dst, ttl, net, key, mic, None, payload)
     for size in CONTROL:
         for dst in (RECEIVER, GROUP):
             net, element, ttl, opcode = dice.randrange(2), dice.randrange(2), dice.choice(TTLS), dice.choice(FREE_OPCODES)
             payload = dice.randbytes(size)
-            words = ["control", f"{element}", f"{dst:x}", "-" if ttl is None else f"{ttl:x}", f"{net}", f"{opcode:x}", payload.hex() or "-"]
-            yield Message(_line(words), element, dst, ttl, net, None, None, opcode, payload)
+            line = _line("control", element, dst, ttl, net, f"{opcode:x}", payload.hex() or "-")
+            yield Message(line, element, dst, ttl, net, None, None, opcode, payload)
 
 
 class Station:
@@ -50,8 +51,8 @@ class Station:
     def setup(self, first, seqs):
         """The lines that set up one of the two."""
         lines = [f"netkey {key.hex()}" for key in self.nets] + [f"appkey {at} {key.hex()}" for at, key in enumerate(self.apps)]
-        return lines + [f"devkey {self.device.hex()}", f"elements {first:x} " + " ".join(f"{seq:x}" for seq in seqs), f"ivindex {self.index:x} {self.flag}",
-                        f"group {GROUP:x}", "setup"]
+        lines += [f"devkey {self.device.hex()}", f"elements {first:x} " + " ".join(f"{seq:x}" for seq in seqs)]
+        return lines + [f"ivindex {self.index:x} {self.flag}", f"group {GROUP:x}", "setup"]
 
     @property
     def sending_index(self):
