@@ -12,15 +12,22 @@ SECONDS = 300
 
 
 class Missing(Exception):
-    """There is no such command."""
+    """There is no such command, or it does not build."""
+
+
+def _built():
+    """The repository's program, which bin/console builds where it is not yet built."""
+    if subprocess.run([str(ROOT / "bin" / "console")], stdin=subprocess.DEVNULL, check=False).returncode:
+        raise Missing("bin/console does not build or does not run")
+    return [str(ROOT / "bin" / "program"), "console"]
 
 
 def command(named=None):
-    """The words of the command: the one named, else GOREPHAN_CONSOLE, else the repository's bin/console."""
+    """The words of the command: the one named, else GOREPHAN_CONSOLE, else the repository's console."""
     words = shlex.split(named or os.environ.get("GOREPHAN_CONSOLE") or shlex.quote(str(ROOT / "bin" / "console")))
     if not words or not shutil.which(words[0]):
         raise Missing(f"there is no command {words[0] if words else '(empty)'}: name the console's by GOREPHAN_CONSOLE")
-    return words
+    return _built() if words == [str(ROOT / "bin" / "console")] else words
 
 
 def seeds(text):
