@@ -23,11 +23,15 @@ def _built():
 
 
 def command(named=None):
-    """The words of the command: the one named, else GOREPHAN_CONSOLE, else the repository's console."""
-    words = shlex.split(named or os.environ.get("GOREPHAN_CONSOLE") or shlex.quote(str(ROOT / "bin" / "console")))
+    """The words of the command: the one named, else that of GOREPHAN_CONSOLE, else the repository's console."""
+    text = named or os.environ.get("GOREPHAN_CONSOLE")
+    try:
+        words = shlex.split(text) if text else [str(ROOT / "bin" / "console")]
+    except ValueError as fault:
+        raise Missing(f"{text} is no command: {fault}") from None
     if not words or not shutil.which(words[0]):
-        raise Missing(f"there is no command {words[0] if words else '(empty)'}: name the console's by GOREPHAN_CONSOLE")
-    return _built() if words == [str(ROOT / "bin" / "console")] else words
+        raise Missing(f"there is no command {words[0] if words else text}: name the console's by GOREPHAN_CONSOLE")
+    return words if text else _built()
 
 
 def seeds(text):
