@@ -23,4 +23,5 @@ pub mod SegmentsHeard
 pub mod WholeHeard
 pub mod WholeSent
 pub mod ReadBack
+pub mod GoesOut
 pub mod Instance

@@ -61,7 +61,7 @@ use Rattle.demands.specs.Interleaved.{Spent, start, nodeOf, speechAt, Ea
 use Rattle.demands.specs.NeverTwice.{made}
 use Rattle.demands.specs.ReadBack.{sayCall, restOf, pduMade, pdus, outcomes, saidBy, Shared, OwnKeyFirst, OwnMessageFirst, Sending, Heard, ReadBack}
 use Rattle.demands.specs.Speech.{Words, Access, Control, Speech, keyOf, aidOf, akfOf, envelopeOf, octetsOf, lastOf, headerOf, segmentPdu, Speakable, Handed, handUp}
-use Rattle.demands.proofs.SaidLaws.{KeySame, key-same, keys-allowed, envelope-same, octets-same, access-fits, access-read, opcode-range, words-of, near, held, element-there, Kept, kept}
+use Rattle.demands.proofs.SaidLaws.{KeySame, key-same, keys-allowed, envelope-same, octets-same, access-fits, access-read, opcode-range, words-of, near, held, element-there, Kept, kept, access-stamped}
 use Rattle.demands.proofs.SceneLaws.{begins, unicast-some}
 use Rattle.demands.proofs.SegmentsHeard.{heard-in-order}
 use Rattle.demands.proofs.SegmentsSent.{Can, pduAt, Keeps, keeps-next, can-said, pdu-said, Rest, rest-sent}
@@ -94,7 +94,7 @@ module _ (sender : Receiver) (setup : Setup) (q : Request) (words : Words) (buf 
   said = sendingAs sender q words buf
 
   well : WellMade node
-  well = good-fresh setup (p .ready) .node-made
+  well = good-fresh setup (p .between .ready) .node-made
 
   -- ---- what was sent, by the answer to the first call
   step-is : (ws : Words) → step sender (sayCall q ws buf) ≡ Said (sendingAs sender q ws buf)
@@ -121,8 +121,8 @@ module _ (sender : Receiver) (setup : Setup) (q : Request) (words : Words) (buf 
       → Receives (node .keys) (node .networks) (node .iv) h pdu
   receives h pdu a ek ei f =
       record {
-        held = rw ek (held sender node (p .shared) q words a);
-        near = rw ei (near sender node (p .shared) q (p .good .node-made));
+        held = rw ek (held sender node (p .between .shared) q words a);
+        near = rw ei (near sender node (p .between .shared) q (p .between .good .node-made));
         none-before = rw (ek, ei) f;
       }
 
@@ -135,10 +135,10 @@ module _ (sender : Receiver) (setup : Setup) (q : Request) (words : Words) (buf 
     first = nextSeq sender (q .element)
 
     there : q .element < min (sender .node .elements) 8
-    there = element-there sender node (p .shared) q words a
+    there = element-there sender node (p .between .shared) q words a
 
-    keeping : Kept sender node (p .shared) q s o
-    keeping = kept sender node (p .shared) q words a
+    keeping : Kept sender node (p .between .shared) q s o
+    keeping = kept sender node (p .between .shared) q words a
 
     abbrev last : ℕ
     last = lastOf node s
@@ -153,18 +153,18 @@ module _ (sender : Receiver) (setup : Setup) (q : Request) (words : Words) (buf 
     zero-next : nextSeq sender (q .element) ≡ first + 0
     zero-next = omega arith
 
-    can-zero : Can sender (p .good .node-made) node (p .shared) q there s refl o keeping first 0
-    can-zero = can-said sender (p .good .node-made) node (p .shared) q there s refl o keeping first sender 0 refl zero-next _ _ (b .transmitted-is)
+    can-zero : Can sender (p .between .good .node-made) node (p .between .shared) q there s refl o keeping first 0
+    can-zero = can-said sender (p .between .good .node-made) node (p .between .shared) q there s refl o keeping first sender 0 refl zero-next _ _ (b .transmitted-is)
 
     pdu-zero : pduMade (Said said) ≡ pduOfSegment 0
     pdu-zero =
         rw (b .says)
-        (pdu-said sender (p .good .node-made) node (p .shared) q there s refl o keeping first sender 0 refl zero-next (b .len) _ (b .transmitted-is))
+        (pdu-said sender (p .between .good .node-made) node (p .between .shared) q there s refl o keeping first sender 0 refl zero-next (b .len) _ (b .transmitted-is))
 
-    keeps-one : Keeps sender (p .good .node-made) node (p .shared) q there s refl o keeping first (said .answer .receiver) 1
+    keeps-one : Keeps sender (p .between .good .node-made) node (p .between .shared) q there s refl o keeping first (said .answer .receiver) 1
     unfolding withNext
     keeps-one =
-        let places = p .good .next-well .places in
+        let places = p .between .good .next-well .places in
         let low = there in
         rw (b .leaves)
         (record {
@@ -174,9 +174,9 @@ module _ (sender : Receiver) (setup : Setup) (q : Request) (words : Words) (buf 
           places = length-set (sender .next) (q .element) (first + 1) ∙ places;
         })
 
-    rest : Rest sender (p .good .node-made) node (p .shared) q there s refl o keeping first buf (said .answer .receiver) 1 last
+    rest : Rest sender (p .between .good .node-made) node (p .between .shared) q there s refl o keeping first buf (said .answer .receiver) 1 last
     rest =
-        rest-sent sender (p .good .node-made) node (p .shared) q there s refl o keeping first buf (said .answer .receiver) 1 last keeps-one
+        rest-sent sender (p .between .good .node-made) node (p .between .shared) q there s refl o keeping first buf (said .answer .receiver) 1 last keeps-one
         (rw (b .says, last-is) at (all-made .1))
 
     made-are : madeOf (Said said) ≡ tabFrom pduOfSegment 0 (suc last)
@@ -191,11 +191,11 @@ module _ (sender : Receiver) (setup : Setup) (q : Request) (words : Words) (buf 
         let h = headerOf node s 0 (first + 0) (ttlOf (q .ttl)) in
         record {
           from-unicast = sent-unicast (h .ctl) (h .src) (h .dst) (within (keyAt (node .keys) (q .network)) h can-zero .allowed);
-          for-here = p .for-here;
-          dst-fits = p .dst-fits;
-          held = held sender node (p .shared) q words a;
-          near = near sender node (p .shared) q (p .good .node-made);
-          words-read = words-of sender node (p .shared) q words a w (p .own-message-first);
+          for-here = p .between .for-here;
+          dst-fits = p .between .dst-fits;
+          held = held sender node (p .between .shared) q words a;
+          near = near sender node (p .between .shared) q (p .between .good .node-made);
+          words-read = words-of sender node (p .between .shared) q words a w (p .between .own-message-first);
         }
 
     -- a number is spent on the segment that it is behind the first
@@ -229,7 +229,7 @@ module _ (sender : Receiver) (setup : Setup) (q : Request) (words : Words) (buf 
     read-segments : Read (madeOf (Said said))
     read-segments =
         let x = heard-in-order node well s speaks spent (λ n. first + n) (ttlOf (q .ttl)) fwd msg wide big sent last 0 (omega arith) (start setup) (λ _. 0)
-        (begins setup (p .ready) (s ∷ []) spent one) refl in
+        (begins setup (p .between .ready) (s ∷ []) spent one) refl in
         subst Read (sym made-are) (record { hands = x .hands; stores = x .stores })
 
   -- ---- whole
@@ -240,14 +240,14 @@ module _ (sender : Receiver) (setup : Setup) (q : Request) (words : Words) (buf 
     made-one : (key : ℕ) → headerAs sender q words .key ≡ key → madeOf (Said said) ≡ pduOf (keyAt (node .keys) key) h ∷ []
     made-one key e =
         let own = headerAs sender q words .key in
-        let same = ap (λ (k : List NetworkKeys). pduOf (keyAt k own) h) (p .shared .keys-same) ∙ ap (λ (n : ℕ). pduOf (keyAt (node .keys) n) h) e in
+        let same = ap (λ (k : List NetworkKeys). pduOf (keyAt k own) h) (p .between .shared .keys-same) ∙ ap (λ (n : ℕ). pduOf (keyAt (node .keys) n) h) e in
         rw (b .says) (ap (λ (x : List ℕ). x ∷ []) (b .transmitted-is .pdu ∙ same))
 
     can-one : (key : ℕ) → headerAs sender q words .key ≡ key → sealable (keyAt (node .keys) key) h ≡ true
     can-one key e =
         let own = headerAs sender q words .key in
         subst (λ (n : ℕ). sealable (keyAt (node .keys) n) h ≡ true) e
-        (subst (λ (k : List NetworkKeys). sealable (keyAt k own) h ≡ true) (p .shared .keys-same) (b .transmitted-is .can))
+        (subst (λ (k : List NetworkKeys). sealable (keyAt k own) h ≡ true) (p .between .shared .keys-same) (b .transmitted-is .can))
 
     src-some : (key : ℕ) → headerAs sender q words .key ≡ key → h .src ≡ 0 → ⊥
     src-some key e = unicast-some (h .src) (sent-unicast (h .ctl) (h .src) (h .dst) (within (keyAt (node .keys) key) h (can-one key e) .allowed))
@@ -261,8 +261,8 @@ module _ (sender : Receiver) (setup : Setup) (q : Request) (words : Words) (buf 
           can = can-one (q .network) (sym e);
           receives = receives h (pduOf (keyAt (node .keys) (q .network)) h) a ek ei first;
           spoken = λ z. src-some (q .network) (sym e) (es ∙ z);
-          here = p .for-here;
-          dst-fits = p .dst-fits;
+          here = p .between .for-here;
+          dst-fits = p .between .dst-fits;
           wide = wide;
           big = big;
         }
@@ -270,25 +270,6 @@ module _ (sender : Receiver) (setup : Setup) (q : Request) (words : Words) (buf 
     read-one : q .network ≡ headerAs sender q words .key → handed (step (start setup) (Hear (pduOf (keyAt (node .keys) (q .network)) h) fwd msg)) ≡ handUp s ∷ []
         → Read (madeOf (Said said))
     read-one e g = subst Read (sym (made-one (q .network) (sym e))) (record { hands = ap (λ (x : List Handed). x ∷ []) g; stores = tt {0} })
-
--- ---- a message that goes whole has the header of its speech
-module _ (sender : Receiver) (node : Node) (shared : Shared (sender .node) node) (q : Request) where
-  access-stamped :
-      (key : MessageKey) (payload : List ℕ) → access.accessAllowed sender q key false (length payload) ≡ true
-      → (let words = Access key false payload in
-      let s = saidBy sender q words in
-      stamped sender (q .element) (headerAs sender q words) ≡ wholeHeader s false (ttlOf (q .ttl)) (accessOctet false (akfOf key) (aidOf node key) ∷ octetsOf node s))
-  unfolding stamped access.wholeHeader access.wholePdu access.envelopeOf
-  access-stamped key payload a =
-      let c = key-same sender node shared q key (keys-allowed sender node shared q key false payload a) in
-      rw (octets-same sender node shared q key false payload a, c .akf-same, c .aid-same) refl
-
-  control-stamped :
-      (code : ℕ) (parameters : List ℕ)
-      → (let words = Control code parameters in
-      stamped sender (q .element) (headerAs sender q words) ≡ wholeHeader (saidBy sender q words) true (ttlOf (q .ttl)) (controlOctet false code ∷ parameters))
-  unfolding stamped control.wholeHeader
-  control-stamped code parameters = refl
 
 -- ---- the promise
 module _ (sender : Receiver) (setup : Setup) (q : Request) (buf fwd msg : List ℕ) (wide : 29 ≤ length fwd) (big : 384 ≤ length msg) where
@@ -302,9 +283,9 @@ module _ (sender : Receiver) (setup : Setup) (q : Request) (buf fwd msg : List �
       let words = Access key false payload in
       let node = nodeOf setup in
       let s = saidBy sender q words in
-      let e = access-stamped sender node (p .shared) q key payload a in
+      let e = access-stamped sender node (p .between .shared) q key payload a in
       let made = well sender setup q words buf fwd msg p wide big in
-      let read = access-read sender node (p .shared) q key false payload a (p .own-message-first) in
+      let read = access-read sender node (p .between .shared) q key false payload a (p .between .own-message-first) in
       let passing = passes sender setup q words buf fwd msg p wide big b refl refl refl refl a in
       read-one sender setup q words buf fwd msg p wide big b refl
       (rw e (access-whole setup s (ttlOf (q .ttl)) fwd msg made key payload refl read (leb-true (length payload) 11 w) (rw e at passing)))
@@ -314,7 +295,7 @@ module _ (sender : Receiver) (setup : Setup) (q : Request) (buf fwd msg : List �
       let s = saidBy sender q words in
       let passing = passes sender setup q words buf fwd msg p wide big b refl refl refl refl a in
       read-one sender setup q words buf fwd msg p wide big b refl
-      (control-whole setup s (ttlOf (q .ttl)) fwd msg code parameters refl (opcode-range sender node (p .shared) q code parameters a)
+      (control-whole setup s (ttlOf (q .ttl)) fwd msg code parameters refl (opcode-range sender node (p .between .shared) q code parameters a)
       (leb-true (length parameters) 11 w) passing)
 
   read-way :

@@ -26,7 +26,7 @@ use Rattle.transport.specs.declared.securing.MessageKey.the-variants.{Applicati
 use Rattle.transport.specs.Ranges.{OpcodeInRange}
 use Rattle.transport.specs.SecureOpen as message
 use Rattle.transport.specs.Securing.{transMic, secured, applicationKeyAt, fitsKey}
-use Rattle.transport.specs.Segment.{segmentFront, fullOctets}
+use Rattle.transport.specs.Segment.{accessOctet, controlOctet, segmentFront, fullOctets}
 use Rattle.transport.proofs.SecureOpen.{secured-length}
 use Rattle.memory.specs.declared.outgoing.Outgoing.{Outgoing}
 use Rattle.node.specs.declared.addresses.Node.{Node}
@@ -43,8 +43,9 @@ use Rattle.sending.specs.Segment as segment
 use Rattle.sending.specs.Transmission.{sendingIv, addressOf, nextSeq, stamped}
 use Rattle.demands.specs.ReadBack.{saidBy, Shared, OwnMessageFirst}
 use Rattle.demands.specs.Speech.{Words, Access, Control, Speech, isControl, szmicOf, keyOf, aidOf, akfOf, firstOf, envelopeOf, cutOf, octetsOf, sizeOf, lastOf, segmentOf, headerOf, Fits, WordsRead, Speakable}
-use Rattle.demands.proofs.SentLaws.{allowedAs, wholeAs, keptAs}
+use Rattle.demands.proofs.SentLaws.{allowedAs, wholeAs, headerAs, keptAs}
 use Rattle.demands.proofs.SpeechLaws.{taken-back, termsOf}
+use Rattle.demands.proofs.WholeSent.{wholeHeader}
 
 module _ (sender : Receiver) (node : Node) (shared : Shared (sender .node) node) (q : Request) where
   -- ---- the keys are the same
@@ -160,7 +161,7 @@ module _ (sender : Receiver) (node : Node) (shared : Shared (sender .node) node)
         leb-true (length parameters) 256 (and-first (leb (length parameters) 256) _ b)
 
   -- ---- the speech is one that the receiver is to read
-  request-of : (words : Words) → allowedAs sender q words ≡ true → requestAllowed (sender .node) q ≡ true
+  pub request-of : (words : Words) → allowedAs sender q words ≡ true → requestAllowed (sender .node) q ≡ true
   request-of (Access key szmic payload) a = asked key szmic payload a
   request-of (Control code parameters) a = asked-control code parameters a
 
@@ -227,3 +228,21 @@ module _ (sender : Receiver) (node : Node) (shared : Shared (sender .node) node)
     pub header-said : stamped r element (segment.segmentHeader o n) ≡ headerOf node s n (nextSeq r element) (ttlOf (q .ttl))
     unfolding stamped segment.segmentHeader headerOf
     header-said = rw (pdu-said, c .terms-is, c .auth-is, c .ttl-is, address) refl
+
+  -- ---- a message that goes whole has the header of its speech
+  pub access-stamped :
+      (key : MessageKey) (payload : List ℕ) → access.accessAllowed sender q key false (length payload) ≡ true
+      → (let words = Access key false payload in
+      let s = saidBy sender q words in
+      stamped sender (q .element) (headerAs sender q words) ≡ wholeHeader s false (ttlOf (q .ttl)) (accessOctet false (akfOf key) (aidOf node key) ∷ octetsOf node s))
+  unfolding stamped access.wholeHeader access.wholePdu access.envelopeOf
+  access-stamped key payload a =
+      let c = key-same key (keys-allowed key false payload a) in
+      rw (octets-same key false payload a, c .akf-same, c .aid-same) refl
+
+  pub control-stamped :
+      (code : ℕ) (parameters : List ℕ)
+      → (let words = Control code parameters in
+      stamped sender (q .element) (headerAs sender q words) ≡ wholeHeader (saidBy sender q words) true (ttlOf (q .ttl)) (controlOctet false code ∷ parameters))
+  unfolding stamped control.wholeHeader
+  control-stamped code parameters = refl

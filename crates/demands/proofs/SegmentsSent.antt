@@ -122,7 +122,7 @@ module _ (sender : Receiver) (made-node : WellMade (sender .node)) (node : Node)
     pub pdu : pduMade out ≡ pduAt n
     pub keeps : Keeps (left out) (suc n)
 
-  said-at : (r : Receiver) (n : ℕ) → Keeps r n → (buf : List ℕ) → made (step r (SendSegment n buf)) ≡ true → SaidAt r n (step r (SendSegment n buf))
+  pub said-at : (r : Receiver) (n : ℕ) → Keeps r n → (buf : List ℕ) → made (step r (SendSegment n buf)) ≡ true → SaidAt r n (step r (SendSegment n buf))
   said-at r n k buf m =
       let b = segment-said r n k buf m in
       record {

@@ -85,7 +85,7 @@ unfolding k4
 aid-low key = omega arith
 
 -- NID has 7
-nid-low : (key : List ℕ) → k2 key .nid ≤ 127
+pub nid-low : (key : List ℕ) → k2 key .nid ≤ 127
 unfolding k2
 nid-low key = omega arith
 
@@ -121,7 +121,7 @@ for-kind node made a f =
     (λ u. by-test (eqb a 0xFFFE) (λ v. rw (eqb-true a 0xFFFE v) refl)
     (λ v. listened-group node made a (rw (t, u, v) at f)))))
 
-for-allowed : (ctl : Bool) (node : Node) → WellMade node → (a : ℕ) → forNode node a ≡ true → destinationKind ctl (kindOf a) ≡ true
+pub for-allowed : (ctl : Bool) (node : Node) → WellMade node → (a : ℕ) → forNode node a ≡ true → destinationKind ctl (kindOf a) ≡ true
 unfolding isUnicast
 for-allowed ctl node made a f =
     ⊎-elim

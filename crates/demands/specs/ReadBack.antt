@@ -3,12 +3,13 @@
 --   sayCall q words buf         the call that sends a message
 --   sentInFull sender q words buf   that call, and one for each segment behind the first
 --   Shared                      the same keys and IV Index
---   Sending                     the premises
+--   Between, Sending            the premises
 --   ReadBack                    the promise
+--   GoesOut                     a request that is accepted is sent in full
 use mathlib.Core.Bool.{Bool, true, false}
 use mathlib.Core.List.{List, [], _∷_, map}
 use mathlib.Core.Path.{_≡_}
-use Prim.Native.Nat.{ℕ, zero, suc, _≤_, _<_}
+use Prim.Native.Nat.{ℕ, zero, suc, _+_, _≤_, _<_}
 use lib.ListN.{length, take}
 use Rattle.common.specs.Lists.{tabFrom}
 use Rattle.network.specs.Candidates.{keyAt, opens}
@@ -25,6 +26,8 @@ use Rattle.receiver.specs.Good.{Good}
 use Rattle.sending.specs.declared.answer.Answer.{Answer}
 use Rattle.sending.specs.declared.answer.Answer.the-variants.{Sent, Started, Refused}
 use Rattle.sending.specs.declared.request.Request.{Request}
+use Rattle.sending.specs.Access.{accessAllowed}
+use Rattle.sending.specs.Control.{controlAllowed}
 use Rattle.sending.specs.Transmission.{sendingIv, addressOf, nextSeq}
 use Rattle.demands.specs.Call.{Call, Hear, SendAccess, SendControl, SendSegment, Outcome, Said, Ended, step, run}
 use Rattle.demands.specs.Call as call
@@ -97,18 +100,21 @@ OwnMessageFirst node s (Access (Application i) szmic payload) =
 OwnMessageFirst node s (Access Device szmic payload) = Unit {0}
 OwnMessageFirst node s (Control opcode parameters) = Unit {0}
 
-pub record Sending (sender : Receiver) (setup : Setup) (q : Request) (words : Words) (buf : List ℕ) : Type 0 where
-  -- the sender was set up, and used since; the receiver is fresh
+-- a sender that was set up, and used since; a fresh receiver that a message of its is for
+pub record Between (sender : Receiver) (setup : Setup) (q : Request) (words : Words) : Type 0 where
   pub good : Good sender
   pub ready : settingUp setup .answer ≡ Ready
   pub shared : Shared (sender .node) (nodeOf setup)
-  -- each call made a PDU: the message was sent in full
-  pub sent : Each (λ o. made o ≡ true) (outcomes sender q words buf)
   -- DST, of 16 bits, is for the receiver
   pub for-here : forNode (nodeOf setup) (q .dst) ≡ true
   pub dst-fits : q .dst < 65536
-  pub own-key-first : Each (OwnKeyFirst (nodeOf setup) (saidBy sender q words)) (pdus sender q words buf)
   pub own-message-first : OwnMessageFirst (nodeOf setup) (saidBy sender q words) words
+
+pub record Sending (sender : Receiver) (setup : Setup) (q : Request) (words : Words) (buf : List ℕ) : Type 0 where
+  pub between : Between sender setup q words
+  -- each call made a PDU: the message was sent in full
+  pub sent : Each (λ o. made o ≡ true) (outcomes sender q words buf)
+  pub own-key-first : Each (OwnKeyFirst (nodeOf setup) (saidBy sender q words)) (pdus sender q words buf)
 
 -- ---- the promise
 -- every PDU but the last is stored and hands up nothing, and the last hands up the message
@@ -136,3 +142,16 @@ ReadBack =
     -- the receiver's buffers are not refused 16
     → 29 ≤ length fwd → 384 ≤ length msg
     → Heard setup (saidBy sender q words) fwd msg (pdus sender q words buf)
+
+-- ---- what sending accepts goes out in full
+-- the request is within the rules
+abbrev pub accepted : Receiver → Request → Words → Bool
+accepted sender q (Access key szmic payload) = accessAllowed sender q key szmic (length payload)
+accepted sender q (Control opcode parameters) = controlAllowed sender q opcode (length parameters)
+
+-- with a buffer that is not refused 16, and enough sequence numbers for 32 segments
+abbrev pub GoesOut : Type 0
+GoesOut =
+    (sender : Receiver) (setup : Setup) (q : Request) (words : Words) (buf : List ℕ)
+    → Between sender setup q words → accepted sender q words ≡ true → 29 ≤ length buf → nextSeq sender (q .element) + 31 ≤ 0xFFFFFF
+    → Each (λ o. made o ≡ true) (outcomes sender q words buf)

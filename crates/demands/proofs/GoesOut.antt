@@ -1,0 +1,319 @@
+-- What sending accepts goes out in full. A request that is allowed names an element with a unicast address, a network key whose NID has 7 bits, a TTL and a DST that may be sent with, and a message whose
+-- transport PDUs have their length; so sealing refuses none, and with SEQs left and a buffer each call makes its PDU. Segments are sent one after another, none of them heard
+-- yet, and well within 8,191 numbers. Assumes nothing.
+use mathlib.Core.Bool.{Bool, true, false, _&&_, _||_, not, false≢true}
+use mathlib.Core.List.{List, [], _∷_, map}
+use mathlib.Core.Path.{_≡_, refl, sym, ap, _∙_, subst}
+use Prim.Native.Nat.{ℕ, zero, suc, _+_, _-_, _%_, _≤_, _<_, min}
+use native.Mathlib.Omega.{arith}
+use borrow.Author.Tests.{ne-eqb, le-leb, leb-true, lt-ltb, le-ltb}
+use lib.Dec.{eqb, leb, ltb}
+use lib.ListN.{length, length-set}
+use lib.Seq.{getD-set-same}
+use Rattle.common.specs.Bits.{hasBit}
+use Rattle.common.specs.Choice.{if_then_else_}
+use Rattle.common.specs.Lent.{Lent, lent}
+use Rattle.common.specs.Lists.{tabFrom}
+use Rattle.common.proofs.BitLaws.{has-none}
+use Rattle.common.proofs.Tests.{by-test, and-first, and-second}
+use Rattle.network.specs.declared.header.Header.{Header}
+use Rattle.network.specs.declared.sealing.Answer as sealing-answer
+use Rattle.network.specs.Address.{kindOf, isUnicast, addressesAllowed}
+use Rattle.network.specs.Candidates.{keyAt}
+use Rattle.network.specs.Pdu.{pduOf}
+use Rattle.network.specs.Sealing.{mostTransport, sealable, sealing}
+use Rattle.network.proofs.AddressLaws.{unicast-range}
+use Rattle.transport.specs.declared.securing.MessageKey.{MessageKey}
+use Rattle.transport.specs.Segment.{accessOctet, controlOctet}
+use Rattle.transport.proofs.SecureOpen.{secured-length}
+use Rattle.keys.specs.declared.NetworkKeys.{NetworkKeys}
+use Rattle.memory.specs.declared.outgoing.Outgoing.{Outgoing}
+use Rattle.memory.specs.declared.pair.Pair.{Pair}
+use Rattle.memory.specs.declared.session.Terms.{Terms}
+use Rattle.node.specs.declared.addresses.Node.{Node}
+use Rattle.node.specs.declared.setup.Setup.{Setup}
+use Rattle.node.specs.Made.{WellMade}
+use Rattle.receiver.specs.declared.state.Receiver.{Receiver}
+use Rattle.receiver.proofs.Good.{good-fresh}
+use Rattle.sending.specs.declared.answer.Answer.{Answer}
+use Rattle.sending.specs.declared.answer.Spoken.{Spoken}
+use Rattle.sending.specs.declared.request.Request.{Request}
+use Rattle.sending.specs.declared.request.Ttl.{Ttl}
+use Rattle.sending.specs.declared.request.Ttl.the-variants.{Unnamed, Named}
+use Rattle.sending.specs.declared.transmission.Transmission.{Transmission}
+use Rattle.sending.specs.declared.transmission.Transmission.the-variants.{Sent}
+use Rattle.sending.specs.Access as access
+use Rattle.sending.specs.Answer.{spokenAs, spoken}
+use Rattle.sending.specs.Control as control
+use Rattle.sending.specs.Request.{ttlOf, ttlAllowed, sendableKind, requestAllowed}
+use Rattle.sending.specs.Segment.{segmentHeader, startedAs, starting, elementOf, segmentAllowed, sendingSegment}
+use Rattle.sending.specs.Transmission.{addressOf, nextSeq, withNext, stamped, sentAs, transmitted}
+use Rattle.demands.specs.Call.{Call, SendSegment, Outcome, Said, step, left, run}
+use Rattle.demands.specs.Interleaved.{nodeOf, Each}
+use Rattle.demands.specs.NeverTwice.{madeBy, made}
+use Rattle.demands.specs.ReadBack.{sayCall, restOf, outcomes, saidBy, Shared, Between, accepted, GoesOut}
+use Rattle.demands.specs.Speech.{Words, Access, Control, Speech, keyOf, envelopeOf, akfOf, aidOf, octetsOf, lastOf, headerOf, Speakable}
+use Rattle.demands.proofs.SaidLaws.{access-stamped, control-stamped, Kept, kept, header-said, request-of, words-of, near, held, element-there, parameters-most}
+use Rattle.demands.proofs.SceneLaws.{unicast-some}
+use Rattle.demands.proofs.SegmentsSent.{element-back, Keeps, said-at}
+use Rattle.demands.proofs.SentLaws.{allowedAs, wholeAs, headerAs, keptAs, sendingAs, SaidBy, said-by, StartedBy, started-by}
+use Rattle.demands.proofs.SpeechLaws.{nid-low, for-allowed, last-low, segment-sealable, cut-is}
+use Rattle.demands.proofs.Walks.{saying}
+use Rattle.demands.proofs.WholeSent.{wholeHeader}
+
+-- ---- a transmission that sealing does not refuse is sent
+module _ (r : Receiver) (element : ℕ) (h : Header) (buf : List ℕ) (left-seq : nextSeq r element ≤ 0xFFFFFF) (key : h .key < 4) (wide : 29 ≤ length buf)
+    (can : sealable (keyAt (r .node .keys) (h .key)) (stamped r element h) ≡ true) where
+  sent : transmitted r element h buf .answer .answer ≡ Sent (length (pduOf (keyAt (r .node .keys) (h .key)) (stamped r element h)))
+  unfolding transmitted sealing sentAs
+  sent = rw (le-ltb 0xFFFFFF (nextSeq r element) left-seq, lt-ltb (h .key) 4 key, le-ltb (length buf) 29 wide, can) refl
+
+  saying-made : madeBy (saying r element h buf .answer .answer) ≡ true
+  unfolding spoken
+  saying-made = rw sent refl
+
+  started-made : (o : Outgoing) → madeBy (startedAs (transmitted r element h buf .answer .answer) (transmitted r element h buf .answer .receiver) o .answer) ≡ true
+  started-made o = rw sent refl
+
+-- a message that is kept is not heard yet
+kept-unheard : (sender : Receiver) (q : Request) (words : Words) → keptAs sender q words .heard ≡ 0
+unfolding access.outgoingOf control.outgoingOf
+kept-unheard sender q (Access key szmic payload) = refl
+kept-unheard sender q (Control code parameters) = refl
+
+-- ---- the numbers of a request
+ttl-low : (t : Ttl) → ttlAllowed t ≡ true → ttlOf t ≤ 127
+ttl-low Unnamed e = omega arith
+ttl-low (Named n) e = leb-true n 127 (and-second (not (eqb n 1)) (leb n 127) e)
+
+module _ (sender : Receiver) (setup : Setup) (q : Request) (words : Words) (buf : List ℕ) (b : Between sender setup q words)
+    (a : allowedAs sender q words ≡ true) (wide : 29 ≤ length buf) (enough : nextSeq sender (q .element) + 31 ≤ 0xFFFFFF) where
+  abbrev node : Node
+  node = nodeOf setup
+
+  abbrev s : Speech
+  s = saidBy sender q words
+
+  abbrev ttl : ℕ
+  ttl = ttlOf (q .ttl)
+
+  abbrev own : WellMade (sender .node)
+  own = b .good .node-made
+
+  well : WellMade node
+  well = good-fresh setup (b .ready) .node-made
+
+  there : q .element < min (sender .node .elements) 8
+  there = element-there sender node (b .shared) q words a
+
+  ttl-fits : ttl ≤ 127
+  unfolding requestAllowed
+  ttl-fits =
+      let c = request-of sender node (b .shared) q words a in
+      ttl-low (q .ttl) (and-second (sendableKind (kindOf (q .dst))) _ (and-second (ltb (q .network) (min (sender .node .networks) 4)) _ (and-second (ltb (q .element) (min (sender .node .elements) 8)) _ c)))
+
+  -- the element's address is unicast
+  from-unicast : isUnicast (s .src) ≡ true
+  unfolding addressOf
+  from-unicast =
+      let f = own .first-least in
+      let l = own .last-most in
+      let h = there in
+      unicast-range (s .src) (omega arith) (omega arith)
+
+  nid-fits : keyAt (node .keys) (q .network) .nid ≤ 127
+  nid-fits = let n = held sender node (b .shared) q words a in rw (well .derived (q .network) (omega arith)) (nid-low _)
+
+  key-low : q .network < 4
+  key-low = let n = held sender node (b .shared) q words a in omega arith
+
+  -- ---- whole
+  whole-can :
+      (ctl : Bool) (pdu : List ℕ) → 1 ≤ length pdu → length pdu ≤ mostTransport ctl → sealable (keyAt (node .keys) (q .network)) (wholeHeader s ctl ttl pdu) ≡ true
+  unfolding sealable addressesAllowed
+  whole-can ctl pdu some most =
+      rw (
+        le-leb (keyAt (node .keys) (q .network) .nid) 127 nid-fits,
+        le-leb ttl 127 ttl-fits,
+        le-leb (nextSeq sender (q .element)) 0xFFFFFF (omega arith),
+        from-unicast,
+        for-allowed ctl node well (q .dst) (b .for-here),
+        le-leb 1 (length pdu) some,
+        le-leb (length pdu) (mostTransport ctl) most,
+      ) refl
+
+  whole-made :
+      (h : Header) (ctl : Bool) (pdu : List ℕ) → h .key ≡ q .network → stamped sender (q .element) h ≡ wholeHeader s ctl ttl pdu → 1 ≤ length pdu
+      → length pdu ≤ mostTransport ctl → madeBy (saying sender (q .element) h buf .answer .answer) ≡ true
+  whole-made h ctl pdu ek e some most =
+      let k = key-low in
+      let own-header = subst (λ (x : Header). sealable (keyAt (node .keys) (q .network)) x ≡ true) (sym e) (whole-can ctl pdu some most) in
+      let own-key = subst (λ (n : ℕ). sealable (keyAt (node .keys) n) (stamped sender (q .element) h) ≡ true) (sym ek) own-header in
+      saying-made sender (q .element) h buf (omega arith) (omega arith) wide
+      (subst (λ (x : List NetworkKeys). sealable (keyAt x (h .key)) (stamped sender (q .element) h) ≡ true) (sym (b .shared .keys-same)) own-key)
+
+  -- ---- in segments
+  module _ (w : wholeAs sender q words ≡ false) where
+    abbrev o : Outgoing
+    o = keptAs sender q words
+
+    abbrev first : ℕ
+    first = nextSeq sender (q .element)
+
+    keeping : Kept sender node (b .shared) q s o
+    keeping = kept sender node (b .shared) q words a
+
+    speaks : Speakable node s
+    speaks =
+        record {
+          from-unicast = from-unicast;
+          for-here = b .for-here;
+          dst-fits = b .dst-fits;
+          held = held sender node (b .shared) q words a;
+          near = near sender node (b .shared) q own;
+          words-read = words-of sender node (b .shared) q words a w (b .own-message-first);
+        }
+
+    -- what stands before segment n makes it
+    segment-can :
+        (r : Receiver) (n : ℕ) → r .node ≡ sender .node → nextSeq r (q .element) ≡ first + n → n ≤ lastOf node s
+        → sealable (keyAt (r .node .keys) (segmentHeader o n .key)) (stamped r (q .element) (segmentHeader o n)) ≡ true
+    unfolding segmentHeader
+    segment-can r n en es h =
+        let low = last-low node s speaks in
+        let e = header-said sender node (b .shared) q s o keeping r (q .element) n (ap (λ (x : Node). addressOf x (q .element)) en) in
+        let k : keyAt (r .node .keys) (o .terms .key) ≡ keyAt (node .keys) (s .network) =
+        ap (λ (x : Terms). keyAt (r .node .keys) (x .key)) (keeping .terms-is) ∙ ap (λ (x : Node). keyAt (x .keys) (q .network)) en
+        ∙ ap (λ (x : List NetworkKeys). keyAt x (q .network)) (b .shared .keys-same) in
+        let can = segment-sealable node s speaks n h (nextSeq r (q .element)) ttl well (omega arith) ttl-fits in
+        subst (λ (x : NetworkKeys). sealable x (stamped r (q .element) (segmentHeader o n)) ≡ true) (sym k)
+        (subst (λ (x : Header). sealable (keyAt (node .keys) (q .network)) x ≡ true) (sym e) can)
+
+    segment-key : (n : ℕ) → segmentHeader o n .key < 4
+    unfolding segmentHeader
+    segment-key n = subst (λ (x : Terms). x .key < 4) (sym (keeping .terms-is)) key-low
+
+    -- nothing of it has been heard
+    heard-none : o .heard ≡ 0
+    heard-none = kept-unheard sender q words
+
+    start-made : madeBy (starting sender (q .element) o buf .answer .answer) ≡ true
+    unfolding starting
+    start-made =
+        started-made sender (q .element) (segmentHeader o 0) buf (omega arith) (segment-key 0) wide (segment-can sender 0 refl (omega arith) (omega arith)) o
+
+    abbrev At : Receiver → ℕ → Type 0
+    At r n = Keeps sender own node (b .shared) q there s refl o keeping first r n
+
+    segment-fine : (r : Receiver) (n : ℕ) → At r n → n ≤ lastOf node s → segmentAllowed r (q .element) n ≡ true
+    unfolding segmentAllowed
+    segment-fine r n k h =
+        let low = last-low node s speaks in
+        let z : r .out .src ≡ 0 → ⊥ =
+        λ x. unicast-some (s .src) from-unicast (sym (keeping .src-is) ∙ sym (ap (λ (x : Outgoing). x .src) (k .out-is)) ∙ x) in
+        let last : r .out .terms .segn ≡ lastOf node s = ap (λ (x : Outgoing). x .terms .segn) (k .out-is) ∙ ap (λ (x : Terms). x .segn) (keeping .terms-is) in
+        let heard : r .out .heard ≡ 0 = ap (λ (x : Outgoing). x .heard) (k .out-is) ∙ heard-none in
+        let auth : r .out .auth .seq ≡ first = ap (λ (x : Outgoing). x .auth .seq) (k .out-is) ∙ ap (λ (x : Pair). x .seq) (keeping .auth-is) in
+        let next = k .next-is in
+        rw (
+          ne-eqb (r .out .src) 0 z,
+          le-leb n (r .out .terms .segn) (omega arith),
+          le-leb n 31 (omega arith),
+          heard,
+          has-none n,
+          le-leb (nextSeq r (q .element)) (r .out .auth .seq + 8191) (omega arith),
+        ) refl
+
+    segment-made : (r : Receiver) (n : ℕ) → At r n → n ≤ lastOf node s → madeBy (sendingSegment r n buf .answer .answer) ≡ true
+    unfolding sendingSegment
+    segment-made r n k h =
+        let low = last-low node s speaks in
+        let src : r .out .src ≡ addressOf (sender .node) (q .element) = ap (λ (x : Outgoing). x .src) (k .out-is) ∙ keeping .src-is in
+        let e : elementOf (r .node) (r .out .src) ≡ q .element =
+        ap (λ (x : Node). elementOf x (r .out .src)) (k .node-is) ∙ ap (elementOf (sender .node)) src ∙ element-back (sender .node) own (q .element) there in
+        let t = there in
+        let next = k .next-is in
+        let said = saying-made r (q .element) (segmentHeader o n) buf (omega arith) (segment-key n) wide (segment-can r n (k .node-is) next h) in
+        rw (e, le-ltb (length buf) 29 wide, lt-ltb (q .element) 8 (omega arith), segment-fine r n k h)
+        (subst (λ (x : Outgoing). madeBy (saying r (q .element) (segmentHeader x n) buf .answer .answer) ≡ true) (sym (k .out-is)) said)
+
+    -- segment n and those behind it
+    rest-made : (m n : ℕ) (r : Receiver) → At r n → n + m ≡ lastOf node s + 1 → Each (λ x. made x ≡ true) (run r (tabFrom (λ j. SendSegment j buf) n m))
+    rest-made zero n r k e = tt {0}
+    rest-made (suc m) n r k e =
+        let here = segment-made r n k (omega arith) in
+        let next = said-at sender own node (b .shared) q there s refl o keeping first r n k buf here .keeps in
+        (here, rest-made m (suc n) (left (step r (SendSegment n buf))) next (omega arith))
+
+    begun-all :
+        (x : Lent Spoken) → StartedBy sender (q .element) o x → madeBy (x .answer .answer) ≡ true
+        → Each (λ y. made y ≡ true) (Said x ∷ run (x .answer .receiver) (restOf (Said x) buf))
+    unfolding withNext
+    begun-all x g m =
+        let places = b .good .next-well .places in
+        let t = there in
+        let last : o .terms .segn ≡ lastOf node s = ap (λ (x : Terms). x .segn) (keeping .terms-is) in
+        let one : At (x .answer .receiver) 1 =
+        rw (g .leaves)
+        (record {
+          out-is = refl;
+          node-is = refl;
+          next-is = getD-set-same (sender .next) (q .element) (first + 1) 0 (omega arith);
+          places = length-set (sender .next) (q .element) (first + 1) ∙ places;
+        }) in
+        (m, rw (g .says, last) (rest-made (lastOf node s) 1 (x .answer .receiver) one (omega arith)))
+
+-- ---- each way
+module _ (sender : Receiver) (setup : Setup) (q : Request) (buf : List ℕ) (wide : 29 ≤ length buf) (enough : nextSeq sender (q .element) + 31 ≤ 0xFFFFFF) where
+  abbrev All : Outcome → Type 0
+  All o = Each (λ x. made x ≡ true) (o ∷ run (left o) (restOf o buf))
+
+  said-all : (r : Receiver) (element : ℕ) (h : Header) → madeBy (saying r element h buf .answer .answer) ≡ true → All (Said (saying r element h buf))
+  said-all r element h m = let g = said-by r element buf h m in (m, rw (g .says) (tt {0}))
+
+  control-key : (code : ℕ) (parameters : List ℕ) → headerAs sender q (Control code parameters) .key ≡ q .network
+  unfolding control.wholeHeader
+  control-key code parameters = refl
+
+  -- a whole access message has 6 to 16 octets, and a TransMIC of 4
+  access-goes :
+      (key : MessageKey) (szmic : Bool) (payload : List ℕ) → Between sender setup q (Access key szmic payload)
+      → access.accessAllowed sender q key szmic (length payload) ≡ true → access.isWhole szmic (length payload) ≡ true
+      → madeBy (saying sender (q .element) (headerAs sender q (Access key szmic payload)) buf .answer .answer) ≡ true
+  unfolding access.isWhole access.wholeHeader
+  access-goes key true payload b a w = absurd (false≢true w)
+  access-goes key false payload b a w =
+      let words = Access key false payload in
+      let node = nodeOf setup in
+      let s = saidBy sender q words in
+      let short = leb-true (length payload) 11 w in
+      let l : length (octetsOf node s) ≡ length payload + 4 =
+      rw (cut-is node s words refl) (secured-length (keyOf node key) (envelopeOf node s key false) payload) in
+      whole-made sender setup q words buf b a wide enough (headerAs sender q words) false (accessOctet false (akfOf key) (aidOf node key) ∷ octetsOf node s) refl
+      (access-stamped sender node (b .shared) q key payload a) (omega arith) (omega arith)
+
+  goes : (words : Words) → Between sender setup q words → accepted sender q words ≡ true → All (Said (sendingAs sender q words buf))
+  unfolding access.sendingAccess access.sayingAccess control.sendingControl control.sayingControl
+  goes (Access key szmic payload) b a =
+      by-test (access.isWhole szmic (length payload))
+      (λ w. rw (le-ltb (length buf) 29 wide, a, w) (said-all sender (q .element) (headerAs sender q (Access key szmic payload)) (access-goes key szmic payload b a w)))
+      (λ w.
+      let m = start-made sender setup q (Access key szmic payload) buf b a wide enough w in
+      rw (le-ltb (length buf) 29 wide, a, w)
+      (begun-all sender setup q (Access key szmic payload) buf b a wide enough w _ (started-by sender (q .element) buf _ m) m))
+  goes (Control code parameters) b a =
+      by-test (leb (length parameters) 11)
+      (λ w.
+      let short = leb-true (length parameters) 11 w in
+      rw (le-ltb (length buf) 29 wide, a, w)
+      (said-all sender (q .element) (headerAs sender q (Control code parameters))
+      (whole-made sender setup q (Control code parameters) buf b a wide enough (headerAs sender q (Control code parameters)) true
+      (controlOctet false code ∷ parameters) (control-key code parameters) (control-stamped sender (nodeOf setup) (b .shared) q code parameters) (omega arith) (omega arith))))
+      (λ w.
+      let m = start-made sender setup q (Control code parameters) buf b a wide enough w in
+      rw (le-ltb (length buf) 29 wide, a, w)
+      (begun-all sender setup q (Control code parameters) buf b a wide enough w _ (started-by sender (q .element) buf _ m) m))
+
+pub goes-out : GoesOut
+goes-out sender setup q (Access key szmic payload) buf b a wide enough = goes sender setup q buf wide enough (Access key szmic payload) b a
+goes-out sender setup q (Control code parameters) buf b a wide enough = goes sender setup q buf wide enough (Control code parameters) b a
