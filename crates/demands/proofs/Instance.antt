@@ -20,15 +20,21 @@ use Rattle.transport.specs.LeadsBack.{SegmentOf}
 use Rattle.transport.specs.Securing.{applicationKeyAt}
 use Rattle.transport.proofs.SecureOpen.{secured-length}
 use Rattle.node.specs.Addresses.{isLocal, forNode}
-use Rattle.node.specs.Setup.{boundWithin, keysValid, nextWithin, elementsValid, groupsValid, indexValid, valid, secretAt, nodeOf, making}
+use Rattle.node.specs.Setup.{boundWithin, keysValid, nextWithin, elementsValid, groupsValid, indexValid, valid, givenAt, keysAt, secretAt, nextAt, nodeOf, nextOf, making}
 use Rattle.node.specs.declared.addresses.Node.{Node}
 use Rattle.receiver.specs.declared.fresh.Answer.the-variants.{Ready}
 use Rattle.receiver.specs.Fresh.{settingUp}
-use Rattle.demands.specs.Instance.{shed, humidity, temperature, boxes, arrival, traffic, SceneMet}
+use Rattle.demands.specs.Instance.{shed, humidity, temperature, boxes, arrival, traffic, SceneMet, bench, toShed, report, SendingMet}
+use Rattle.receiver.proofs.Good.{good-fresh}
+use Rattle.sending.specs.Access.{isWhole, sizeAllowed, accessAllowed}
+use Rattle.sending.specs.Request.{requestAllowed}
+use Rattle.sending.specs.Transmission.{nextSeq}
 use Rattle.demands.specs.Interleaved as scene
-use Rattle.demands.specs.Interleaved.{Event, Segment, Foreign, Ask, Spent, speechAt, Sent, Comes, Arrives, Scene, AllCome}
+use Rattle.demands.specs.Interleaved.{Event, Segment, Foreign, Ask, start, Each, Spent, speechAt, Sent, Comes, Arrives, Scene, AllCome}
+use Rattle.demands.specs.ReadBack.{pdus, saidBy, Shared, OwnKeyFirst, Between, accepted}
 use Rattle.demands.specs.Refusal.{noKeyOpens}
 use Rattle.demands.specs.Speech.{Access, Control, Speech, keyOf, envelopeOf, octetsOf, sizeOf, lastOf, headerOf, Fits, Speakable}
+use Rattle.demands.proofs.GoesOut.{goes-out}
 use Rattle.demands.proofs.SpeechLaws.{cut-is}
 
 ready : settingUp shed .answer ≡ Ready
@@ -207,3 +213,45 @@ scene-met = (
   },
   all-come,
 )
+
+-- ---- demand 2
+bench-ready : settingUp bench .answer ≡ Ready
+unfolding settingUp making valid keysValid boundWithin elementsValid nextWithin groupsValid indexValid first kindOf
+bench-ready = refl
+
+-- the two nodes differ in their address alone
+same-keys : Shared (start bench .node) node
+unfolding settingUp making valid keysValid boundWithin elementsValid nextWithin groupsValid indexValid first kindOf nodeOf secretAt givenAt keysAt
+same-keys =
+    record { networks-same = refl; keys-same = refl; applications-same = refl; secrets-same = refl; device-same = refl; iv-same = refl }
+
+between : Between (start bench) shed toShed report
+between =
+    record {
+      good = good-fresh bench bench-ready;
+      ready = ready;
+      shared = same-keys;
+      for-here = holds .here;
+      dst-fits = omega arith;
+      own-message-first = λ msg j h. absurd (omega arith);
+    }
+
+request-accepted : accepted (start bench) toShed report ≡ true
+unfolding settingUp making valid keysValid boundWithin elementsValid nextWithin groupsValid indexValid first kindOf nodeOf secretAt accessAllowed requestAllowed sizeAllowed isWhole
+request-accepted = refl
+
+numbers-left : nextSeq (start bench) 0 + 31 ≤ 0xFFFFFF
+unfolding settingUp making valid keysValid boundWithin elementsValid nextWithin groupsValid indexValid first kindOf nextOf nextAt
+numbers-left = omega arith
+
+each-of-all : {A : Type 0} (P : A → Type 0) → ((x : A) → P x) → (l : List A) → Each P l
+each-of-all P f [] = tt {0}
+each-of-all P f (x ∷ l) = (f x, each-of-all P f l)
+
+pub sending-met : SendingMet
+sending-met =
+    record {
+      between = between;
+      sent = goes-out (start bench) shed toShed report (replicate 29 0) between request-accepted (omega arith) numbers-left;
+      own-key-first = each-of-all (OwnKeyFirst node (saidBy (start bench) toShed report)) (λ pdu j h. absurd (omega arith)) (pdus (start bench) toShed report (replicate 29 0));
+    }

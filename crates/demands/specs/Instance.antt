@@ -2,14 +2,18 @@
 --   shed                the receiver's setup: one network key, one application key, one element
 --   boxes, traffic      two boxes' messages, their segments interleaved, with repeats, a PDU that no key opens and a request to acknowledge
 --   SceneMet            all premises of demand 3 hold of it
+--   SendingMet          all premises of demand 2 hold of a box's report to the shed
 use mathlib.Core.Bool.{Bool, true, false}
 use mathlib.Core.List.{List, [], _∷_}
 use Prim.Native.Nat.{ℕ}
 use lib.ListN.{replicate}
 use Rattle.transport.specs.declared.securing.MessageKey.the-variants.{Application}
 use Rattle.node.specs.declared.setup.Setup.{Setup}
-use Rattle.demands.specs.Interleaved.{Event, Segment, Foreign, Ask, Arrival, Scene, AllCome}
-use Rattle.demands.specs.Speech.{Access, Control, Speech}
+use Rattle.sending.specs.declared.request.Request.{Request}
+use Rattle.sending.specs.declared.request.Ttl.the-variants.{Unnamed}
+use Rattle.demands.specs.Interleaved.{Event, Segment, Foreign, Ask, Arrival, start, Scene, AllCome}
+use Rattle.demands.specs.ReadBack.{Sending}
+use Rattle.demands.specs.Speech.{Words, Access, Control, Speech}
 
 abbrev pub networkKey : List ℕ
 networkKey = 0x7d ∷ 0xd7 ∷ 0x36 ∷ 0x4c ∷ 0xd8 ∷ 0x42 ∷ 0xad ∷ 0x18 ∷ 0xc1 ∷ 0x7c ∷ 0x2b ∷ 0x82 ∷ 0x0c ∷ 0x84 ∷ 0xc3 ∷ 0xd6 ∷ []
@@ -74,3 +78,17 @@ traffic =
 
 abbrev pub SceneMet : Type 0
 SceneMet = Scene shed boxes traffic × AllCome shed boxes traffic
+
+-- ---- demand 2
+-- a box on the bench sends 20 octets under the application key with a TransMIC of 8: three segments, and no TTL named
+abbrev pub bench : Setup
+bench = nodeAt 0x0002
+
+abbrev pub toShed : Request
+toShed = record { element = 0; dst = 0x0001; ttl = Unnamed; network = 0 }
+
+abbrev pub report : Words
+report = Access (Application 0) true (replicate 20 0x5a)
+
+abbrev pub SendingMet : Type 0
+SendingMet = Sending (start bench) shed toShed report (replicate 29 0)
