@@ -44,6 +44,7 @@ use Rattle.receiver.specs.Segmented as segments
 use Rattle.receiver.specs.State.{withCache}
 use Rattle.receiver.proofs.Good.{good-hear}
 use Rattle.receiver.proofs.GoodState.{good-cache}
+use Rattle.receiver.proofs.Laws.{fixed-heard, heard-again, Leaves, heard-new}
 use Rattle.sending.specs.declared.answer.Spoken.{Spoken}
 use Rattle.sending.specs.declared.transmission.Transmission.{Transmission}
 use Rattle.sending.specs.declared.transmission.Transmission.the-variants.{Sent, NoSeqLeft, Unsealed}
@@ -56,7 +57,6 @@ use Rattle.demands.specs.Interleaved as scene
 use Rattle.demands.specs.Interleaved.{Event, Segment, Foreign, Ask, Arrival, speechAt, callAs, callOf, comeWith, isLastMissing, Spent, Comes, Arrives, isStored, handedAs, handed}
 use Rattle.demands.specs.Refusal.{noKeyOpens}
 use Rattle.demands.specs.Speech.{Speech, lastOf, headerOf, segmentPdu, Speakable, Handed, handUp}
-use Rattle.demands.proofs.Hears.{fixed-heard}
 use Rattle.demands.proofs.Invariant.{good-step}
 use Rattle.demands.proofs.Refusal.{unopened-leaves}
 use Rattle.demands.proofs.SceneLaws.{seen-or-new, speakerOf, Scenery, unicast-some, entry-room, session-room}
@@ -224,23 +224,16 @@ module _ (node : Node) (speeches : List Speech) (spent : Spent) where
           rw (sc .same)
           (open-seal (node .keys) (node .networks) (node .iv) h can (formed node s w i (sent .segment-there) seq ttl) (sent .own-key-first))
 
-      heard-as : hearing r pdu fwd msg ≡ uncached r h trials fwd msg
-      unfolding hearing openedAs
-      heard-as = rw (le-ltb (length fwd) 29 wide, le-ltb (length msg) 384 big, opens) refl
-
-      taken-is : taken q h msg ≡ t
-      unfolding taken headerOf
+      taken-is : takenAs (formOf h) q h msg ≡ t
       taken-is =
-          let here : forNode (r .node) (s .dst) ≡ true = rw (sc .same) (w .for-here) in
-          rw here
-          (segment-taken node s w i (sent .segment-there) seq ttl made q msg ∙ segment-placed node s w i (sent .segment-there) seq ttl q msg (sent .in-time))
+          segment-taken node s w i (sent .segment-there) seq ttl made q msg ∙ segment-placed node s w i (sent .segment-there) seq ttl q msg (sent .in-time)
 
       -- the cache has it: its segment had come
       again : seen (r .cache) (s .src) seq ≡ true → Next r filled (Segment k i seq ttl) (Hear pdu fwd msg)
-      unfolding uncached headerOf
+      unfolding headerOf
       again e =
           let there : hasBit (filled k) i ≡ true = rw (sent .number-spent) (sc .seen-come k seq (sent .one-of) e) in
-          let o : hearing r pdu fwd msg ≡ outcome (refusedHeard r refusal.Cached trials) fwd msg = heard-as ∙ rw e refl in
+          let o = heard-again r pdu fwd msg wide big h trials opens e in
           let more : (j : ℕ) → comeWith j (filled j) (Segment k i seq ttl) ≡ filled j =
           λ j. by-test (eqb k j)
           (λ u. rw u (with-of-set (filled j) i (subst (λ (n : ℕ). hasBit (filled n) i ≡ true) (eqb-true k j u) there)))
@@ -261,19 +254,11 @@ module _ (node : Node) (speeches : List Speech) (spent : Spent) where
           (entry-room node speeches spent r filled sc few (s .src)) (session-room node speeches spent r filled sc few k (sent .one-of)) (sc .stages k (sent .one-of))
 
       -- what the call leaves is what placing it leaves
-      record Leaves : Type 0 where
-        answers : hearing r pdu fwd msg .heard .answer ≡ t .answer .answer
-        left-is : hearing r pdu fwd msg .heard .receiver ≡ t .answer .receiver
-        message-is : hearing r pdu fwd msg .message ≡ t .buffer
-
-      leaves : seen (r .cache) (s .src) seq ≡ false → Leaves
-      unfolding uncached passed headerOf
+      leaves : seen (r .cache) (s .src) seq ≡ false → Leaves r pdu fwd msg wide big h trials opens t
+      unfolding headerOf
       leaves e =
-          record {
-            answers = rw (heard-as, e) (ap (λ (x : Lent Taken). x .answer .answer) taken-is);
-            left-is = rw (heard-as, e) (ap (λ (x : Lent Taken). x .answer .receiver) taken-is);
-            message-is = rw (heard-as, e) (ap (λ (x : Lent Taken). x .buffer) taken-is);
-          }
+          let here : forNode (r .node) (s .dst) ≡ true = rw (sc .same) (w .for-here) in
+          heard-new r pdu fwd msg wide big h trials opens e here t taken-is
 
       -- each speech's stage behind it
       more-stages :

@@ -43,13 +43,9 @@ use Rattle.demands.specs.Interleaved.{Event, Segment, Foreign, Ask, Arri
 use Rattle.demands.specs.Speech.{Words, Access, Control, Speech, lastOf, Speakable, Handed, handUpAs, handUp}
 use Rattle.demands.proofs.ArrivalLaws.{dueOf, Next, event-next}
 use Rattle.demands.proofs.SceneLaws.{speakerOf, Scenery, begins, unicast-some}
-use Rattle.demands.proofs.SpeechLaws.{for-kind, last-low, sessionOf}
+use Rattle.demands.proofs.SpeechLaws.{or-true, for-kind, last-low, sessionOf}
 use Rattle.demands.proofs.StageLaws.{entryOf, Stage, Silent, Gathers, Done}
 use Rattle.demands.proofs.StepLaws.{past}
-
-or-true : (b : Bool) → b || true ≡ true
-or-true true = refl
-or-true false = refl
 
 or-false : (b : Bool) → b || false ≡ b
 or-false true = refl

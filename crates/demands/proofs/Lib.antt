@@ -5,7 +5,6 @@ pub mod Refusal
 pub mod Speaking
 pub mod Determinacy
 pub mod Invariant
-pub mod Hears
 pub mod NeverTwice
 pub mod Pigeonhole
 pub mod SpeechLaws

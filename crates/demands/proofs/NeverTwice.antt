@@ -28,6 +28,7 @@ use Rattle.receiver.specs.declared.state.Receiver.{Receiver}
 use Rattle.receiver.specs.GiveUp.{givingUp}
 use Rattle.receiver.specs.Good.{Good}
 use Rattle.receiver.specs.State.{withSession, withOutgoing}
+use Rattle.receiver.proofs.Laws.{fixed-heard}
 use Rattle.sending.specs.declared.answer.Answer.{Answer}
 use Rattle.sending.specs.declared.answer.Answer.the-variants as answer
 use Rattle.sending.specs.declared.answer.Spoken.{Spoken}
@@ -48,7 +49,6 @@ use Rattle.sending.proofs.NewSeq.{uses-next, raises-next, never-falls}
 use Rattle.demands.specs.Call.{Call, Hear, GiveUp, SendAccess, SendControl, SendSegment, Acknowledge, Stop, Outcome, Heard, Said, Ended, step, left}
 use Rattle.demands.specs.NeverTwice.{Use, speaker, madeBy, made, used, uses, lentFor, lengthBy, Carries, Carried, AllAbove, Rising, NoneEqual, Distinct, Rise, NeverTwice}
 use Rattle.demands.proofs.Invariant.{good-step}
-use Rattle.demands.proofs.Hears.{fixed-heard}
 use Rattle.demands.proofs.Walks.{saying, walk-access, walk-control, walk-segment, walk-acknowledge}
 
 -- ---- a call that sends

@@ -54,7 +54,7 @@ use Rattle.transport.specs.Securing.{transMic, secured, applicationKeyAt, appli
 use Rattle.transport.specs.Segment.{accessOctet, controlOctet, fullOctets, segmentFront}
 use Rattle.transport.specs.SeqAuth.{seqAuth}
 use Rattle.transport.proofs.LeadsBack.{leads-back}
-use Rattle.transport.proofs.ReadsBack.{access-segment-reads-back, control-segment-reads-back}
+use Rattle.transport.proofs.ReadsBack.{akf-access, aid-access, opcode-control, access-segment-reads-back, control-segment-reads-back}
 use Rattle.transport.proofs.SecureOpen.{secured-length, unsecure-secure, unsecure-secure-device}
 use Rattle.memory.specs.declared.session.Segment.{Segment}
 use Rattle.memory.specs.declared.session.Session.{Session}
@@ -89,7 +89,7 @@ pub nid-low : (key : List ℕ) → k2 key .nid ≤ 127
 unfolding k2
 nid-low key = omega arith
 
-or-true : (b : Bool) → b || true ≡ true
+pub or-true : (b : Bool) → b || true ≡ true
 or-true true = refl
 or-true false = refl
 
@@ -397,21 +397,6 @@ module _ (node : Node) (s : Speech) where
         segment-placed r msg t =
             rw (leads-back (s .auth .seq) seq t) (ap (λ (g : Segment). segments.placed r h g msg) segment-is)
 
--- ---- octet 0 gives AKF, AID and the opcode back
-akf-back : (k : Bool) (a : ℕ) → akf (accessOctet true k a) ≡ k
-unfolding accessOctet
-akf-back true a = le-leb 64 ((128 + 64 + a % 64) % 128) (omega arith)
-akf-back false a = lt-leb 64 ((128 + 0 + a % 64) % 128) (omega arith)
-
-aid-back : (k : Bool) (a : ℕ) → a < 64 → aid (accessOctet true k a) ≡ a
-unfolding accessOctet
-aid-back true a h = omega arith
-aid-back false a h = omega arith
-
-opcode-back : (o : ℕ) → o ≤ 0x7F → opcode (controlOctet true o) ≡ o
-unfolding controlOctet
-opcode-back o h = omega arith
-
 -- ---- the session of a speech
 -- with these places filled, so long, and these octets
 abbrev pub sessionOf : Node → Speech → (bits len : ℕ) → List ℕ → Session
@@ -436,7 +421,7 @@ module _ (node : Node) (made : WellMade node) (s : Speech) (w : Speakable node s
         (key : MessageKey) (szmic : Bool) (payload : List ℕ) → s .words ≡ Access key szmic payload → aidOf node key < 64
         → segments.sessionEnvelope session ≡ envelopeOf node s key szmic
     envelope-is key szmic payload e low =
-        rw (ap (firstOf node) e, ap szmicOf e, akf-back (akfOf key) (aidOf node key), aid-back (akfOf key) (aidOf node key) low) refl
+        rw (ap (firstOf node) e, ap szmicOf e, akf-access true (akfOf key) (aidOf node key), aid-access true (akfOf key) (aidOf node key) low) refl
 
     opened-up :
         (key : MessageKey) (szmic : Bool) (payload : List ℕ) (trials : ℕ) → s .words ≡ Access key szmic payload → aidOf node key < 64
@@ -455,7 +440,7 @@ module _ (node : Node) (made : WellMade node) (s : Speech) (w : Speakable node s
     up-as (Control code parameters) e q =
         record {
           trials = 0;
-          is = rw (ap isControl e, ap (firstOf node) e, opcode-back code (q .1 .opcode-fits), all, cut-is node s (Control code parameters) e, ap (handUpAs s) e) refl;
+          is = rw (ap isControl e, ap (firstOf node) e, opcode-control true code (q .1 .opcode-fits), all, cut-is node s (Control code parameters) e, ap (handUpAs s) e) refl;
         }
 
     pub session-up : Up msg

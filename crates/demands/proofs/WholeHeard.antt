@@ -51,9 +51,10 @@ use Rattle.receiver.specs.declared.answer.Taken.{Taken}
 use Rattle.receiver.specs.declared.state.Receiver.{Receiver}
 use Rattle.receiver.specs.declared.whole.Admission.the-variants.{Admitted}
 use Rattle.receiver.specs.Fresh.{settingUp}
-use Rattle.receiver.specs.Hearing.{Outcome, takenAs, taken, passed, uncached, openedAs, hearing}
+use Rattle.receiver.specs.Hearing.{takenAs}
 use Rattle.receiver.specs.State.{withCache}
 use Rattle.receiver.specs.Whole as whole
+use Rattle.receiver.proofs.Laws.{heard-new}
 use Rattle.demands.specs.Call.{Hear, step}
 use Rattle.demands.specs.Interleaved.{start, nodeOf, handedAs, handed}
 use Rattle.demands.proofs.SceneLaws.{seen-none}
@@ -84,16 +85,10 @@ module _ (setup : Setup) (h : Header) (sealed : sealable (keyAt (nodeOf setup .k
 
   -- what is handed up is what the message of its form hands up
   heard-whole : (f : Form) → formOf h ≡ f → handed (step (start setup) (Hear pdu fwd msg)) ≡ handedAs (t f .answer .answer) (t f .buffer)
-  unfolding hearing openedAs uncached passed taken
   heard-whole f e =
-      rw (
-        le-ltb (length fwd) 29 wide,
-        le-ltb (length msg) 384 big,
-        open-seal (nodeOf setup .keys) (nodeOf setup .networks) (nodeOf setup .iv) h sealed formed receives,
-        unseen,
-        here,
-        e,
-      ) refl
+      let l = heard-new (start setup) pdu fwd msg wide big h _ (open-seal (nodeOf setup .keys) (nodeOf setup .networks) (nodeOf setup .iv) h sealed formed receives) unseen here
+      (t f) (ap t e) in
+      rw (l .answers, l .message-is) refl
 
   replay-none : q .replay ≡ noEntries
   unfolding settingUp

@@ -16,7 +16,7 @@ use Rattle.receiver.specs.Whole.{admission, admitted, openedAs, openedWh
 use Rattle.receiver.proofs.GoodState.{Left, good-outgoing, good-admitted}
 
 -- what holds of each refusal, and of what an admitted message leaves, holds in any case
-by-admission :
+pub by-admission :
     {A : Type 0} (P : A → Type 0) (a : Admission) {refuse : Refusal → A} {t : A} → ((n : Refusal) → P (refuse n)) → P t → P (unless a refuse t)
 unfolding unless
 by-admission P Replayed f p = f _

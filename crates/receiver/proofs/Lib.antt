@@ -10,3 +10,4 @@ pub mod GoodState
 pub mod GoodWhole
 pub mod GoodSegmented
 pub mod Good
+pub mod Laws

@@ -29,14 +29,14 @@ seg-access true false a = le-leb 128 (128 + 0 + a % 64) (omega arith)
 seg-access false true a = lt-leb 128 (0 + 64 + a % 64) (omega arith)
 seg-access false false a = lt-leb 128 (0 + 0 + a % 64) (omega arith)
 
-akf-access : (s k : Bool) (a : ℕ) → akf (accessOctet s k a) ≡ k
+pub akf-access : (s k : Bool) (a : ℕ) → akf (accessOctet s k a) ≡ k
 unfolding accessOctet
 akf-access true true a = le-leb 64 ((128 + 64 + a % 64) % 128) (omega arith)
 akf-access true false a = lt-leb 64 ((128 + 0 + a % 64) % 128) (omega arith)
 akf-access false true a = le-leb 64 ((0 + 64 + a % 64) % 128) (omega arith)
 akf-access false false a = lt-leb 64 ((0 + 0 + a % 64) % 128) (omega arith)
 
-aid-access : (s k : Bool) (a : ℕ) → a < 64 → aid (accessOctet s k a) ≡ a
+pub aid-access : (s k : Bool) (a : ℕ) → a < 64 → aid (accessOctet s k a) ≡ a
 unfolding accessOctet
 aid-access true true a h = omega arith
 aid-access true false a h = omega arith
@@ -48,7 +48,7 @@ unfolding controlOctet
 seg-control true o = le-leb 128 (128 + o % 128) (omega arith)
 seg-control false o = lt-leb 128 (0 + o % 128) (omega arith)
 
-opcode-control : (s : Bool) (o : ℕ) → o ≤ 0x7F → opcode (controlOctet s o) ≡ o
+pub opcode-control : (s : Bool) (o : ℕ) → o ≤ 0x7F → opcode (controlOctet s o) ≡ o
 unfolding controlOctet
 opcode-control true o h = omega arith
 opcode-control false o h = omega arith

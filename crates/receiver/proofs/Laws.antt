@@ -1,9 +1,13 @@
--- Hearing a PDU leaves what setup fixed, and every next SEQ: whatever comes of it, only cache, replay list, sessions and outgoing message are written.
--- One walk down the definition of `hearing`. Assumes nothing.
-use mathlib.Core.Bool.{Bool}
+-- Laws about one call of `hear`, for those who speak of many: a change to the call is paid here. Assumes nothing.
+--   fixed-heard     what setup fixed stays, and every next SEQ: only cache, replay list, sessions and outgoing message are written
+--   heard-opened    a PDU that opens is judged by the cache
+--   heard-again     one that is in the cache leaves everything
+--   heard-new       one that is not, and is for this node, leaves what the message of its form leaves
+use mathlib.Core.Bool.{Bool, true, false}
 use mathlib.Core.List.{List}
-use mathlib.Core.Path.{_≡_, refl}
-use Prim.Native.Nat.{ℕ}
+use mathlib.Core.Path.{_≡_, refl, ap, _∙_}
+use Prim.Native.Nat.{ℕ, _≤_}
+use borrow.Author.Tests.{le-ltb}
 use lib.Dec.{ltb}
 use lib.ListN.{length}
 use Rattle.common.specs.Lent.{Lent}
@@ -11,6 +15,7 @@ use Rattle.common.proofs.Tests.{by-choice}
 use Rattle.network.specs.declared.header.Header.{Header}
 use Rattle.network.specs.declared.opening.Answer as network-answer
 use Rattle.network.specs.declared.opening.Answer.the-variants as network
+use Rattle.network.specs.Opening.{opening}
 use Rattle.transport.specs.declared.form.Form.{Form}
 use Rattle.transport.specs.declared.form.Form.the-variants as form
 use Rattle.transport.specs.declared.securing.Opened.{Opened}
@@ -23,19 +28,18 @@ use Rattle.memory.specs.declared.decision.Decision.{Decision}
 use Rattle.memory.specs.declared.decision.Decision.the-variants.{Repeat, Join, Open, Stale, Differs, NoEntryLeft, NoSlotLeft}
 use Rattle.memory.specs.declared.session.Segment.{Segment}
 use Rattle.memory.specs.declared.session.Session.{Session}
-use Rattle.memory.specs.Cache.{seen}
+use Rattle.memory.specs.Cache.{seen, remembered}
 use Rattle.memory.specs.Decision.{decision}
 use Rattle.memory.specs.Session.{complete}
 use Rattle.node.specs.Addresses.{forNode}
-use Rattle.receiver.specs.declared.answer.Refusal.{Refusal}
+use Rattle.receiver.specs.declared.answer.Refusal.the-variants as refusal
 use Rattle.receiver.specs.declared.answer.Taken.{Taken}
 use Rattle.receiver.specs.declared.state.Receiver.{Receiver}
-use Rattle.receiver.specs.declared.whole.Admission.{Admission}
-use Rattle.receiver.specs.declared.whole.Admission.the-variants as admission
-use Rattle.receiver.specs.Hearing.{Outcome, takenAs, taken, passed, uncached, openedAs, hearing}
+use Rattle.receiver.specs.Hearing.{Outcome, outcome, refusedHeard, takenAs, taken, passed, uncached, openedAs, hearing}
 use Rattle.receiver.specs.Segmented.{upgraded, accessUpAs, accessUp, controlUp, gathered, placedAs, placed, segmentedAs, segmented}
-use Rattle.receiver.specs.State.{withSession}
+use Rattle.receiver.specs.State.{withCache, withSession}
 use Rattle.receiver.specs.Whole as whole
+use Rattle.receiver.proofs.GoodWhole.{by-admission}
 
 -- r left q
 pub record Fixed (r q : Receiver) : Type 0 where
@@ -44,13 +48,6 @@ pub record Fixed (r q : Receiver) : Type 0 where
 
 abbrev FixedBy : Receiver → Lent Taken → Type 0
 FixedBy r t = Fixed r (t .answer .receiver)
-
-fixed-admission :
-    (r : Receiver) (a : Admission) {A : Type 0} (P : A → Type 0) {refuse : Refusal → A} {t : A} → ((n : Refusal) → P (refuse n)) → P t → P (whole.unless a refuse t)
-unfolding whole.unless
-fixed-admission r admission.Replayed P f p = f _
-fixed-admission r admission.NoEntryLeft P f p = f _
-fixed-admission r admission.Admitted P f p = p
 
 -- r has come to q, and a PDU is taken there
 module _ (r q : Receiver) (f : Fixed r q) (h : Header) (msg : List ℕ) where
@@ -66,17 +63,17 @@ module _ (r q : Receiver) (f : Fixed r q) (h : Header) (msg : List ℕ) where
 
   fixed-access : (akf : Bool) (aid : ℕ) → FixedBy r (whole.wholeAccess q h akf aid msg)
   unfolding whole.wholeAccess whole.openedWhole
-  fixed-access akf aid = fixed-admission r (whole.admission (q .replay) h) (FixedBy r) (λ n. f) (fixed-opened _)
+  fixed-access akf aid = by-admission (FixedBy r) (whole.admission (q .replay) h) (λ n. f) (fixed-opened _)
 
   fixed-control : (opcode : ℕ) → FixedBy r (whole.wholeControl q h opcode msg)
   unfolding whole.wholeControl whole.wholeControlUp
-  fixed-control opcode = fixed-admission r (whole.admission (q .replay) h) (FixedBy r) (λ n. f) fixed-admitted
+  fixed-control opcode = by-admission (FixedBy r) (whole.admission (q .replay) h) (λ n. f) fixed-admitted
 
   fixed-acknowledgement : (obo : Bool) (seqZero bits : ℕ) → Fixed r (whole.wholeAcknowledgement q h obo seqZero bits .receiver)
   unfolding whole.wholeAcknowledgement whole.acted
   fixed-acknowledgement obo seqZero bits =
       let a = fixed-admitted in
-      fixed-admission r (whole.admission (q .replay) h) (λ (t : Taken). Fixed r (t .receiver)) (λ n. f)
+      by-admission (λ (t : Taken). Fixed r (t .receiver)) (whole.admission (q .replay) h) (λ n. f)
       (record { node-stays = a .node-stays; next-stays = a .next-stays })
 
   fixed-up : (slot : ℕ) (s kept : Session) → (o : Opened) → Fixed r (accessUpAs (withSession q slot s) kept o .receiver)
@@ -147,3 +144,35 @@ module _ (r : Receiver) (fwd msg : List ℕ) where
   fixed-heard pdu =
       by-choice (FixedHeard r) (ltb (length fwd) 29) (λ _. itself)
       (λ _. by-choice (FixedHeard r) (ltb (length msg) 384) (λ _. itself) (λ _. fixed-heard-as _ _ _))
+
+-- ---- a PDU that opens
+module _ (r : Receiver) (pdu fwd msg : List ℕ) (wide : 29 ≤ length fwd) (big : 384 ≤ length msg) (h : Header) (trials : ℕ)
+    (opens : opening (r .node .keys) (r .node .networks) (r .node .iv) pdu ≡ record { answer = network.Opened; trials = trials; header = h }) where
+  pub heard-opened : hearing r pdu fwd msg ≡ uncached r h trials fwd msg
+  unfolding hearing openedAs
+  heard-opened = rw (le-ltb (length fwd) 29 wide, le-ltb (length msg) 384 big, opens) refl
+
+  pub heard-again : seen (r .cache) (h .src) (h .seq) ≡ true → hearing r pdu fwd msg ≡ outcome (refusedHeard r refusal.Cached trials) fwd msg
+  unfolding uncached
+  heard-again e = heard-opened ∙ rw e refl
+
+  -- the receiver with the PDU in its cache
+  abbrev pub caching : Receiver
+  caching = withCache r (remembered (r .cache) (h .src) (h .seq))
+
+  -- what the call leaves is t
+  pub record Leaves (t : Lent Taken) : Type 0 where
+    pub answers : hearing r pdu fwd msg .heard .answer ≡ t .answer .answer
+    pub left-is : hearing r pdu fwd msg .heard .receiver ≡ t .answer .receiver
+    pub message-is : hearing r pdu fwd msg .message ≡ t .buffer
+
+  -- it is new, and for this node: it is taken by its form
+  pub heard-new :
+      seen (r .cache) (h .src) (h .seq) ≡ false → forNode (r .node) (h .dst) ≡ true → (t : Lent Taken) → takenAs (formOf h) caching h msg ≡ t → Leaves t
+  unfolding uncached passed taken
+  heard-new e f t g =
+      record {
+        answers = rw (heard-opened, e, f) (ap (λ (x : Lent Taken). x .answer .answer) g);
+        left-is = rw (heard-opened, e, f) (ap (λ (x : Lent Taken). x .answer .receiver) g);
+        message-is = rw (heard-opened, e, f) (ap (λ (x : Lent Taken). x .buffer) g);
+      }
