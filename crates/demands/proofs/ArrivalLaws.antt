@@ -33,7 +33,7 @@ use Rattle.memory.proofs.CacheLaws.{length-remembered}
 use Rattle.node.specs.declared.addresses.Node.{Node}
 use Rattle.node.specs.Addresses.{forNode}
 use Rattle.node.specs.Made.{WellMade}
-use Rattle.receiver.specs.declared.answer.Answer.the-variants.{Refused}
+use Rattle.receiver.specs.declared.answer.Answer.{Answer}
 use Rattle.receiver.specs.declared.answer.Refusal.the-variants as refusal
 use Rattle.receiver.specs.declared.answer.Taken.{Taken}
 use Rattle.receiver.specs.declared.state.Receiver.{Receiver}
@@ -52,9 +52,9 @@ use Rattle.sending.specs.declared.transmission.Transmitted.{Transmitted}
 use Rattle.sending.specs.Answer.{spokenAs, spoken}
 use Rattle.sending.specs.Acknowledge.{acknowledging}
 use Rattle.sending.specs.Transmission.{nextSeq, withNext, stamped, noTransmission, sentAs, transmitted}
-use Rattle.demands.specs.Call.{Call, Hear, Acknowledge, Outcome, step, left}
+use Rattle.demands.specs.Call.{Call, Hear, Acknowledge, Outcome, Heard, step, left}
 use Rattle.demands.specs.Interleaved as scene
-use Rattle.demands.specs.Interleaved.{Event, Segment, Foreign, Ask, Arrival, speechAt, callAs, callOf, comeWith, isLastMissing, Spent, Comes, Arrives, isStored, handedAs, handed}
+use Rattle.demands.specs.Interleaved.{Event, Segment, Foreign, Ask, Arrival, speechAt, callAs, callOf, comeWith, isLastMissing, Spent, Comes, Arrives, storedAs, isStored, handedAs, handed}
 use Rattle.demands.specs.Refusal.{noKeyOpens}
 use Rattle.demands.specs.Speech.{Speech, lastOf, headerOf, segmentPdu, Speakable, Handed, handUp}
 use Rattle.demands.proofs.Invariant.{good-step}
@@ -233,15 +233,16 @@ module _ (node : Node) (speeches : List Speech) (spent : Spent) where
       unfolding headerOf
       again e =
           let there : hasBit (filled k) i ≡ true = rw (sent .number-spent) (sc .seen-come k seq (sent .one-of) e) in
-          let o = heard-again r pdu fwd msg wide big h trials opens e in
+          let o : step r (Hear pdu fwd msg) ≡ Heard (outcome (refusedHeard r refusal.Cached trials) fwd msg) =
+              ap Heard (heard-again r pdu fwd msg wide big h trials opens e) in
           let more : (j : ℕ) → comeWith j (filled j) (Segment k i seq ttl) ≡ filled j =
           λ j. by-test (eqb k j)
           (λ u. rw u (with-of-set (filled j) i (subst (λ (n : ℕ). hasBit (filled n) i ≡ true) (eqb-true k j u) there)))
           (λ u. rw u refl) in
           record {
-            hands = rw (o, there) refl;
+            hands = ap handed o ∙ rw there refl;
             stores = λ f _. absurd (true≢false (sym there ∙ f));
-            scenery = rw o (refilled r filled _ more sc);
+            scenery = rw (ap left o) (refilled r filled _ more sc);
           }
 
       -- it is new: it is placed
@@ -253,12 +254,26 @@ module _ (node : Node) (speeches : List Speech) (spent : Spent) where
           placed-steps node made s w spoken-of q (sc .same) (good-cache r (sc .good) _ c) (filled k) i (sent .segment-there) msg dst big seq ttl
           (entry-room node speeches spent r filled sc few (s .src)) (session-room node speeches spent r filled sc few k (sent .one-of)) (sc .stages k (sent .one-of))
 
-      -- what the call leaves is what placing it leaves
+      -- what the call hands up and leaves is what placing it does
+      record Does : Type 0 where
+        hands-as : handed (step r (Hear pdu fwd msg)) ≡ handedAs (t .answer .answer) (t .buffer)
+        stored-as : isStored (step r (Hear pdu fwd msg)) ≡ storedAs (t .answer .answer)
+        left-is : left (step r (Hear pdu fwd msg)) ≡ t .answer .receiver
+
       leaves : seen (r .cache) (s .src) seq ≡ false → Leaves r pdu fwd msg wide big h trials opens t
       unfolding headerOf
       leaves e =
           let here : forNode (r .node) (s .dst) ≡ true = rw (sc .same) (w .for-here) in
           heard-new r pdu fwd msg wide big h trials opens e here t taken-is
+
+      does : seen (r .cache) (s .src) seq ≡ false → Does
+      does e =
+          let l = leaves e in
+          record {
+            hands-as = ap (λ (a : Answer). handedAs a (hearing r pdu fwd msg .message)) (l .answers) ∙ ap (handedAs (t .answer .answer)) (l .message-is);
+            stored-as = ap storedAs (l .answers);
+            left-is = l .left-is;
+          }
 
       -- each speech's stage behind it
       more-stages :
@@ -292,12 +307,12 @@ module _ (node : Node) (speeches : List Speech) (spent : Spent) where
 
       placed-next : seen (r .cache) (s .src) seq ≡ false → Next r filled (Segment k i seq ttl) (Hear pdu fwd msg)
       placed-next e =
-          let l = leaves e in
+          let l = does e in
           let hears = good-hear r pdu fwd msg (sc .good) in
           let stays = fixed-heard r fwd msg pdu .node-stays in
           record {
-            hands = rw (l .answers, l .message-is) (steps .due);
-            stores = λ f g. rw (l .answers, steps .stores f g) refl;
+            hands = l .hands-as ∙ steps .due;
+            stores = λ f g. l .stored-as ∙ rw (steps .stores f g) refl;
             scenery =
                 record {
                   good = hears;

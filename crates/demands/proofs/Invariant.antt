@@ -132,7 +132,7 @@ stopped r g =
     {y = record { answer = give-up.Done; receiver = withOutgoing r noOutgoing }} (λ _. g) (λ _. good-outgoing r g noOutgoing)
 
 pub good-step : GoodStep
-good-step r (Hear pdu fwd msg) g = good-hear r pdu fwd msg g
+good-step r (Hear pdu fwd msg) g = good-hear r _ fwd msg g
 good-step r (GiveUp src) g = good-give-up r src g
 good-step r (SendAccess q key szmic payload buf) g =
     walk-access r buf GoodBy (λ _. g) q key szmic payload (λ _ _. good-said r buf g (q .element) _) (λ _ _. good-started r buf g (q .element) _)

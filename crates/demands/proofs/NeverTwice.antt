@@ -140,7 +140,7 @@ stopped-next r = by-choice (λ (g : GivenUp). g .receiver .next ≡ r .next) (eq
 
 speaks : (r : Receiver) (c : Call) → SpeaksBy r c (step r c)
 unfolding accessAllowed control.controlAllowed
-speaks r (Hear pdu fwd msg) = same-next (r .next) _ (fixed-heard r fwd msg pdu .next-stays)
+speaks r (Hear pdu fwd msg) = same-next (r .next) _ (fixed-heard r fwd msg _ .next-stays)
 speaks r (GiveUp src) = same-next (r .next) _ (given-next r src)
 speaks r (SendAccess q key szmic payload buf) =
     let e = q .element in

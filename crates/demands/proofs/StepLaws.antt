@@ -76,6 +76,10 @@ pub record Step (node : Node) (s : Speech) (r : Receiver) (bits i : ℕ) (t : Le
       → EntriesOwned n speaker (t .answer .receiver .replay)
   pub cache-stays : t .answer .receiver .cache ≡ r .cache
 
+-- a segment that had not come is the last that was missing where all have come with it
+last-missing : (bits i segN : ℕ) → hasBit bits i ≡ false → (all : Bool) → eqb (withBit bits i) (allBits segN) ≡ all → isLastMissing bits i segN ≡ all
+last-missing bits i segN fresh all e = rw fresh e
+
 -- what is handed up is no other answer, and its octets are read back
 handed-up : (s : Speech) (ws : Words) (msg : List ℕ) → handedAs (handUpAs s ws .answer) (onto (handUpAs s ws .octets) msg) ≡ handUpAs s ws ∷ []
 handed-up s (Access key szmic payload) msg =
@@ -132,7 +136,7 @@ module _ (node : Node) (made : WellMade node) (s : Speech) (w : Speakable node s
           → Step node s r bits i (lent (record { answer = Stored (s .src) (s .auth) filled; trials = 0; receiver = withSession r slot session }) msg)
       stored-step c =
           record {
-            due = rw (fresh, c) refl;
+            due = rw (last-missing bits i (lastOf node s) fresh false c) refl;
             stores = λ _ _. refl;
             own =
                 Gathers len bytes some (eqb-false filled (allBits (lastOf node s)) c)
@@ -171,7 +175,7 @@ module _ (node : Node) (made : WellMade node) (s : Speech) (w : Speakable node s
       unfolding segments.upgraded
       up-step c trials =
           record {
-            due = rw (fresh, c) (handed-up s (s .words) msg);
+            due = rw (last-missing bits i (lastOf node s) fresh true c) (handed-up s (s .words) msg);
             stores = λ _ f. absurd (true≢false (sym c ∙ f));
             own =
                 Done (eqb-true filled (allBits (lastOf node s)) c) (freed-none (r .sessions) slot (s .src) long spoken only) entry-own;
