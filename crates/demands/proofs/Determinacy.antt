@@ -93,4 +93,17 @@ determinate =
       send-segment = λ _ _ _. determined _;
       send-acknowledgement = λ _ _ _ _. determined _;
       stop = λ _. determined _;
+      c-credentials = λ _ _. determined _;
+      c-open = λ _ _ _ _. determined _;
+      c-seal = λ _ _ _ _ _ _ _ _ _. determined _;
+      speed-blocks = λ _ _ _. determined _;
+      speed-cmac = λ _ _ _. determined _;
+      speed-open = λ _ _ _ _. determined _;
+      speed-hear = λ _ _ _ _ _ _ _. determined _;
+      speed-open-pdu = λ _ _ _ _ _. determined _;
+      first = λ _ _. determined _;
+      setting = λ _ _ _ _. determined _;
+      node = λ _ _ _ _. determined _;
+      say = λ _ _. determined _;
+      answer = λ _. determined _;
     }

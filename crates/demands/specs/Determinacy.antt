@@ -1,4 +1,4 @@
--- Determinacy: for each public operation below the C functions, two outcomes that satisfy its contract are equal. A contract is one equation between the outcome
+-- Determinacy: for each public operation of every crate, two outcomes that satisfy its contract are equal. A contract is one equation between the outcome
 -- (answer, new state and each lent buffer) and the definition named here, so one line an operation says which definition that is.
 use mathlib.Core.Bool.{Bool}
 use mathlib.Core.List.{List, _++_}
@@ -44,11 +44,15 @@ use Rattle.node.specs.Addresses.{isLocal, forNode}
 use Rattle.node.specs.Setup.{making}
 use Rattle.node.specs.declared.addresses.Node.{Node}
 use Rattle.node.specs.declared.setup.Setup.{Setup}
+use Rattle.radio.specs.Credential.{credentialsDone}
+use Rattle.radio.specs.Open as radio
+use Rattle.radio.specs.Seal.{sealDone}
 use Rattle.receiver.specs.Answer.{refusalNumber}
 use Rattle.receiver.specs.Fresh as fresh
 use Rattle.receiver.specs.GiveUp as give-up
 use Rattle.receiver.specs.Hearing.{hearing}
 use Rattle.receiver.specs.State.{withOutgoing}
+use Rattle.receiver.specs.declared.answer.Answer as heard-answer
 use Rattle.receiver.specs.declared.answer.Refusal.{Refusal}
 use Rattle.receiver.specs.declared.fresh.Answer as fresh-answer
 use Rattle.receiver.specs.declared.give_up.Answer as give-up-answer
@@ -64,6 +68,12 @@ use Rattle.sending.specs.Transmission.{sendingIv, addressOf}
 use Rattle.sending.specs.declared.answer.Answer as spoken-answer
 use Rattle.sending.specs.declared.request.Request.{Request}
 use Rattle.sending.specs.declared.request.Ttl.{Ttl}
+use Rattle.site.specs.Setting.{setting, ready}
+use Rattle.site.specs.Words as words
+use Rattle.speed.specs.Blocks.{blocksDone}
+use Rattle.speed.specs.Hearing.{heardTimes, openedTimes}
+use Rattle.speed.specs.Mac.{macDone}
+use Rattle.speed.specs.Open as speed
 use Rattle.transport.specs.Form.{formOf}
 use Rattle.transport.specs.Opcode.{opcodeKind}
 use Rattle.transport.specs.Securing as securing
@@ -173,3 +183,19 @@ pub record Determinate : Type 0 where
   pub send-segment : (r : Receiver) (n : ℕ) (buf : List ℕ) → Determined (sendingSegment r n buf)
   pub send-acknowledgement : (r : Receiver) (net src : ℕ) (buf : List ℕ) → Determined (acknowledging r net src buf)
   pub stop : (r : Receiver) → Determined (stopping r)
+  -- radio, for C
+  pub c-credentials : (key out : List ℕ) → Determined (credentialsDone key out)
+  pub c-open : (credentials : List ℕ) (iv : ℕ) (pdu out : List ℕ) → Determined (radio.openDone credentials iv pdu out)
+  pub c-seal : (credential : List ℕ) (iv ctl ttl seq src dst : ℕ) (transport out : List ℕ) → Determined (sealDone credential iv ctl ttl seq src dst transport out)
+  -- speed, for C
+  pub speed-blocks : (key block : List ℕ) (times : ℕ) → Determined (blocksDone key block times)
+  pub speed-cmac : (key m out : List ℕ) → Determined (macDone key m out)
+  pub speed-open : (key nonce sealed out : List ℕ) → Determined (speed.openDone key nonce sealed out)
+  pub speed-hear : (keys : List ℕ) (first iv : ℕ) (pdu : List ℕ) (slot : ℕ) (msg : List ℕ) (times : ℕ) → Determined (heardTimes keys first iv pdu slot msg times)
+  pub speed-open-pdu : (keys : List ℕ) (first iv : ℕ) (pdu : List ℕ) (times : ℕ) → Determined (openedTimes keys first iv pdu times)
+  -- site
+  pub first : (s : List ℕ) (n : ℕ) → Determined (take n s)
+  pub setting : (address next iv : ℕ) (flag : Bool) → Determined (setting address next iv flag)
+  pub node : (address next iv : ℕ) (flag : Bool) → Determined (ready address next iv flag)
+  pub say : (a : spoken-answer.Answer) (pdu : List ℕ) → Determined (take (words.made a) pdu)
+  pub answer : (a : heard-answer.Answer) → Determined (words.handedUp a)
