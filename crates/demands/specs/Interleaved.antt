@@ -3,7 +3,7 @@
 -- replay entries end as if the senders had spoken one after another, no session open.
 --   Arrival, callOf        what comes, and the call that hears or acknowledges it
 --   come k l               the segments of speech k among l, a bit each (`ComeNames`)
---   brings k i l           segment i is the last of speech k that was missing behind l
+--   isLastMissing          a segment is the last of its speech that was missing
 --   Scene                  the premises
 --   HandedUp               1: where a message is handed up
 --   Acknowledges           2: what an acknowledgement names
