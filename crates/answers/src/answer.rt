@@ -1,0 +1,225 @@
+// The answers, each put into the buffer for them at `at`; each function says where it ends.
+use commands::desk::Reply;
+use memory::outgoing::Effect;
+use memory::pair::Pair;
+use receiver::answer::Answer;
+use receiver::fresh::Answer as SettingUp;
+use receiver::give_up::Answer as GivingUp;
+use sending::answer::Answer as Sending;
+use text::hex;
+use text::number;
+use transport::securing::MessageKey;
+
+// How many network keys and application keys were tried.
+pub struct Trials {
+    pub network: usize,
+    pub application: usize,
+}
+
+// `refused N`, N in decimal.
+fn put_refusal(n: u32, out: &mut [u8], at: usize) -> usize {
+    let mut digits = [0u8; 20];
+    let k = io::decimal(n as u64, &mut digits);
+    let from = text::put(b"refused ", out, at);
+    text::put(&digits[..k], out, from)
+}
+
+// `refused N` and a newline.
+fn put_refused(n: u32, out: &mut [u8], at: usize) -> usize {
+    let end = put_refusal(n, out, at);
+    text::put(b"\n", out, end)
+}
+
+// ` trials T A`.
+fn put_trials(t: Trials, out: &mut [u8], at: usize) -> usize {
+    let network = number::put(b" trials ", t.network as u64, 1, out, at);
+    number::put(b" ", t.application as u64, 1, out, network)
+}
+
+// ` iv I`, a label, and the sequence number.
+pub(crate) fn put_pair(p: Pair, label: &[u8], out: &mut [u8], at: usize) -> usize {
+    let iv = number::put(b" iv ", p.iv as u64, 8, out, at);
+    number::put(label, p.seq as u64, 6, out, iv)
+}
+
+// ` src S iv I auth Q bits B`.
+pub(crate) fn put_segments(src: u16, auth: Pair, bits: u32, out: &mut [u8], at: usize) -> usize {
+    let source = number::put(b" src ", src as u64, 4, out, at);
+    let pair = put_pair(auth, b" auth ", out, source);
+    number::put(b" bits ", bits as u64, 8, out, pair)
+}
+
+// ` src S dst D net K`.
+fn put_route(src: u16, dst: u16, network: usize, out: &mut [u8], at: usize) -> usize {
+    let source = number::put(b" src ", src as u64, 4, out, at);
+    let destination = number::put(b" dst ", dst as u64, 4, out, source);
+    number::put(b" net ", network as u64, 1, out, destination)
+}
+
+// ` key J`: the application key's number, or `dev`.
+fn put_key(key: MessageKey, out: &mut [u8], at: usize) -> usize {
+    match key {
+        MessageKey::Application(i) => number::put(b" key ", i as u64, 1, out, at),
+        MessageKey::Device => text::put(b" key dev", out, at),
+    }
+}
+
+// ` iv I seq Q trials T A message BYTES`.
+fn put_message(p: Pair, t: Trials, message: &[u8], out: &mut [u8], at: usize) -> usize {
+    let pair = put_pair(p, b" seq ", out, at);
+    let trials = put_trials(t, out, pair);
+    let label = text::put(b" message ", out, trials);
+    hex::put(message, out, label)
+}
+
+// What an acknowledgement does.
+fn put_effect(effect: Effect, out: &mut [u8], at: usize) -> usize {
+    match effect {
+        Effect::Nothing => text::put(b" nothing", out, at),
+        Effect::Marked => text::put(b" marked", out, at),
+        Effect::Completed => text::put(b" complete", out, at),
+        Effect::Cancelled => text::put(b" cancelled", out, at),
+    }
+}
+
+// `stored` or `repeat`, with the segments that have come.
+fn put_segment(word: &[u8], src: u16, auth: Pair, bits: u32, out: &mut [u8], at: usize) -> usize {
+    let named = text::put(word, out, at);
+    put_segments(src, auth, bits, out, named)
+}
+
+// `access src S dst D net K key J`.
+fn put_access(
+    src: u16,
+    dst: u16,
+    network: usize,
+    key: MessageKey,
+    out: &mut [u8],
+    at: usize,
+) -> usize {
+    let word = text::put(b"access", out, at);
+    let route = put_route(src, dst, network, out, word);
+    put_key(key, out, route)
+}
+
+// `control src S dst D net K opcode O`.
+fn put_control(src: u16, dst: u16, network: usize, opcode: u8, out: &mut [u8], at: usize) -> usize {
+    let word = text::put(b"control", out, at);
+    let route = put_route(src, dst, network, out, word);
+    number::put(b" opcode ", opcode as u64, 1, out, route)
+}
+
+// `acknowledgement src S bits B EFFECT`.
+fn put_acknowledgement(src: u16, bits: u32, effect: Effect, out: &mut [u8], at: usize) -> usize {
+    let source = number::put(b"acknowledgement src ", src as u64, 4, out, at);
+    let marks = number::put(b" bits ", bits as u64, 8, out, source);
+    put_effect(effect, out, marks)
+}
+
+// What became of a PDU that was heard; message is the buffer lent for a message.
+pub fn put_heard(a: Answer, t: Trials, message: &[u8], out: &mut [u8], at: usize) -> usize {
+    match a {
+        Answer::Refused(refusal) => {
+            let end = put_refusal(receiver::answer::number(refusal), out, at);
+            put_trials(t, out, end)
+        }
+        Answer::Stored { src, auth, bits } => {
+            let end = put_segment(b"stored", src, auth, bits, out, at);
+            put_trials(t, out, end)
+        }
+        Answer::Repeated { src, auth, bits } => {
+            let end = put_segment(b"repeat", src, auth, bits, out, at);
+            put_trials(t, out, end)
+        }
+        Answer::Access {
+            src,
+            dst,
+            network,
+            key,
+            pair,
+            len,
+        } => {
+            let end = put_access(src, dst, network, key, out, at);
+            put_message(pair, t, text::first(message, len), out, end)
+        }
+        Answer::Control {
+            src,
+            dst,
+            network,
+            opcode,
+            pair,
+            len,
+        } => {
+            let end = put_control(src, dst, network, opcode, out, at);
+            put_message(pair, t, text::first(message, len), out, end)
+        }
+        Answer::Acknowledgement { src, bits, effect } => {
+            let end = put_acknowledgement(src, bits, effect, out, at);
+            put_trials(t, out, end)
+        }
+    }
+}
+
+// ` forward PDU`, where something was forwarded, and a newline.
+pub fn put_forward(pdu: &[u8], out: &mut [u8], at: usize) -> usize {
+    if pdu.len() == 0 {
+        return text::put(b"\n", out, at);
+    }
+    let label = text::put(b" forward ", out, at);
+    let end = hex::put(pdu, out, label);
+    text::put(b"\n", out, end)
+}
+
+// `sent PDU` and a newline.
+fn put_sent(pdu: &[u8], out: &mut [u8], at: usize) -> usize {
+    let label = text::put(b"sent ", out, at);
+    let end = hex::put(pdu, out, label);
+    text::put(b"\n", out, end)
+}
+
+// `started PDU segments N` and a newline; N is SegN + 1.
+fn put_started(pdu: &[u8], segn: u8, out: &mut [u8], at: usize) -> usize {
+    let label = text::put(b"started ", out, at);
+    let made = hex::put(pdu, out, label);
+    let end = number::put(b" segments ", segn as u64 + 1, 1, out, made);
+    text::put(b"\n", out, end)
+}
+
+// What a request to send is answered; pdu is the buffer lent for a PDU.
+pub fn put_spoken(a: Sending, pdu: &[u8], out: &mut [u8], at: usize) -> usize {
+    match a {
+        Sending::Sent(len) => put_sent(text::first(pdu, len), out, at),
+        Sending::Started { len, segn } => put_started(text::first(pdu, len), segn, out, at),
+        Sending::Refused(refusal) => put_refused(receiver::answer::number(refusal), out, at),
+    }
+}
+
+// What a request to give up is answered.
+pub fn put_given_up(a: GivingUp, out: &mut [u8], at: usize) -> usize {
+    match a {
+        GivingUp::Done => text::put(b"given up\n", out, at),
+        GivingUp::Refused(refusal) => put_refused(receiver::answer::number(refusal), out, at),
+    }
+}
+
+// What a setup is answered.
+pub fn put_set_up(a: SettingUp, out: &mut [u8], at: usize) -> usize {
+    match a {
+        SettingUp::Ready => text::put(b"ready\n", out, at),
+        SettingUp::Refused(refusal) => put_refused(receiver::answer::number(refusal), out, at),
+    }
+}
+
+// What a line is answered that needs no receiver.
+pub fn put_noted(reply: Reply, out: &mut [u8], at: usize) -> usize {
+    match reply {
+        Reply::Ok => text::put(b"ok\n", out, at),
+        Reply::Unread => put_unread(out, at),
+        Reply::Silence => at,
+    }
+}
+
+// What a line is answered that does not fit.
+pub fn put_unread(out: &mut [u8], at: usize) -> usize {
+    text::put(b"unread\n", out, at)
+}

@@ -1,0 +1,126 @@
+// `show`: what the receiver holds, one line a thing.
+use super::answer::put_pair;
+use super::answer::put_segments;
+use memory::cache::Cache;
+use memory::outgoing::Outgoing;
+use memory::replay::Entry;
+use memory::replay::Last;
+use memory::session::Session;
+use receiver::state::Receiver;
+use text::number;
+
+// `seq Q..`: each element's next SEQ.
+fn put_next(next: [u32; 8], elements: usize, out: &mut [u8], at: usize) -> usize {
+    let mut to = text::put(b"seq", out, at);
+    let mut i: usize = 0;
+    while i < 8 && i < elements {
+        to = number::put(b" ", next[i] as u64, 6, out, to);
+        i += 1;
+    }
+    text::put(b"\n", out, to)
+}
+
+// `cache S:Q ..`: oldest first.
+fn put_cache(cache: Cache, out: &mut [u8], at: usize) -> usize {
+    let entries = cache.entries;
+    let oldest = cache.next % 16;
+    let mut to = text::put(b"cache", out, at);
+    let mut i: usize = 0;
+    while i < 16 {
+        let e = entries[(oldest + i) % 16];
+        to = put_seen(e.src, e.seq, out, to);
+        i += 1;
+    }
+    text::put(b"\n", out, to)
+}
+
+// ` S:Q`, where the place is not empty.
+fn put_seen(src: u16, seq: u32, out: &mut [u8], at: usize) -> usize {
+    if src == 0 {
+        return at;
+    }
+    let source = number::put(b" ", src as u64, 4, out, at);
+    number::put(b":", seq as u64, 6, out, source)
+}
+
+// ` last I Q segn N dst D`, where a segmented message is remembered.
+fn put_last(last: Last, out: &mut [u8], at: usize) -> usize {
+    if last.dst == 0 {
+        return at;
+    }
+    let auth = last.auth;
+    let iv = number::put(b" last ", auth.iv as u64, 8, out, at);
+    let seq = number::put(b" ", auth.seq as u64, 6, out, iv);
+    let segments = number::put(b" segn ", last.segn as u64, 1, out, seq);
+    number::put(b" dst ", last.dst as u64, 4, out, segments)
+}
+
+// `replay S iv I seq Q` and what is remembered, where the place is not empty.
+fn put_entry(e: Entry, out: &mut [u8], at: usize) -> usize {
+    if e.src == 0 {
+        return at;
+    }
+    let source = number::put(b"replay ", e.src as u64, 4, out, at);
+    let pair = put_pair(e.pair, b" seq ", out, source);
+    let last = put_last(e.last, out, pair);
+    text::put(b"\n", out, last)
+}
+
+fn put_replay(replay: [Entry; 32], out: &mut [u8], at: usize) -> usize {
+    let mut to = at;
+    let mut i: usize = 0;
+    while i < 32 {
+        to = put_entry(replay[i], out, to);
+        i += 1;
+    }
+    to
+}
+
+// `session SLOT src S iv I auth Q bits B`, where the slot is not free.
+fn put_session(slot: usize, s: Session, out: &mut [u8], at: usize) -> usize {
+    if s.src == 0 {
+        return at;
+    }
+    let label = number::put(b"session ", slot as u64, 1, out, at);
+    let to = put_segments(s.src, s.auth, s.filled, out, label);
+    text::put(b"\n", out, to)
+}
+
+fn put_sessions(sessions: [Session; 8], out: &mut [u8], at: usize) -> usize {
+    let mut to = at;
+    let mut i: usize = 0;
+    while i < 8 {
+        to = put_session(i, sessions[i], out, to);
+        i += 1;
+    }
+    to
+}
+
+// `sending dst D iv I auth Q segn N heard B`, where a message is kept.
+fn put_sending(o: Outgoing, out: &mut [u8], at: usize) -> usize {
+    let terms = o.terms;
+    if o.src == 0 {
+        return at;
+    }
+    let destination = number::put(b"sending dst ", terms.dst as u64, 4, out, at);
+    let pair = put_pair(o.auth, b" auth ", out, destination);
+    let last = number::put(b" segn ", terms.segn as u64, 1, out, pair);
+    let to = number::put(b" heard ", o.heard as u64, 8, out, last);
+    text::put(b"\n", out, to)
+}
+
+// All of it, and `end`.
+pub fn put_receiver(r: Receiver, out: &mut [u8], at: usize) -> usize {
+    let node = r.node;
+    let next = r.next;
+    let cache = r.cache;
+    let replay = r.replay;
+    let sessions = r.sessions;
+    let o = r.out;
+    let numbers = put_next(next, node.elements, out, at);
+    let heard = put_cache(cache, out, numbers);
+    let entries = put_replay(replay, out, heard);
+    let open = put_sessions(sessions, out, entries);
+    let kept = put_sending(o, out, open);
+    text::put(b"end\n", out, kept)
+}

@@ -1,0 +1,133 @@
+// What stands beside the receiver: what was given since the last `setup`, and how much room is lent.
+use super::command::Command;
+use super::command::Item;
+use super::setting;
+use node::setup::Setup;
+use text::field;
+use text::number;
+use text::number::Short;
+
+// The lengths of the buffers lent for a PDU and for a message.
+pub struct Room {
+    pub forward: usize,
+    pub message: usize,
+}
+
+pub struct Desk {
+    // Whether a `setup` was ready: before, there is no receiver.
+    pub ready: bool,
+    pub given: Setup,
+    pub room: Room,
+}
+
+// What a line is answered that needs no receiver.
+pub enum Reply {
+    Ok,
+    Unread,
+    // A line that is skipped.
+    Silence,
+}
+
+// What a line leaves.
+pub struct Noted {
+    pub desk: Desk,
+    pub reply: Reply,
+}
+
+// The desk at the start.
+pub fn start() -> Desk {
+    Desk {
+        ready: false,
+        given: setting::nothing(),
+        room: Room {
+            forward: 29,
+            message: 384,
+        },
+    }
+}
+
+// The desk after a `setup`: what was given is forgotten, and there is a receiver if this one was ready or one before it.
+pub fn after_setup(d: Desk, ready: bool) -> Desk {
+    let room = d.room;
+    Desk {
+        ready: d.ready || ready,
+        given: setting::nothing(),
+        room,
+    }
+}
+
+// Notes a line that needs no receiver.
+pub fn note(d: Desk, command: Command, line: &[u8]) -> Noted {
+    match command {
+        Command::Give(item) => give(d, item, line),
+        Command::Room => make_room(d, line),
+        Command::Skip => Noted {
+            desk: d,
+            reply: Reply::Silence,
+        },
+        _ => unread(d),
+    }
+}
+
+// The line does not fit, and leaves the desk as it was.
+fn unread(d: Desk) -> Noted {
+    Noted {
+        desk: d,
+        reply: Reply::Unread,
+    }
+}
+
+// A line that leads to `setup`.
+fn give(d: Desk, item: Item, line: &[u8]) -> Noted {
+    let before = d.given;
+    let g = setting::give(before, item, line);
+    if !g.fits {
+        return unread(d);
+    }
+    let given = g.setup;
+    let mut desk = d;
+    desk.given = given;
+    Noted {
+        desk,
+        reply: Reply::Ok,
+    }
+}
+
+// What a line says of the room.
+enum RoomField {
+    Fits(Room),
+    Unfit,
+}
+
+// `room FORWARD MESSAGE`: two lengths, each at most 384.
+fn room_of(line: &[u8]) -> RoomField {
+    let Short::Value(forward) = number::read_short(field::nth(line, 1)) else {
+        return RoomField::Unfit;
+    };
+    let Short::Value(message) = number::read_short(field::last(line, 2)) else {
+        return RoomField::Unfit;
+    };
+    if 384 < forward {
+        return RoomField::Unfit;
+    }
+    if 384 < message {
+        return RoomField::Unfit;
+    }
+    RoomField::Fits(Room {
+        forward: forward as usize,
+        message: message as usize,
+    })
+}
+
+// The lengths of the two buffers lent from then on.
+fn make_room(d: Desk, line: &[u8]) -> Noted {
+    let RoomField::Fits(room) = room_of(line) else {
+        return unread(d);
+    };
+    let mut desk = d;
+    desk.room = room;
+    Noted {
+        desk,
+        reply: Reply::Ok,
+    }
+}

@@ -1,0 +1,89 @@
+// What a line asks to be sent: element, destination, TTL, network key, and for an access message its key and the size of its MIC.
+use sending::request::Request;
+use sending::request::Ttl;
+use text::field;
+use text::number;
+use text::number::Octet;
+use text::number::Short;
+use transport::securing::MessageKey;
+
+// A TTL field: - is one left unnamed.
+enum TtlField {
+    Fits(Ttl),
+    Unfit,
+}
+
+fn ttl_of(text: &[u8]) -> TtlField {
+    if common::equal(text, b"-") {
+        return TtlField::Fits(Ttl::Unnamed);
+    }
+    match number::read_octet(text) {
+        Octet::Value(n) => TtlField::Fits(Ttl::Named(n)),
+        Octet::Unfit => TtlField::Unfit,
+    }
+}
+
+// Fields 1 to 4 of a line, `E DST TTL K`.
+pub(crate) enum Asked {
+    For(Request),
+    Unfit,
+}
+
+pub(crate) fn request_of(line: &[u8]) -> Asked {
+    let Octet::Value(element) = number::read_octet(field::nth(line, 1)) else {
+        return Asked::Unfit;
+    };
+    let Short::Value(dst) = number::read_short(field::nth(line, 2)) else {
+        return Asked::Unfit;
+    };
+    let TtlField::Fits(ttl) = ttl_of(field::nth(line, 3)) else {
+        return Asked::Unfit;
+    };
+    let Octet::Value(network) = number::read_octet(field::nth(line, 4)) else {
+        return Asked::Unfit;
+    };
+    Asked::For(Request {
+        element: element as usize,
+        dst,
+        ttl,
+        network: network as usize,
+    })
+}
+
+// A field that names the key of an access message: an application key's number, or `dev`.
+pub(crate) enum KeyField {
+    Fits(MessageKey),
+    Unfit,
+}
+
+pub(crate) fn key_of(text: &[u8]) -> KeyField {
+    if common::equal(text, b"dev") {
+        return KeyField::Fits(MessageKey::Device);
+    }
+    match number::read_octet(text) {
+        Octet::Value(n) => KeyField::Fits(MessageKey::Application(n as usize)),
+        Octet::Unfit => KeyField::Unfit,
+    }
+}
+
+// A field that says how many octets the MIC has.
+pub(crate) enum MicField {
+    // Whether it has 8, and not 4.
+    Fits(bool),
+    Unfit,
+}
+
+pub(crate) fn mic_of(text: &[u8]) -> MicField {
+    match number::read_octet(text) {
+        Octet::Value(n) => {
+            if n == 4 {
+                return MicField::Fits(false);
+            }
+            if n == 8 {
+                return MicField::Fits(true);
+            }
+            MicField::Unfit
+        }
+        Octet::Unfit => MicField::Unfit,
+    }
+}

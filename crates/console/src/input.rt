@@ -1,0 +1,97 @@
+// Standard input, block by block: its lines are gathered and answered, and the answers are written before more input is waited for.
+use super::step::Console;
+ghost use Prim.Native.Nat.{_<_};
+ghost use lib.ListN.{length};
+
+// The answer to one line is shorter than this: where less room is left, the answers so far are written.
+const ROOM: usize = 8192;
+
+// What a block leaves: the console, and how many octets of a line are gathered. Of a line that is too long 4,096 are.
+pub(crate) struct Left {
+    pub console: Console,
+    pub gathered: usize,
+}
+
+// Writes the answers so far where little room is left, and says how far the answers in the buffer go then.
+fn flushed(out: &[u8], at: usize) -> usize {
+    if out.len() < ROOM || out.len() - ROOM < at {
+        io::write_all(1, text::first(out, at));
+        return 0;
+    }
+    at
+}
+
+// How far a block is read, how many octets of a line are gathered then, and whether it is whole.
+struct Piece {
+    at: usize,
+    gathered: usize,
+    whole: bool,
+}
+
+// Gathers the octets of a block from `at` to the next newline, or to the end of the block.
+fn gather(block: &[u8], at: usize, line: &mut [u8], gathered: usize) -> Piece
+    requires { ⌜ at < length (now block) ⌝ }
+    ensures { λ p. ⌜ at < p .at ⌝ }
+{
+    let end = text::until(block, at, b'\n');
+    let more = text::put(text::first(&block[at..], end - at), line, gathered);
+    if end < block.len() {
+        return Piece {
+            at: end + 1,
+            gathered: more,
+            whole: true,
+        };
+    }
+    Piece {
+        at: block.len(),
+        gathered: more,
+        whole: false,
+    }
+}
+
+// Answers the lines that end in a block, and gathers what is left of it. `line` holds what was gathered before; `out` is room for answers.
+fn take_block(l: Left, block: &[u8], line: &mut [u8], out: &mut [u8]) -> Left {
+    let mut console = l.console;
+    let mut gathered = l.gathered;
+    let mut written: usize = 0;
+    let mut at: usize = 0;
+    while at < block.len() {
+        let piece = gather(block, at, line, gathered);
+        at = piece.at;
+        gathered = piece.gathered;
+        if piece.whole {
+            let from = flushed(out, written);
+            let told = super::step::step(console, text::first(line, gathered), out, from);
+            let next = told.console;
+            console = next;
+            written = told.at;
+            gathered = 0;
+        }
+    }
+    io::write_all(1, text::first(out, written));
+    Left { console, gathered }
+}
+
+// Reads what has come of standard input, and says how many octets; none at its end.
+fn read_block(block: &mut [u8]) -> usize {
+    let got = libc::read(0, block);
+    io::count(got, block)
+}
+
+// Takes blocks until the input ends. A newline more ends the last line, where it lacks its own. A proved loop has to end, so it counts its turns
+// down, from a number that no run uses up.
+pub(crate) fn take_all(block: &mut [u8], line: &mut [u8], out: &mut [u8]) {
+    let mut left = Left {
+        console: super::step::start(),
+        gathered: 0,
+    };
+    let mut turns = u64::MAX;
+    let mut n = read_block(block);
+    while 0 < n && 0 < turns {
+        let next = take_block(left, text::first(block, n), line, out);
+        left = next;
+        turns -= 1;
+        n = read_block(block);
+    }
+    take_block(left, b"\n", line, out);
+}

@@ -1,0 +1,19 @@
+-- `text::first` meets its contract: the first `n` of more than `n` octets are `n`.
+-- Assumes nothing.
+use native.Mathlib.Omega.{arith}
+use lib.ListN.{length-take}
+use borrow.Author.Needs.{needs}
+use Rattle.text.proofs.first.Statement.{statement}
+use Rattle.text.proofs.first.Tie as tie
+
+slice-aggregate-result : tie.Need-slice-aggregate-result
+slice-aggregate-result c = simp length-take (omega arith)
+
+returns : tie.Need-returns
+returns c = search needs
+
+returns-2 : tie.Need-returns-2
+returns-2 c = search needs
+
+pub first-spec : {M : Type 1} → statement M
+first-spec = tie.close (tie.spec slice-aggregate-result returns returns-2)
