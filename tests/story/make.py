@@ -1,0 +1,138 @@
+"""Makes the console's story from story.txt: the script, the answers to it and their picture.
+
+  python3 tests/story/make.py --write    writes crates/console/stdin, crates/console/stdout and docs/story.svg
+  python3 tests/story/make.py --check    writes nothing; fails, and names the first difference, where a file differs
+
+story.txt is the script, but that what a box sends is named there (`hear humidity segment 2 resent`; boxes.py has the forms) and that
+`=>` may stand behind a command, with words of its answer: they must stand in the answer in that order, `forward` exactly where something
+is forwarded. The answers are those of the independent model, which the console itself is held to by `rt check console`.
+"""
+import subprocess
+import sys
+import tempfile
+from itertools import zip_longest
+from pathlib import Path
+
+HERE = Path(__file__).resolve().parent
+ROOT = HERE.parents[1]
+sys.path.insert(0, str(ROOT / "tests" / "independent"))
+
+from boxes import Unknown, boxes  # noqa: E402
+from language import Console  # noqa: E402
+
+SCRIPT, ANSWERS, PICTURE = (ROOT / name for name in ("crates/console/stdin", "crates/console/stdout", "docs/story.svg"))
+
+
+class Wrong(Exception):
+    """A line of story.txt that cannot be told."""
+
+
+def number(text, most):
+    """A hexadecimal number of story.txt."""
+    if set(text) - set("0123456789abcdef") or int(text, 16) > most:
+        raise Wrong(f"{text} is no number from 0 to {most:x}")
+    return int(text, 16)
+
+
+def sent(box, words):
+    """The PDU that these words name."""
+    match words:
+        case ["segment", place, *how]:
+            return box.segment(number(place, 31), " ".join(how))
+        case ["status", ttl, dst]:
+            return box.status(number(ttl, 0x7F), number(dst, 0xFFFF))
+        case ["recorded"]:
+            return box.recorded()
+    raise Unknown(" ".join(words))
+
+
+def spoken(line, shed):
+    """The console's line for a command of story.txt."""
+    words = line.split()
+    if words[0] != "hear":
+        return line
+    if len(words) < 2 or words[1] not in shed:
+        raise Wrong("hear needs the name of a box")
+    try:
+        return "hear " + sent(shed[words[1]], words[2:]).hex()
+    except Unknown as unknown:
+        raise Wrong(f"{words[1]} cannot send: {unknown}") from None
+
+
+def fits(wanted, answer):
+    """Whether the wanted words stand in the answer in their order, and `forward` in both or in none."""
+    rest = iter(answer.split())
+    return all(word in rest for word in wanted) and ("forward" in wanted) == ("forward" in answer.split())
+
+
+def told(text):
+    """The script and the answers, as lines."""
+    shed, console, script, answers = boxes(), Console(), [], []
+    for at, line in enumerate(text.splitlines(), 1):
+        try:
+            command, arrow, wanted = line.partition(" => ")
+            if line and not line.startswith("#"):
+                line = spoken(command, shed)
+            answer = console.answer(line.encode())
+            if answer == ["unread"] or arrow and not fits(wanted.split(), answer[0]):
+                raise Wrong(f"the answer is: {answer[0]}")
+        except Wrong as wrong:
+            raise Wrong(f"story.txt, line {at}: {wrong}") from None
+        script.append(line)
+        answers += answer
+    return script, answers
+
+
+def picture(script, answers):
+    """What bin/picture draws of a script and its answers, both as texts."""
+    with tempfile.TemporaryDirectory() as name:
+        files = Path(name) / "script", Path(name) / "answers"
+        for file, text in zip(files, (script, answers)):
+            file.write_text(text)
+        run = subprocess.run([str(ROOT / "bin" / "picture"), *map(str, files)], capture_output=True, text=True, check=False)
+    if run.returncode:
+        raise Wrong(run.stderr.strip())
+    return run.stdout
+
+
+def made():
+    """The text of each file."""
+    script, answers = ("\n".join(lines) + "\n" for lines in told((HERE / "story.txt").read_text()))
+    return {SCRIPT: script, ANSWERS: answers, PICTURE: picture(script, answers)}
+
+
+def difference(file, text):
+    """Where a file differs from the text, or None."""
+    name = file.relative_to(ROOT)
+    if not file.exists():
+        return f"{name} is not there"
+    lines = file.read_bytes().decode("utf-8", "replace").split("\n")
+    for at, (has, wanted) in enumerate(zip_longest(lines, text.split("\n")), 1):
+        if has != wanted:
+            return f"{name}, line {at}: has {has!r}, should be {wanted!r}"
+    return None
+
+
+def main():
+    if sys.argv[1:] not in (["--write"], ["--check"]):
+        print("use: python3 tests/story/make.py --write | --check", file=sys.stderr)
+        return 2
+    try:
+        files = made()
+        if sys.argv[1] == "--write":
+            for file, text in files.items():
+                file.write_text(text)
+    except (Wrong, OSError) as wrong:
+        print(f"make.py: {wrong}", file=sys.stderr)
+        return 2
+    differences = [found for found in (difference(*each) for each in files.items()) if found]
+    for found in differences:
+        print(found)
+    if not differences:
+        script, answers = (files[file].count("\n") for file in (SCRIPT, ANSWERS))
+        print(f"{script} lines of the story, {answers} of the model's answers and the picture are those kept")
+    return 1 if differences else 0
+
+
+if __name__ == "__main__":
+    sys.exit(main())
