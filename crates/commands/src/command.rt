@@ -1,32 +1,19 @@
 // Which command a line is, by its first field.
+use super::setting::Item;
 use text::field;
 
-pub enum Command {
+pub(crate) enum Command {
     // One of the lines that lead to `setup`.
     Give(Item),
     SetUp,
-    Room,
-    // One of the lines for the receiver.
-    Ask(Order),
-    // A line with no octets, or one that begins with #: nothing is answered.
-    Skip,
-    // No form fits, or the line is of over 4,095 octets.
+    // One of the lines that need a receiver.
+    Order(Order),
+    // No command.
     Unknown,
 }
 
-// What is given before a setup.
-pub enum Item {
-    NetKey,
-    AppKey,
-    DevKey,
-    Elements,
-    Group,
-    IvIndex,
-    Relay,
-}
-
-// What the receiver is asked to do.
-pub enum Order {
+// What is asked where there is a receiver.
+pub(crate) enum Order {
     Hear,
     Access,
     Control,
@@ -34,20 +21,12 @@ pub enum Order {
     Ack,
     Stop,
     Drop,
+    Room,
     Show,
 }
 
 // The command of a line. Where there is no receiver yet, only the lines that set one up are commands.
-pub fn of(line: &[u8], ready: bool) -> Command {
-    if line.len() == 0 {
-        return Command::Skip;
-    }
-    if line[0] == b'#' {
-        return Command::Skip;
-    }
-    if 4095 < line.len() {
-        return Command::Unknown;
-    }
+pub(crate) fn of(line: &[u8], ready: bool) -> Command {
     let word = field::nth(line, 0);
     if ready {
         return with_receiver(line, word);
@@ -58,35 +37,35 @@ pub fn of(line: &[u8], ready: bool) -> Command {
 // A command that has no field besides its word is the whole line.
 fn with_receiver(line: &[u8], word: &[u8]) -> Command {
     if common::equal(word, b"hear") {
-        return Command::Ask(Order::Hear);
+        return Command::Order(Order::Hear);
     }
     if common::equal(line, b"show") {
-        return Command::Ask(Order::Show);
+        return Command::Order(Order::Show);
     }
     if common::equal(word, b"room") {
-        return Command::Room;
+        return Command::Order(Order::Room);
     }
     speaking(line, word)
 }
 
 fn speaking(line: &[u8], word: &[u8]) -> Command {
     if common::equal(word, b"access") {
-        return Command::Ask(Order::Access);
+        return Command::Order(Order::Access);
     }
     if common::equal(word, b"control") {
-        return Command::Ask(Order::Control);
+        return Command::Order(Order::Control);
     }
     if common::equal(word, b"segment") {
-        return Command::Ask(Order::Segment);
+        return Command::Order(Order::Segment);
     }
     if common::equal(word, b"ack") {
-        return Command::Ask(Order::Ack);
+        return Command::Order(Order::Ack);
     }
     if common::equal(line, b"stop") {
-        return Command::Ask(Order::Stop);
+        return Command::Order(Order::Stop);
     }
     if common::equal(word, b"drop") {
-        return Command::Ask(Order::Drop);
+        return Command::Order(Order::Drop);
     }
     setting_up(line, word)
 }

@@ -1,11 +1,8 @@
 // What stands beside the receiver: what was given since the last `setup`, and how much room is lent.
-use super::command::Command;
-use super::command::Item;
+use super::line::Line;
 use super::setting;
+use super::setting::Item;
 use node::setup::Setup;
-use text::field;
-use text::number;
-use text::number::Short;
 
 // The lengths of the buffers lent for a PDU and for a message.
 pub struct Room {
@@ -56,12 +53,12 @@ pub fn after_setup(d: Desk, ready: bool) -> Desk {
     }
 }
 
-// Notes a line that needs no receiver.
-pub fn note(d: Desk, command: Command, line: &[u8]) -> Noted {
-    match command {
-        Command::Give(item) => give(d, item, line),
-        Command::Room => make_room(d, line),
-        Command::Skip => Noted {
+// Notes a line that needs no receiver; any other is unread.
+pub fn note(d: Desk, said: Line, line: &[u8]) -> Noted {
+    match said {
+        Line::Give(item) => give(d, item, line),
+        Line::Room(room) => make_room(d, room),
+        Line::Skipped => Noted {
             desk: d,
             reply: Reply::Silence,
         },
@@ -93,37 +90,7 @@ fn give(d: Desk, item: Item, line: &[u8]) -> Noted {
     }
 }
 
-// What a line says of the room.
-enum RoomField {
-    Fits(Room),
-    Unfit,
-}
-
-// `room FORWARD MESSAGE`: two lengths, each at most 384.
-fn room_of(line: &[u8]) -> RoomField {
-    let Short::Value(forward) = number::read_short(field::nth(line, 1)) else {
-        return RoomField::Unfit;
-    };
-    let Short::Value(message) = number::read_short(field::last(line, 2)) else {
-        return RoomField::Unfit;
-    };
-    if 384 < forward {
-        return RoomField::Unfit;
-    }
-    if 384 < message {
-        return RoomField::Unfit;
-    }
-    RoomField::Fits(Room {
-        forward: forward as usize,
-        message: message as usize,
-    })
-}
-
-// The lengths of the two buffers lent from then on.
-fn make_room(d: Desk, line: &[u8]) -> Noted {
-    let RoomField::Fits(room) = room_of(line) else {
-        return unread(d);
-    };
+fn make_room(d: Desk, room: Room) -> Noted {
     let mut desk = d;
     desk.room = room;
     Noted {

@@ -1,6 +1,6 @@
-// The console's lines, read: which command a line is, what it asks of the receiver, and what it leaves on the desk beside it.
-pub mod asking;
-pub mod command;
+// The console's lines, read: what a line says, and what is kept of it beside the receiver.
+mod command;
 pub mod desk;
+pub mod line;
 mod requesting;
 pub mod setting;

@@ -1,7 +1,6 @@
 // What is given before a setup, line by line.
 //
 // More keys, elements or groups than a receiver holds are counted, so that the setup refuses them.
-use super::command::Item;
 use node::addresses::Key;
 use node::setup::BoundKey;
 use node::setup::Setup;
@@ -14,8 +13,19 @@ use text::number::Octet;
 use text::number::Short;
 ghost use Prim.Native.Nat.{_<_};
 
-// What a line gives; where its fields do not fit, the setup is what it was.
-pub struct Given {
+// What a line gives.
+pub enum Item {
+    NetKey,
+    AppKey,
+    DevKey,
+    Elements,
+    Group,
+    IvIndex,
+    Relay,
+}
+
+// The setup with what a line gives; where its fields do not fit, the setup is what it was.
+pub(crate) struct Given {
     pub fits: bool,
     pub setup: Setup,
 }
@@ -51,7 +61,7 @@ pub fn nothing() -> Setup {
 }
 
 // Takes what a line gives.
-pub fn give(s: Setup, item: Item, line: &[u8]) -> Given {
+pub(crate) fn give(s: Setup, item: Item, line: &[u8]) -> Given {
     match item {
         Item::NetKey => network_key(s, line),
         Item::AppKey => application_key(s, line),

@@ -1,14 +1,18 @@
 // Standard input, block by block: its lines are gathered and answered, and the answers are written before more input is waited for.
 use super::step::Console;
+use commands::desk::Desk;
+use commands::line::Line;
+use receiver::state::Receiver;
 ghost use Prim.Native.Nat.{_<_};
 ghost use lib.ListN.{length};
 
 // The answer to one line is shorter than this: where less room is left, the answers so far are written.
 const ROOM: usize = 8192;
 
-// What a block leaves: the console, and how many octets of a line are gathered. Of a line that is too long 4,096 are.
+// What a block leaves. `gathered` is how many octets of a line have come; of a line that is too long 4,096 are kept.
 pub(crate) struct Left {
-    pub console: Console,
+    pub desk: Desk,
+    pub receiver: Receiver,
     pub gathered: usize,
 }
 
@@ -49,9 +53,11 @@ fn gather(block: &[u8], at: usize, line: &mut [u8], gathered: usize) -> Piece
     }
 }
 
-// Answers the lines that end in a block, and gathers what is left of it. `line` holds what was gathered before; `out` is room for answers.
-fn take_block(l: Left, block: &[u8], line: &mut [u8], out: &mut [u8]) -> Left {
-    let mut console = l.console;
+// Answers the lines that end in a block, and gathers what is left of it. `line` holds what was gathered before; `octets` is room for those that a
+// line says, `out` for answers. A PDU is heard here and not in `step`, so that the receiver is not copied on its way there and back.
+fn take_block(l: Left, block: &[u8], line: &mut [u8], octets: &mut [u8], out: &mut [u8]) -> Left {
+    let mut desk = l.desk;
+    let mut receiver = l.receiver;
     let mut gathered = l.gathered;
     let mut written: usize = 0;
     let mut at: usize = 0;
@@ -60,16 +66,27 @@ fn take_block(l: Left, block: &[u8], line: &mut [u8], out: &mut [u8]) -> Left {
         at = piece.at;
         gathered = piece.gathered;
         if piece.whole {
-            let from = flushed(out, written);
-            let told = super::step::step(console, text::first(line, gathered), out, from);
-            let next = told.console;
-            console = next;
-            written = told.at;
+            let whole = text::first(line, gathered);
+            let said = commands::line::read(whole, desk.ready, octets);
+            written = flushed(out, written);
             gathered = 0;
+            if let Line::Hear(len) = said {
+                let pdu = text::first(octets, len);
+                receiver = super::receiving::hear(receiver, desk.room, pdu, out, &mut written);
+            } else {
+                let c = Console { desk, receiver };
+                let next = super::step::step(c, said, whole, octets, out, &mut written);
+                desk = next.desk;
+                receiver = next.receiver;
+            }
         }
     }
     io::write_all(1, text::first(out, written));
-    Left { console, gathered }
+    Left {
+        desk,
+        receiver,
+        gathered,
+    }
 }
 
 // Reads what has come of standard input, and says how many octets; none at its end.
@@ -80,18 +97,22 @@ fn read_block(block: &mut [u8]) -> usize {
 
 // Takes blocks until the input ends. A newline more ends the last line, where it lacks its own. A proved loop has to end, so it counts its turns
 // down, from a number that no run uses up.
-pub(crate) fn take_all(block: &mut [u8], line: &mut [u8], out: &mut [u8]) {
+pub(crate) fn take_all(block: &mut [u8], line: &mut [u8], octets: &mut [u8], out: &mut [u8]) {
+    let c = super::step::start();
+    let desk = c.desk;
+    let receiver = c.receiver;
     let mut left = Left {
-        console: super::step::start(),
+        desk,
+        receiver,
         gathered: 0,
     };
     let mut turns = u64::MAX;
     let mut n = read_block(block);
     while 0 < n && 0 < turns {
-        let next = take_block(left, text::first(block, n), line, out);
+        let next = take_block(left, text::first(block, n), line, octets, out);
         left = next;
         turns -= 1;
         n = read_block(block);
     }
-    take_block(left, b"\n", line, out);
+    take_block(left, b"\n", line, octets, out);
 }

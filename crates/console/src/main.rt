@@ -10,6 +10,7 @@ mod step;
 fn main() {
     let mut block = io::large_buffer();
     let mut line = io::buffer();
+    let mut octets = io::buffer();
     let mut out = io::large_buffer();
-    input::take_all(&mut block, &mut line, &mut out);
+    input::take_all(&mut block, &mut line, &mut octets, &mut out);
 }

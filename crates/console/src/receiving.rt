@@ -1,46 +1,21 @@
-// What a line asks of the receiver is done, and its answer is put into `out` at `at`.
+// What a line asks of the receiver is done, and its answer is put behind the others in `out`; `at` says how far they go.
 use answers::answer;
 use answers::answer::Trials;
-use commands::asking::Ask;
-use commands::asking::GivingUp;
-use commands::asking::Sending;
 use commands::desk::Room;
+use commands::line::GivingUp;
+use commands::line::Sending;
 use receiver::give_up::GivenUp;
 use receiver::state::Receiver;
 use sending::answer::Spoken;
 
-// What a line leaves: the receiver, and how far the answers go in the buffer for them.
-pub(crate) struct Received {
-    pub receiver: Receiver,
-    pub at: usize,
-}
-
-// Does what is asked; octets are those that the line says.
-pub(crate) fn perform(
+// Hears a PDU. Of the buffers as much is lent as `room` said.
+pub(crate) fn hear(
     r: Receiver,
     room: Room,
-    ask: Ask,
-    octets: &[u8],
+    pdu: &[u8],
     out: &mut [u8],
-    at: usize,
-) -> Received {
-    match ask {
-        Ask::Hear(len) => hear(r, room, text::first(octets, len), out, at),
-        Ask::Send(sending) => speak(r, room, sending, octets, out, at),
-        Ask::GiveUp(what) => quit(r, what, out, at),
-        Ask::Show => Received {
-            receiver: r,
-            at: answers::looking::put_receiver(r, out, at),
-        },
-        Ask::Unread => Received {
-            receiver: r,
-            at: answer::put_unread(out, at),
-        },
-    }
-}
-
-// Hears a PDU. Of the buffers as much is lent as `room` said.
-fn hear(r: Receiver, room: Room, pdu: &[u8], out: &mut [u8], at: usize) -> Received {
+    at: &mut usize,
+) -> Receiver {
     let mut forward = super::lent::longest();
     let mut message = super::lent::longest();
     let n = text::within(room.forward, &forward);
@@ -54,29 +29,28 @@ fn hear_into(
     forward: &mut [u8],
     message: &mut [u8],
     out: &mut [u8],
-    at: usize,
-) -> Received {
+    at: &mut usize,
+) -> Receiver {
     let h = receiver::hear::hear(r, pdu, forward, message);
     let answer = h.answer;
-    let receiver = h.receiver;
     let trials = Trials {
         network: h.network,
         application: h.application,
     };
-    let heard = answer::put_heard(answer, trials, message, out, at);
-    let end = answer::put_forward(text::first(forward, h.forwarded), out, heard);
-    Received { receiver, at: end }
+    let heard = answer::put_heard(answer, trials, message, out, *at);
+    *at = answer::put_forward(text::first(forward, h.forwarded), out, heard);
+    h.receiver
 }
 
 // Sends. Of the buffer for a PDU as much is lent as `room` said.
-fn speak(
+pub(crate) fn speak(
     r: Receiver,
     room: Room,
     s: Sending,
     octets: &[u8],
     out: &mut [u8],
-    at: usize,
-) -> Received {
+    at: &mut usize,
+) -> Receiver {
     let mut pdu = super::lent::longest();
     let n = text::within(room.forward, &pdu);
     speak_into(r, s, octets, &mut pdu[..n], out, at)
@@ -88,13 +62,12 @@ fn speak_into(
     octets: &[u8],
     pdu: &mut [u8],
     out: &mut [u8],
-    at: usize,
-) -> Received {
+    at: &mut usize,
+) -> Receiver {
     let spoken = send(r, s, octets, pdu);
     let answer = spoken.answer;
-    let receiver = spoken.receiver;
-    let end = answer::put_spoken(answer, pdu, out, at);
-    Received { receiver, at: end }
+    *at = answer::put_spoken(answer, pdu, out, *at);
+    spoken.receiver
 }
 
 fn send(r: Receiver, s: Sending, octets: &[u8], pdu: &mut [u8]) -> Spoken {
@@ -118,12 +91,11 @@ fn send(r: Receiver, s: Sending, octets: &[u8], pdu: &mut [u8]) -> Spoken {
 }
 
 // Gives up.
-fn quit(r: Receiver, what: GivingUp, out: &mut [u8], at: usize) -> Received {
+pub(crate) fn quit(r: Receiver, what: GivingUp, out: &mut [u8], at: &mut usize) -> Receiver {
     let g = give_up(r, what);
     let answer = g.answer;
-    let receiver = g.receiver;
-    let end = answer::put_given_up(answer, out, at);
-    Received { receiver, at: end }
+    *at = answer::put_given_up(answer, out, *at);
+    g.receiver
 }
 
 fn give_up(r: Receiver, what: GivingUp) -> GivenUp {
@@ -131,4 +103,10 @@ fn give_up(r: Receiver, what: GivingUp) -> GivenUp {
         GivingUp::Message => sending::stop::stop(r),
         GivingUp::Session(src) => receiver::give_up::session(r, src),
     }
+}
+
+// Shows what the receiver holds.
+pub(crate) fn show(r: Receiver, out: &mut [u8], at: &mut usize) -> Receiver {
+    *at = answers::looking::put_receiver(r, out, *at);
+    r
 }

@@ -1,21 +1,15 @@
-// One line is answered: by the receiver, or by the desk beside it.
+// One line is answered: by the receiver, or by the desk beside it. Its answer is put behind the others in `out`; `at` says how far they go.
+use super::receiving;
 use answers::answer;
-use commands::command::Command;
-use commands::command::Order;
 use commands::desk;
 use commands::desk::Desk;
+use commands::line::Line;
 use receiver::state::Receiver;
 
 // What the console carries from line to line.
 pub(crate) struct Console {
     pub desk: Desk,
     pub receiver: Receiver,
-}
-
-// What a line leaves: the console, and how far the answers go in the buffer for them.
-pub(crate) struct Told {
-    pub console: Console,
-    pub at: usize,
 }
 
 // The console at the start; beside a refused setup stands a receiver of zeros.
@@ -28,64 +22,63 @@ pub(crate) fn start() -> Console {
     }
 }
 
-// Answers a line.
-pub(crate) fn step(c: Console, line: &[u8], out: &mut [u8], at: usize) -> Told {
-    let d = c.desk;
-    let command = commands::command::of(line, d.ready);
-    match command {
-        Command::Ask(order) => ask(c, order, line, out, at),
-        Command::SetUp => set_up(c, out, at),
-        _ => note(c, command, line, out, at),
-    }
-}
-
-// A line for the receiver.
-fn ask(c: Console, order: Order, line: &[u8], out: &mut [u8], at: usize) -> Told {
+// Answers a line that says something else than `hear`; octets are those that it says.
+pub(crate) fn step(
+    c: Console,
+    said: Line,
+    line: &[u8],
+    octets: &[u8],
+    out: &mut [u8],
+    at: &mut usize,
+) -> Console {
     let desk = c.desk;
     let r = c.receiver;
-    let mut octets = super::lent::octets();
-    let asked = commands::asking::read(order, line, &mut octets);
-    let done = super::receiving::perform(r, desk.room, asked, &octets, out, at);
-    let receiver = done.receiver;
-    Told {
-        console: Console { desk, receiver },
-        at: done.at,
+    match said {
+        Line::Send(sending) => Console {
+            desk,
+            receiver: receiving::speak(r, desk.room, sending, octets, out, at),
+        },
+        Line::GiveUp(what) => Console {
+            desk,
+            receiver: receiving::quit(r, what, out, at),
+        },
+        Line::Show => Console {
+            desk,
+            receiver: receiving::show(r, out, at),
+        },
+        Line::SetUp => set_up(c, out, at),
+        _ => Console {
+            desk: note(desk, said, line, out, at),
+            receiver: r,
+        },
     }
 }
 
 // A line that needs no receiver.
-fn note(c: Console, command: Command, line: &[u8], out: &mut [u8], at: usize) -> Told {
-    let before = c.desk;
-    let receiver = c.receiver;
-    let noted = desk::note(before, command, line);
-    let desk = noted.desk;
+fn note(d: Desk, said: Line, line: &[u8], out: &mut [u8], at: &mut usize) -> Desk {
+    let noted = desk::note(d, said, line);
     let reply = noted.reply;
-    let end = answer::put_noted(reply, out, at);
-    Told {
-        console: Console { desk, receiver },
-        at: end,
-    }
+    *at = answer::put_noted(reply, out, *at);
+    noted.desk
 }
 
 // `setup`: makes the receiver of what was given; a refused one leaves the receiver that was there.
-fn set_up(c: Console, out: &mut [u8], at: usize) -> Told {
+fn set_up(c: Console, out: &mut [u8], at: &mut usize) -> Console {
     let before = c.desk;
     let given = before.given;
     let made = receiver::fresh::set_up(given);
     let answer = made.answer;
-    let ready = receiver::fresh::number(answer) == 0;
-    let desk = desk::after_setup(before, ready);
-    let end = answer::put_set_up(answer, out, at);
-    if ready {
+    *at = answer::put_set_up(answer, out, *at);
+    if receiver::fresh::number(answer) == 0 {
         let receiver = made.receiver;
-        return Told {
-            console: Console { desk, receiver },
-            at: end,
+        return Console {
+            desk: desk::after_setup(before, true),
+            receiver,
         };
     }
     let receiver = c.receiver;
-    Told {
-        console: Console { desk, receiver },
-        at: end,
+    Console {
+        desk: desk::after_setup(before, false),
+        receiver,
     }
 }

@@ -2,17 +2,17 @@
 -- Assumes nothing.
 use borrow.Author.Needs.{needs}
 use borrow.Author.Tests.{ltb-true}
-use native.Mathlib.Omega.{arith}
 use lib.ListN.{length}
+use native.Mathlib.Omega.{arith}
 use mathlib.Core.Path.{_≡_}
 use Rattle.console.proofs.input.take_all.Statement.{statement}
 use Rattle.console.proofs.input.take_all.Tie as tie
 
 abbrev Inv-loop : tie.InvT-loop
-Inv-loop block₀ line₀ out₀ left₀ turns₀ n₀ t8 block line out left turns n = (length block ≡ length block₀) × (length line ≡ length line₀) × (length out ≡ length out₀)
+Inv-loop block₀ line₀ octets₀ out₀ left₀ turns₀ n₀ t12 block line octets out left turns n = (length block ≡ length block₀) × (length line ≡ length line₀) × (length octets ≡ length octets₀) × (length out ≡ length out₀)
 
 abbrev μ-loop : tie.MeasureT-loop
-μ-loop block₀ line₀ out₀ left₀ turns₀ n₀ t8 block line out left turns n = turns
+μ-loop block₀ line₀ octets₀ out₀ left₀ turns₀ n₀ t12 block line octets out left turns n = turns
 
 start-requires : tie.Need-start-requires Inv-loop μ-loop
 start-requires c κs = search needs
@@ -37,7 +37,7 @@ read-block-requires-2 c κs = search needs
 
 loop-less : tie.Need-loop-less Inv-loop μ-loop
 loop-less c =
-    let tested = c .before .before .before .before .before .before .before .before .before .before .before .before .before in
+    let tested = c .before .before .before .before .before .before .before .before .before .before .before .before .before .before .before .before in
     omega (arith, ltb-true 0 (tested .before .before .loop .turns) (tested .if1 .taken))
 
 loop-again : tie.Need-loop-again Inv-loop μ-loop
@@ -57,6 +57,9 @@ same-length-2 c = search needs
 
 same-length-3 : tie.Need-same-length-3 Inv-loop μ-loop
 same-length-3 c = search needs
+
+same-length-4 : tie.Need-same-length-4 Inv-loop μ-loop
+same-length-4 c = search needs
 
 returns : tie.Need-returns Inv-loop μ-loop
 returns c = search needs
@@ -81,4 +84,5 @@ take-all-spec =
     same-length
     same-length-2
     same-length-3
+    same-length-4
     returns)

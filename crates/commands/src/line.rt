@@ -1,0 +1,199 @@
+// What a line says, by its command and its fields. The octets of a PDU or a message go to the first octets of a lent buffer.
+use super::command::Command;
+use super::command::Order;
+use super::desk::Room;
+use super::requesting::Asked;
+use super::requesting::KeyField;
+use super::requesting::MicField;
+use super::requesting::key_of;
+use super::requesting::mic_of;
+use super::requesting::request_of;
+use super::setting::Item;
+use sending::request::Request;
+use text::field;
+use text::hex;
+use text::hex::Octets;
+use text::number;
+use text::number::Octet;
+use text::number::Short;
+use transport::securing::MessageKey;
+
+pub enum Line {
+    // No octets, or a line that begins with #: nothing is answered.
+    Skipped,
+    // It fits no form.
+    Unread,
+    // It gives what leads to a setup; its fields are still to be read.
+    Give(Item),
+    SetUp,
+    Room(Room),
+    // A PDU of so many octets is heard.
+    Hear(usize),
+    Send(Sending),
+    GiveUp(GivingUp),
+    Show,
+}
+
+// What is sent.
+pub enum Sending {
+    // An access message of so many octets.
+    Access {
+        request: Request,
+        key: MessageKey,
+        szmic: bool,
+        len: usize,
+    },
+    // A control message of so many octets.
+    Control {
+        request: Request,
+        opcode: u8,
+        len: usize,
+    },
+    // A segment of the message that is kept.
+    Segment(u8),
+    // An acknowledgement of a source over a network key.
+    Acknowledgement {
+        network: usize,
+        src: u16,
+    },
+}
+
+// What is given up.
+pub enum GivingUp {
+    // The outgoing message.
+    Message,
+    // The session of a source.
+    Session(u16),
+}
+
+// Reads a line. Where there is no receiver yet, only those lines fit that set one up. Over 4,095 octets are too long.
+pub fn read(line: &[u8], ready: bool, octets: &mut [u8]) -> Line {
+    if line.len() == 0 {
+        return Line::Skipped;
+    }
+    if line[0] == b'#' {
+        return Line::Skipped;
+    }
+    if 4095 < line.len() {
+        return Line::Unread;
+    }
+    match super::command::of(line, ready) {
+        Command::Order(order) => read_order(order, line, octets),
+        Command::Give(item) => Line::Give(item),
+        Command::SetUp => Line::SetUp,
+        Command::Unknown => Line::Unread,
+    }
+}
+
+// A line for the receiver.
+fn read_order(order: Order, line: &[u8], octets: &mut [u8]) -> Line {
+    match order {
+        Order::Hear => hear(line, octets),
+        Order::Access => access(line, octets),
+        Order::Control => control(line, octets),
+        Order::Segment => segment(line),
+        Order::Ack => acknowledgement(line),
+        Order::Stop => Line::GiveUp(GivingUp::Message),
+        Order::Drop => session(line),
+        Order::Room => room(line),
+        Order::Show => Line::Show,
+    }
+}
+
+// `hear PDU`.
+fn hear(line: &[u8], octets: &mut [u8]) -> Line {
+    match hex::read(field::last(line, 1), octets) {
+        Octets::Count(len) => Line::Hear(len),
+        Octets::NotHex => Line::Unread,
+    }
+}
+
+// `access E DST TTL K J MIC BYTES`: element E sends under network key K and application key J, or `dev`.
+fn access(line: &[u8], octets: &mut [u8]) -> Line {
+    let Asked::For(request) = request_of(line) else {
+        return Line::Unread;
+    };
+    let KeyField::Fits(key) = key_of(field::nth(line, 5)) else {
+        return Line::Unread;
+    };
+    let MicField::Fits(szmic) = mic_of(field::nth(line, 6)) else {
+        return Line::Unread;
+    };
+    let Octets::Count(len) = hex::read(field::last(line, 7), octets) else {
+        return Line::Unread;
+    };
+    Line::Send(Sending::Access {
+        request,
+        key,
+        szmic,
+        len,
+    })
+}
+
+// `control E DST TTL K O BYTES`: element E sends with opcode O.
+fn control(line: &[u8], octets: &mut [u8]) -> Line {
+    let Asked::For(request) = request_of(line) else {
+        return Line::Unread;
+    };
+    let Octet::Value(opcode) = number::read_octet(field::nth(line, 5)) else {
+        return Line::Unread;
+    };
+    let Octets::Count(len) = hex::read(field::last(line, 6), octets) else {
+        return Line::Unread;
+    };
+    Line::Send(Sending::Control {
+        request,
+        opcode,
+        len,
+    })
+}
+
+// `segment N`.
+fn segment(line: &[u8]) -> Line {
+    match number::read_octet(field::last(line, 1)) {
+        Octet::Value(n) => Line::Send(Sending::Segment(n)),
+        Octet::Unfit => Line::Unread,
+    }
+}
+
+// `ack K S`: acknowledges source S over network key K.
+fn acknowledgement(line: &[u8]) -> Line {
+    let Octet::Value(network) = number::read_octet(field::nth(line, 1)) else {
+        return Line::Unread;
+    };
+    let Short::Value(src) = number::read_short(field::last(line, 2)) else {
+        return Line::Unread;
+    };
+    Line::Send(Sending::Acknowledgement {
+        network: network as usize,
+        src,
+    })
+}
+
+// `drop S`: gives up the session of source S.
+fn session(line: &[u8]) -> Line {
+    match number::read_short(field::last(line, 1)) {
+        Short::Value(src) => Line::GiveUp(GivingUp::Session(src)),
+        Short::Unfit => Line::Unread,
+    }
+}
+
+// `room FORWARD MESSAGE`: the lengths of the two buffers lent from then on, each at most 384.
+fn room(line: &[u8]) -> Line {
+    let Short::Value(forward) = number::read_short(field::nth(line, 1)) else {
+        return Line::Unread;
+    };
+    let Short::Value(message) = number::read_short(field::last(line, 2)) else {
+        return Line::Unread;
+    };
+    if 384 < forward {
+        return Line::Unread;
+    }
+    if 384 < message {
+        return Line::Unread;
+    }
+    Line::Room(Room {
+        forward: forward as usize,
+        message: message as usize,
+    })
+}
