@@ -22,7 +22,7 @@ use Rattle.network.specs.declared.opening.Answer.the-variants as network
 use Rattle.network.specs.declared.sealing.Answer as sealing-answer
 use Rattle.network.specs.declared.sealing.Answer.the-variants.{Sealed, OutsideRules, ShortBuffer}
 use Rattle.network.specs.Address.{kindOf, isUnicast, destinationKind, addressesAllowed}
-use Rattle.network.specs.Candidates.{keyAt, candidates}
+use Rattle.network.specs.Candidates.{keyAt}
 use Rattle.network.specs.Opening.{opening}
 use Rattle.network.specs.Sealing.{sealable, sealing}
 use Rattle.network.proofs.Sealed.{within}
@@ -54,9 +54,9 @@ use Rattle.sending.specs.Acknowledge.{acknowledging}
 use Rattle.sending.specs.Transmission.{nextSeq, withNext, stamped, noTransmission, sentAs, transmitted}
 use Rattle.demands.specs.Call.{Call, Hear, Acknowledge, Outcome, Heard, step, left}
 use Rattle.demands.specs.Interleaved as scene
-use Rattle.demands.specs.Interleaved.{Event, Segment, Foreign, Ask, Arrival, speechAt, callAs, callOf, comeWith, isLastMissing, Spent, Comes, Arrives, storedAs, isStored, handedAs, handed}
+use Rattle.demands.specs.Interleaved.{Event, Segment, Foreign, Ask, Arrival, speechAt, callAs, callOf, comeWith, isLastMissing, Spent, Comes, Arrives, storedAs, isStored, tried, handedAs, handed}
 use Rattle.demands.specs.Refusal.{noKeyOpens}
-use Rattle.demands.specs.Speech.{Speech, lastOf, headerOf, segmentPdu, Speakable, Handed, handUp}
+use Rattle.demands.specs.Speech.{Speech, lastOf, headerOf, segmentPdu, Speakable, Handed, handUp, Tried, networkPlace, applicationPlace}
 use Rattle.demands.proofs.Invariant.{good-step}
 use Rattle.demands.proofs.Refusal.{unopened-leaves}
 use Rattle.demands.proofs.SceneLaws.{seen-or-new, speakerOf, Scenery, unicast-some, entry-room, session-room}
@@ -178,9 +178,19 @@ module _ (node : Node) (speeches : List Speech) (spent : Spent) where
   StoresAt filled (Foreign pdu) o = Unit {0}
   StoresAt filled (Ask net src) o = Unit {0}
 
+  -- a segment's network key is tried at its place, and application keys where the message is handed up
+  abbrev pub CountsAt : (ℕ → ℕ) → Event → Outcome → Type 0
+  CountsAt filled (Segment k i seq ttl) o =
+      let s = speechAt speeches k in
+      tried o
+      ≡ record { network = networkPlace node s; application = if isLastMissing (filled k) i (lastOf node s) then applicationPlace node s (s .words) else 0 }
+  CountsAt filled (Foreign pdu) o = Unit {0}
+  CountsAt filled (Ask net src) o = Unit {0}
+
   pub record Next (r : Receiver) (filled : ℕ → ℕ) (e : Event) (c : Call) : Type 0 where
     pub hands : handed (step r c) ≡ dueOf filled e
     pub stores : StoresAt filled e (step r c)
+    pub counts : CountsAt filled e (step r c)
     pub scenery : Seen (left (step r c)) (λ k. comeWith k (filled k) e)
 
   module _ (made : WellMade node) (few : length speeches ≤ 8) (speak : (k : ℕ) → k < length speeches → Speakable node (speechAt speeches k))
@@ -201,7 +211,7 @@ module _ (node : Node) (speeches : List Speech) (spent : Spent) where
       q = withCache r (remembered (r .cache) (s .src) seq)
 
       abbrev trials : ℕ
-      trials = length (candidates (node .keys) (s .network) (keyAt (node .keys) (s .network) .nid)) + 1
+      trials = networkPlace node s
 
       abbrev t : Lent Taken
       t = segments.placed q h (segmentAt node s i) msg
@@ -242,6 +252,7 @@ module _ (node : Node) (speeches : List Speech) (spent : Spent) where
           record {
             hands = ap handed o ∙ rw there refl;
             stores = λ f _. absurd (true≢false (sym there ∙ f));
+            counts = ap tried o ∙ rw there refl;
             scenery = rw (ap left o) (refilled r filled _ more sc);
           }
 
@@ -258,6 +269,7 @@ module _ (node : Node) (speeches : List Speech) (spent : Spent) where
       record Does : Type 0 where
         hands-as : handed (step r (Hear pdu fwd msg)) ≡ handedAs (t .answer .answer) (t .buffer)
         stored-as : isStored (step r (Hear pdu fwd msg)) ≡ storedAs (t .answer .answer)
+        tried-as : tried (step r (Hear pdu fwd msg)) ≡ record { network = trials; application = t .answer .trials }
         left-is : left (step r (Hear pdu fwd msg)) ≡ t .answer .receiver
 
       leaves : seen (r .cache) (s .src) seq ≡ false → Leaves r pdu fwd msg wide big h trials opens t
@@ -272,6 +284,9 @@ module _ (node : Node) (speeches : List Speech) (spent : Spent) where
           record {
             hands-as = ap (λ (a : Answer). handedAs a (hearing r pdu fwd msg .message)) (l .answers) ∙ ap (handedAs (t .answer .answer)) (l .message-is);
             stored-as = ap storedAs (l .answers);
+            tried-as =
+                ap (λ (n : ℕ). record { network = n; application = hearing r pdu fwd msg .heard .application }) (l .network-is)
+                ∙ ap (λ (n : ℕ). record { network = trials; application = n }) (l .application-is);
             left-is = l .left-is;
           }
 
@@ -313,6 +328,7 @@ module _ (node : Node) (speeches : List Speech) (spent : Spent) where
           record {
             hands = l .hands-as ∙ steps .due;
             stores = λ f g. l .stored-as ∙ rw (steps .stores f g) refl;
+            counts = l .tried-as ∙ ap (λ (n : ℕ). record { network = trials; application = n }) (steps .counts);
             scenery =
                 record {
                   good = hears;
@@ -333,10 +349,11 @@ module _ (node : Node) (speeches : List Speech) (spent : Spent) where
     event-next (Foreign pdu) c =
         let none : noKeyOpens (opening (r .node .keys) (r .node .networks) (r .node .iv) pdu .answer) ≡ true = rw (sc .same) c in
         let u = unopened-leaves r pdu fwd msg none in
-        record { hands = foreign-none r pdu fwd msg none; stores = tt {0}; scenery = rw (u .receiver-stays) sc }
+        record { hands = foreign-none r pdu fwd msg none; stores = tt {0}; counts = tt {0}; scenery = rw (u .receiver-stays) sc }
     event-next (Ask net src) c =
         record {
           hands = refl;
           stores = tt {0};
+          counts = tt {0};
           scenery = kept-scene r _ filled (kept-acknowledging r net src fwd) (good-step r (Acknowledge net src fwd) (sc .good)) sc;
         }

@@ -60,13 +60,14 @@ use Rattle.demands.specs.Interleaved as scene
 use Rattle.demands.specs.Interleaved.{Spent, start, nodeOf, speechAt, Each, handed}
 use Rattle.demands.specs.NeverTwice.{made}
 use Rattle.demands.specs.ReadBack.{sayCall, restOf, pduMade, pdus, outcomes, saidBy, Shared, OwnKeyFirst, OwnMessageFirst, Sending, Heard, ReadBack}
-use Rattle.demands.specs.Speech.{Words, Access, Control, Speech, keyOf, aidOf, akfOf, envelopeOf, octetsOf, lastOf, headerOf, segmentPdu, Speakable, Handed, handUp}
+use Rattle.demands.specs.Speech.{Words, Access, Control, Speech, keyOf, aidOf, akfOf, envelopeOf, octetsOf, lastOf, headerOf, segmentPdu, Speakable, Handed, handUp, Tried, networkPlace, applicationPlace}
 use Rattle.demands.proofs.SaidLaws.{KeySame, key-same, keys-allowed, envelope-same, octets-same, access-fits, access-read, opcode-range, words-of, near, held, element-there, Kept, kept, access-stamped}
 use Rattle.demands.proofs.SceneLaws.{begins, unicast-some}
 use Rattle.demands.proofs.SegmentsHeard.{heard-in-order}
 use Rattle.demands.proofs.SegmentsSent.{Can, pduAt, Keeps, keeps-next, can-said, pdu-said, Rest, rest-sent}
 use Rattle.demands.proofs.SentLaws.{Transmits, SaidBy, StartedBy, allowedAs, wholeAs, headerAs, keptAs, sendingAs, Way, Whole, Begun, way}
 use Rattle.demands.proofs.SpeechLaws.{padded-behind, taken-back, aid-low, last-low, formed}
+use Rattle.demands.proofs.WholeHeard.{Reads}
 use Rattle.demands.proofs.WholeSent.{wholeHeader, Passes, access-whole, control-whole}
 
 -- each of a table is one of its places
@@ -230,7 +231,7 @@ module _ (sender : Receiver) (setup : Setup) (q : Request) (words : Words) (buf 
     read-segments =
         let x = heard-in-order node well s speaks spent (λ n. first + n) (ttlOf (q .ttl)) fwd msg wide big sent last 0 (omega arith) (start setup) (λ _. 0)
         (begins setup (p .between .ready) (s ∷ []) spent one) refl in
-        subst Read (sym made-are) (record { hands = x .hands; stores = x .stores })
+        subst Read (sym made-are) (record { hands = x .hands; stores = x .stores; counts = x .counts })
 
   -- ---- whole
   module _ (b : SaidBy sender (q .element) (headerAs sender q words) said) where
@@ -267,9 +268,14 @@ module _ (sender : Receiver) (setup : Setup) (q : Request) (words : Words) (buf 
           big = big;
         }
 
-    read-one : q .network ≡ headerAs sender q words .key → handed (step (start setup) (Hear (pduOf (keyAt (node .keys) (q .network)) h) fwd msg)) ≡ handUp s ∷ []
+    read-one :
+        q .network ≡ headerAs sender q words .key
+        → Reads setup (pduOf (keyAt (node .keys) (q .network)) h) fwd msg (handUp s)
+        (record { network = networkPlace node s; application = applicationPlace node s words })
         → Read (madeOf (Said said))
-    read-one e g = subst Read (sym (made-one (q .network) (sym e))) (record { hands = ap (λ (x : List Handed). x ∷ []) g; stores = tt {0} })
+    read-one e g =
+        subst Read (sym (made-one (q .network) (sym e)))
+        (record { hands = ap (λ (x : List Handed). x ∷ []) (g .hands); stores = tt {0}; counts = ap (λ (x : Tried). x ∷ []) (g .counts) })
 
 -- ---- the promise
 module _ (sender : Receiver) (setup : Setup) (q : Request) (buf fwd msg : List ℕ) (wide : 29 ≤ length fwd) (big : 384 ≤ length msg) where

@@ -19,9 +19,9 @@ use Rattle.node.specs.Made.{WellMade}
 use Rattle.receiver.specs.declared.state.Receiver.{Receiver}
 use Rattle.demands.specs.Call.{Call, Hear, step, left, run}
 use Rattle.demands.specs.Interleaved as scene
-use Rattle.demands.specs.Interleaved.{Segment, speechAt, comeWith, isLastMissing, Spent, handed}
-use Rattle.demands.specs.ReadBack.{lastOnly, storedFirst, hearAll}
-use Rattle.demands.specs.Speech.{Speech, lastOf, segmentPdu, Speakable, Handed, handUp}
+use Rattle.demands.specs.Interleaved.{Segment, speechAt, comeWith, isLastMissing, Spent, handed, tried}
+use Rattle.demands.specs.ReadBack.{lastOnly, storedFirst, countedLast, hearAll}
+use Rattle.demands.specs.Speech.{Speech, lastOf, segmentPdu, Speakable, Handed, handUp, Tried, networkPlace}
 use Rattle.demands.proofs.ArrivalLaws.{Next, event-next}
 use Rattle.demands.proofs.SceneLaws.{speakerOf, Scenery}
 use Rattle.demands.proofs.SpeechLaws.{last-low}
@@ -86,6 +86,7 @@ module _ (node : Node) (made : WellMade node) (s : Speech) (w : Speakable node s
   pub record InOrder (r : Receiver) (n m : ℕ) : Type 0 where
     pub hands : map handed (run r (hearAll fwd msg (told n m))) ≡ lastOnly (handUp s) (told n m)
     pub stores : storedFirst (run r (hearAll fwd msg (told n m)))
+    pub counts : map tried (run r (hearAll fwd msg (told n m))) ≡ countedLast node s (told n m)
 
   pub heard-in-order :
       (m n : ℕ) → n + m ≡ lastOf node s → (r : Receiver) (filled : ℕ → ℕ) → Scenery node (s ∷ []) spent r filled → filled 0 ≡ below n → InOrder r n m
@@ -93,13 +94,16 @@ module _ (node : Node) (made : WellMade node) (s : Speech) (w : Speakable node s
       let low = last-low node s w in
       let x = next r filled sc n (omega arith) in
       let here : n ≡ lastOf node s = omega arith in
-      record { hands = rw (x .hands, f, last-here n (lastOf node s) (omega arith) here) refl; stores = tt {0} }
+      let l = last-here n (lastOf node s) (omega arith) here in
+      record { hands = rw (x .hands, f, l) refl; stores = tt {0}; counts = rw (x .counts, f, l) refl }
   heard-in-order (suc m) n e r filled sc f =
       let low = last-low node s w in
       let x = next r filled sc n (omega arith) in
       let y = heard-in-order m (suc n) (omega arith) (left (step r (Hear (pduAt n) fwd msg))) (λ k. comeWith k (filled k) (Segment 0 n (number n) ttl)) (x .scenery)
       (rw f (below-more n (omega arith))) in
+      let b = not-last n (lastOf node s) (omega arith) low in
       record {
-        hands = rw (x .hands, f, not-last n (lastOf node s) (omega arith) low) (ap (λ (l : List (List Handed)). [] ∷ l) (y .hands));
+        hands = rw (x .hands, f, b) (ap (λ (l : List (List Handed)). [] ∷ l) (y .hands));
         stores = (x .stores (rw f (below-clear n)) (rw f (another n (omega arith))), y .stores);
+        counts = rw (x .counts, f, b) (ap (λ (l : List Tried). record { network = networkPlace node s; application = 0 } ∷ l) (y .counts));
       }

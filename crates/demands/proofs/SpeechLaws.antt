@@ -69,7 +69,7 @@ use Rattle.receiver.specs.declared.answer.Taken.{Taken}
 use Rattle.receiver.specs.declared.state.Receiver.{Receiver}
 use Rattle.receiver.specs.Hearing.{takenAs}
 use Rattle.receiver.specs.Segmented as segments
-use Rattle.demands.specs.Speech.{Words, Access, Control, Speech, isControl, szmicOf, keyOf, aidOf, akfOf, firstOf, envelopeOf, cutOf, octetsOf, sizeOf, lastOf, segmentOf, headerOf, Fits, WordsRead, Speakable, Handed, handUpAs, handUp}
+use Rattle.demands.specs.Speech.{Words, Access, Control, Speech, isControl, szmicOf, keyOf, aidOf, akfOf, firstOf, envelopeOf, cutOf, octetsOf, sizeOf, lastOf, segmentOf, headerOf, Fits, WordsRead, Speakable, Handed, handUpAs, handUp, applicationPlace}
 
 -- ---- octets in an array with room for them
 module _ (n : ℕ) (l : List ℕ) (short : length l ≤ n) where
@@ -186,14 +186,13 @@ module _ (node : Node) (s : Speech) where
       }
 
   -- ---- the message opens again
-  -- AID has 6 bits, AKF 0 needs a unicast DST, and the receiver's keys give the payload after so many trials
+  -- AID has 6 bits, AKF 0 needs a unicast DST, and the receiver's keys give the payload, the message's own being tried at its place
   pub record Opens (key : MessageKey) (szmic : Bool) (payload msg : List ℕ) : Type 0 where
     pub aid-fits : aidOf node key < 64
     pub unicast : akfOf key ≡ false → isUnicast (s .dst) ≡ true
-    pub trials : ℕ
     pub opens-to :
         unsecuring (node .secrets) (node .applications) (node .device) (envelopeOf node s key szmic) (octetsOf node s) msg
-        ≡ lent (Message key trials (length payload)) (onto payload msg)
+        ≡ lent (Message key (applicationPlace node s (Access key szmic payload)) (length payload)) (onto payload msg)
 
   module _ (made : WellMade node) (szmic : Bool) (payload msg : List ℕ) (room : 384 ≤ length msg) where
     fits-here : (key : MessageKey) → s .words ≡ Access key szmic payload → Fits payload (octetsOf node s) 384 → message.Fits payload msg
@@ -209,7 +208,6 @@ module _ (node : Node) (s : Speech) where
         record {
           aid-fits = rw (made .aid-derived j (omega arith)) (aid-low (applicationKeyAt (node .secrets) j .key));
           unicast = λ f. absurd (true≢false f);
-          trials = length (applicationCandidates (node .secrets) j (envelopeOf node s (Application j) szmic)) + 1;
           opens-to =
               rw c
               (unsecure-secure (node .secrets) (node .applications) j (node .device) (envelopeOf node s (Application j) szmic) payload msg
@@ -219,7 +217,6 @@ module _ (node : Node) (s : Speech) where
         record {
           aid-fits = omega arith;
           unicast = λ _. q .1;
-          trials = 0;
           opens-to =
               rw (cut-is (Access Device szmic payload) e)
               (unsecure-secure-device (node .secrets) (node .applications) (node .device) (envelopeOf node s Device szmic) payload msg (fits-here Device e (q .0)) refl);
@@ -409,12 +406,11 @@ module _ (node : Node) (made : WellMade node) (s : Speech) (w : Speakable node s
   abbrev up : List ℕ → Lent Taken
   up msg = if isControl (s .words) then segments.controlUp r session msg else segments.accessUp r session msg
 
-  -- the message is handed up, after so many trials of application keys
-  pub record Up (msg : List ℕ) : Type 0 where
-    pub trials : ℕ
-    pub is :
-        up msg
-        ≡ lent (record { answer = handUp s .answer; trials = trials; receiver = segments.upgraded r session }) (onto (handUp s .octets) msg)
+  -- the message is handed up, its application key tried at its place
+  abbrev pub Up : List ℕ → Type 0
+  Up msg =
+      up msg
+      ≡ lent (record { answer = handUp s .answer; trials = applicationPlace node s (s .words); receiver = segments.upgraded r session }) (onto (handUp s .octets) msg)
 
   module _ (msg : List ℕ) (room : 384 ≤ length msg) (all : take len bytes ≡ octetsOf node s) where
     envelope-is :
@@ -424,24 +420,32 @@ module _ (node : Node) (made : WellMade node) (s : Speech) (w : Speakable node s
         rw (ap (firstOf node) e, ap szmicOf e, akf-access true (akfOf key) (aidOf node key), aid-access true (akfOf key) (aidOf node key) low) refl
 
     opened-up :
-        (key : MessageKey) (szmic : Bool) (payload : List ℕ) (trials : ℕ) → s .words ≡ Access key szmic payload → aidOf node key < 64
-        → unsecuring (node .secrets) (node .applications) (node .device) (envelopeOf node s key szmic) (octetsOf node s) msg
-        ≡ lent (Message key trials (length payload)) (onto payload msg)
-        → Up msg
+        (key : MessageKey) (szmic : Bool) (payload : List ℕ) → s .words ≡ Access key szmic payload → Opens node s key szmic payload msg → Up msg
     unfolding segments.accessUp segments.accessUpAs segments.messageOf
-    opened-up key szmic payload trials e low u =
-        record { trials = trials; is = rw (same, envelope-is key szmic payload e low, all, ap isControl e, u, ap (handUpAs s) e) refl }
+    opened-up key szmic payload e o =
+        rw (
+          same,
+          envelope-is key szmic payload e (o .aid-fits),
+          all,
+          ap isControl e,
+          o .opens-to,
+          ap (handUpAs s) e,
+          ap (applicationPlace node s) e,
+        ) refl
 
     up-as : (ws : Words) → s .words ≡ ws → WordsRead node s ws → Up msg
     unfolding segments.controlUp segments.messageOf
-    up-as (Access key szmic payload) e q =
-        let o = message-opens node s made szmic payload msg room key e q in
-        opened-up key szmic payload (o .trials) e (o .aid-fits) (o .opens-to)
+    up-as (Access key szmic payload) e q = opened-up key szmic payload e (message-opens node s made szmic payload msg room key e q)
     up-as (Control code parameters) e q =
-        record {
-          trials = 0;
-          is = rw (ap isControl e, ap (firstOf node) e, opcode-control true code (q .1 .opcode-fits), all, cut-is node s (Control code parameters) e, ap (handUpAs s) e) refl;
-        }
+        rw (
+          ap isControl e,
+          ap (firstOf node) e,
+          opcode-control true code (q .1 .opcode-fits),
+          all,
+          cut-is node s (Control code parameters) e,
+          ap (handUpAs s) e,
+          ap (applicationPlace node s) e,
+        ) refl
 
     pub session-up : Up msg
     session-up = up-as (s .words) refl (w .words-read)

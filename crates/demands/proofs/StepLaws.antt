@@ -38,10 +38,10 @@ use Rattle.receiver.specs.Good.{Good}
 use Rattle.receiver.specs.Segmented as segments
 use Rattle.receiver.specs.State.{withSession}
 use Rattle.demands.specs.Interleaved.{isLastMissing, handedAs}
-use Rattle.demands.specs.Speech.{Words, Access, Control, Speech, isControl, lastOf, headerOf, Speakable, Handed, handUpAs, handUp}
+use Rattle.demands.specs.Speech.{Words, Access, Control, Speech, isControl, lastOf, headerOf, Speakable, Handed, handUpAs, handUp, applicationPlace}
 use Rattle.demands.proofs.GatherLaws.{Holds, holds-begun, stored-is, newLen, newBytes, holds-more, holds-all}
 use Rattle.demands.proofs.RoomLaws.{Owned, owned-set}
-use Rattle.demands.proofs.SpeechLaws.{last-low, sessionOf, Up, session-up}
+use Rattle.demands.proofs.SpeechLaws.{last-low, sessionOf, session-up}
 use Rattle.demands.proofs.StageLaws.{entryOf, segmentAt, Stage, Silent, Gathers, Done, decide-done, decide-silent, decide-repeat, decide-join, stage-other, freed-none}
 
 -- the speakers' sessions and entries
@@ -61,6 +61,8 @@ pub record Step (node : Node) (s : Speech) (r : Receiver) (bits i : ℕ) (t : Le
   -- it is stored where it is new and another is missing
   pub stores :
       hasBit bits i ≡ false → eqb (withBit bits i) (allBits (lastOf node s)) ≡ false → t .answer .answer ≡ Stored (s .src) (s .auth) (withBit bits i)
+  -- and application keys are tried where the message is handed up
+  pub counts : t .answer .trials ≡ (if isLastMissing bits i (lastOf node s) then applicationPlace node s (s .words) else 0)
   -- its place is filled
   pub own : Stage node s (t .answer .receiver .replay) (t .answer .receiver .sessions) (withBit bits i)
   -- another source's stage stays
@@ -99,6 +101,7 @@ module _ (node : Node) (made : WellMade node) (s : Speech) (w : Speakable node s
         record {
           due = rw b e;
           stores = λ f _. absurd (true≢false (sym b ∙ f));
+          counts = rw b refl;
           own = rw (with-of-set bits i b) st;
           others = λ o n _ _ k. k;
           sessions-owned = λ n f k h q o. o;
@@ -138,6 +141,7 @@ module _ (node : Node) (made : WellMade node) (s : Speech) (w : Speakable node s
           record {
             due = rw (last-missing bits i (lastOf node s) fresh false c) refl;
             stores = λ _ _. refl;
+            counts = rw (last-missing bits i (lastOf node s) fresh false c) refl;
             own =
                 Gathers len bytes some (eqb-false filled (allBits (lastOf node s)) c)
                 (rw (place-set-own (r .sessions) slot session (omega arith) before) within)
@@ -169,14 +173,15 @@ module _ (node : Node) (made : WellMade node) (s : Speech) (w : Speakable node s
           by-choice (EntriesOwned n speaker) (ltb (entryPlace l (s .src)) 32) (λ _. put _ _ refl) (λ _. put _ _ refl)
 
       up-step :
-          eqb filled (allBits (lastOf node s)) ≡ true → (trials : ℕ)
-          → Step node s r bits i
-          (lent (record { answer = handUp s .answer; trials = trials; receiver = segments.upgraded (withSession r slot noSession) session }) (onto (handUp s .octets) msg))
+          eqb filled (allBits (lastOf node s)) ≡ true
+          → (let q = segments.upgraded (withSession r slot noSession) session in
+          Step node s r bits i (lent (record { answer = handUp s .answer; trials = applicationPlace node s (s .words); receiver = q }) (onto (handUp s .octets) msg)))
       unfolding segments.upgraded
-      up-step c trials =
+      up-step c =
           record {
             due = rw (last-missing bits i (lastOf node s) fresh true c) (handed-up s (s .words) msg);
             stores = λ _ f. absurd (true≢false (sym c ∙ f));
+            counts = rw (last-missing bits i (lastOf node s) fresh true c) refl;
             own =
                 Done (eqb-true filled (allBits (lastOf node s)) c) (freed-none (r .sessions) slot (s .src) long spoken only) entry-own;
             others = λ o b n z k.
@@ -194,7 +199,7 @@ module _ (node : Node) (made : WellMade node) (s : Speech) (w : Speakable node s
           (λ c.
           let all = subst (λ (b : ℕ). Holds node s b len bytes) (eqb-true filled (allBits (lastOf node s)) c) holds in
           let u = session-up node made s w (withSession r slot noSession) same filled len bytes msg big (holds-all node s w len bytes all) in
-          rw c (subst (Step node s r bits i) (sym (u .is)) (up-step c (u .trials))))
+          rw c (subst (Step node s r bits i) (sym u) (up-step c)))
           (λ c. rw c (stored-step c))
 
     -- ---- at each stage

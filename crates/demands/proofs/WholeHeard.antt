@@ -56,8 +56,14 @@ use Rattle.receiver.specs.State.{withCache}
 use Rattle.receiver.specs.Whole as whole
 use Rattle.receiver.proofs.Laws.{heard-new}
 use Rattle.demands.specs.Call.{Hear, step}
-use Rattle.demands.specs.Interleaved.{start, nodeOf, handedAs, handed}
+use Rattle.demands.specs.Interleaved.{start, nodeOf, handedAs, handed, tried}
+use Rattle.demands.specs.Speech.{Handed, Tried}
 use Rattle.demands.proofs.SceneLaws.{seen-none}
+
+-- what a fresh receiver hands up of one PDU, and the keys that it counts
+pub record Reads (setup : Setup) (pdu fwd msg : List ℕ) (m : Handed) (n : Tried) : Type 0 where
+  pub hands : handed (step (start setup) (Hear pdu fwd msg)) ≡ m ∷ []
+  pub counts : tried (step (start setup) (Hear pdu fwd msg)) ≡ n
 
 -- a fresh receiver admits every message
 admits : (h : Header) → whole.admission noEntries h ≡ Admitted
@@ -83,12 +89,20 @@ module _ (setup : Setup) (h : Header) (sealed : sealable (keyAt (nodeOf setup .k
   abbrev t : Form → Lent Taken
   t f = takenAs f q h msg
 
-  -- what is handed up is what the message of its form hands up
-  heard-whole : (f : Form) → formOf h ≡ f → handed (step (start setup) (Hear pdu fwd msg)) ≡ handedAs (t f .answer .answer) (t f .buffer)
+  -- the place of its network key
+  abbrev place : ℕ
+  place = length (candidates (nodeOf setup .keys) (h .key) (keyAt (nodeOf setup .keys) (h .key) .nid)) + 1
+
+  -- what is handed up and counted is what the message of its form hands up and counts
+  record Whole (f : Form) : Type 0 where
+    hands-as : handed (step (start setup) (Hear pdu fwd msg)) ≡ handedAs (t f .answer .answer) (t f .buffer)
+    tried-as : tried (step (start setup) (Hear pdu fwd msg)) ≡ record { network = place; application = t f .answer .trials }
+
+  heard-whole : (f : Form) → formOf h ≡ f → Whole f
   heard-whole f e =
-      let l = heard-new (start setup) pdu fwd msg wide big h _ (open-seal (nodeOf setup .keys) (nodeOf setup .networks) (nodeOf setup .iv) h sealed formed receives) unseen here
+      let l = heard-new (start setup) pdu fwd msg wide big h place (open-seal (nodeOf setup .keys) (nodeOf setup .networks) (nodeOf setup .iv) h sealed formed receives) unseen here
       (t f) (ap t e) in
-      rw (l .answers, l .message-is) refl
+      record { hands-as = rw (l .answers, l .message-is) refl; tried-as = rw (l .network-is, l .application-is) refl }
 
   replay-none : q .replay ≡ noEntries
   unfolding settingUp
@@ -100,21 +114,31 @@ module _ (setup : Setup) (h : Header) (sealed : sealable (keyAt (nodeOf setup .k
       → (let node = nodeOf setup in
       unsecuring (node .secrets) (node .applications) (node .device) (whole.wholeEnvelope h akf aid) (drop 1 (transportOf h)) msg
       ≡ lent (Message key trials (length payload)) (onto payload msg))
-      → handed (step (start setup) (Hear pdu fwd msg))
-      ≡ record { answer = answer.Access (h .src) (h .dst) (h .key) key (whole.pairOf h) (length payload); octets = payload } ∷ []
+      → Reads setup pdu fwd msg (record { answer = answer.Access (h .src) (h .dst) (h .key) key (whole.pairOf h) (length payload); octets = payload })
+      (record { network = place; application = trials })
   unfolding takenAs whole.wholeAccess whole.unless whole.openedWhole whole.openedAs
   access-heard akf aid trials key payload f u =
-      heard-whole (form.Access akf aid) f
-      ∙ rw (replay-none, admits h, u)
-      (ap (λ (l : List ℕ). record { answer = answer.Access (h .src) (h .dst) (h .key) key (whole.pairOf h) (length payload); octets = l } ∷ []) (take-append-seam payload _))
+      let x = heard-whole (form.Access akf aid) f in
+      record {
+        hands =
+            x .hands-as
+            ∙ rw (replay-none, admits h, u)
+            (ap (λ (l : List ℕ). record { answer = answer.Access (h .src) (h .dst) (h .key) key (whole.pairOf h) (length payload); octets = l } ∷ []) (take-append-seam payload _));
+        counts = x .tried-as ∙ rw (replay-none, admits h, u) refl;
+      }
 
   -- ---- a control message
   pub control-heard :
       (code : ℕ) (parameters : List ℕ) → formOf h ≡ form.Control code → drop 1 (transportOf h) ≡ parameters
-      → handed (step (start setup) (Hear pdu fwd msg))
-      ≡ record { answer = answer.Control (h .src) (h .dst) (h .key) code (whole.pairOf h) (length parameters); octets = parameters } ∷ []
+      → Reads setup pdu fwd msg (record { answer = answer.Control (h .src) (h .dst) (h .key) code (whole.pairOf h) (length parameters); octets = parameters })
+      (record { network = place; application = 0 })
   unfolding takenAs whole.wholeControl whole.unless whole.wholeControlUp
   control-heard code parameters f m =
-      heard-whole (form.Control code) f
-      ∙ rw (replay-none, admits h, m)
-      (ap (λ (l : List ℕ). record { answer = answer.Control (h .src) (h .dst) (h .key) code (whole.pairOf h) (length parameters); octets = l } ∷ []) (take-append-seam parameters _))
+      let x = heard-whole (form.Control code) f in
+      record {
+        hands =
+            x .hands-as
+            ∙ rw (replay-none, admits h, m)
+            (ap (λ (l : List ℕ). record { answer = answer.Control (h .src) (h .dst) (h .key) code (whole.pairOf h) (length parameters); octets = l } ∷ []) (take-append-seam parameters _));
+        counts = x .tried-as ∙ rw (replay-none, admits h) refl;
+      }

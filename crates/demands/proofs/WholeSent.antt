@@ -39,10 +39,10 @@ use Rattle.node.specs.Addresses.{forNode}
 use Rattle.node.specs.Made.{WellMade}
 use Rattle.receiver.specs.Whole.{wholeEnvelope}
 use Rattle.demands.specs.Call.{Hear, step}
-use Rattle.demands.specs.Interleaved.{start, nodeOf, handed}
-use Rattle.demands.specs.Speech.{Words, Access, Control, Speech, keyOf, aidOf, akfOf, envelopeOf, octetsOf, Fits, WordsRead, Handed, handUp}
+use Rattle.demands.specs.Interleaved.{start, nodeOf}
+use Rattle.demands.specs.Speech.{Words, Access, Control, Speech, keyOf, aidOf, akfOf, envelopeOf, octetsOf, Fits, WordsRead, handUp, networkPlace, applicationPlace}
 use Rattle.demands.proofs.SpeechLaws.{padded-behind, taken-back, cut-is, message-opens}
-use Rattle.demands.proofs.WholeHeard.{access-heard, control-heard}
+use Rattle.demands.proofs.WholeHeard.{Reads, access-heard, control-heard}
 
 -- the header of a speech that goes in one PDU: its pair is the PDU's own
 abbrev pub wholeHeader : Speech → Bool → ℕ → List ℕ → Header
@@ -73,8 +73,11 @@ module _ (setup : Setup) (s : Speech) (ttl : ℕ) (fwd msg : List ℕ) where
   abbrev node : Node
   node = nodeOf setup
 
-  abbrev heard : Header → List Handed
-  heard h = handed (step (start setup) (Hear (pduOf (keyAt (node .keys) (s .network)) h) fwd msg))
+  -- the message is handed up, each of its keys tried at its place
+  abbrev pub Heard : Header → Type 0
+  Heard h =
+      Reads setup (pduOf (keyAt (node .keys) (s .network)) h) fwd msg (handUp s)
+      (record { network = networkPlace node s; application = applicationPlace node s (s .words) })
 
   -- ---- a transport PDU in its header
   module _ (ctl : Bool) (first : ℕ) (body : List ℕ) (short : length (first ∷ body) ≤ 16) where
@@ -96,14 +99,14 @@ module _ (setup : Setup) (s : Speech) (ttl : ℕ) (fwd msg : List ℕ) where
   -- ---- control
   pub control-whole :
       (code : ℕ) (parameters : List ℕ) → s .words ≡ Control code parameters → OpcodeInRange code → length parameters ≤ 11
-      → (let h = wholeHeader s true ttl (controlOctet false code ∷ parameters) in Passes setup s h fwd msg → heard h ≡ handUp s ∷ [])
+      → (let h = wholeHeader s true ttl (controlOctet false code ∷ parameters) in Passes setup s h fwd msg → Heard h)
   control-whole code parameters e o m p =
       let short : length (controlOctet false code ∷ parameters) ≤ 16 = omega arith in
       let first = controlOctet false code in
       let h = wholeHeader s true ttl (first ∷ parameters) in
-      control-heard setup h (p .can) (formed true first parameters short (p .dst-fits)) (p .receives) (p .spoken) (p .here) fwd msg (p .wide) (p .big) code parameters
-      (control-reads-back h code (carries true first parameters short) o) (body-is true first parameters short)
-      ∙ rw e refl
+      rw e
+      (control-heard setup h (p .can) (formed true first parameters short (p .dst-fits)) (p .receives) (p .spoken) (p .here) fwd msg (p .wide) (p .big) code parameters
+      (control-reads-back h code (carries true first parameters short) o) (body-is true first parameters short))
 
   -- ---- access
   module _ (made : WellMade node) (key : MessageKey) (payload : List ℕ) (e : s .words ≡ Access key false payload) (read : WordsRead node s (Access key false payload))
@@ -136,15 +139,19 @@ module _ (setup : Setup) (s : Speech) (ttl : ℕ) (fwd msg : List ℕ) where
     device-aid (Application i) f = absurd (true≢false f)
     device-aid Device f = refl
 
-    pub access-whole : (let h = wholeHeader s false ttl (octet ∷ secured-octets) in Passes setup s h fwd msg → heard h ≡ handUp s ∷ [])
+    pub access-whole : (let h = wholeHeader s false ttl (octet ∷ secured-octets) in Passes setup s h fwd msg → Heard h)
     access-whole p =
         let h = wholeHeader s false ttl (octet ∷ secured-octets) in
         let o = message-opens node s made false payload msg (p .big) key e read in
         let range = key-range (aidOf node key) (o .aid-fits) (λ f. (device-aid key f, o .unicast f)) in
         let some = read-some key read in
         let l = octets-long in
+        let x =
         access-heard setup h (p .can) (formed false octet secured-octets fits-one (p .dst-fits)) (p .receives) (p .spoken) (p .here) fwd msg (p .wide) (p .big)
-        (akfOf key) (aidOf node key) (o .trials) key payload
+        (akfOf key) (aidOf node key) (applicationPlace node s (Access key false payload)) key payload
         (access-reads-back h (akfOf key) (aidOf node key) (carries false octet secured-octets fits-one) range (omega arith))
-        (rw (body-is false octet secured-octets fits-one) (o .opens-to))
-        ∙ rw e refl
+        (rw (body-is false octet secured-octets fits-one) (o .opens-to)) in
+        record {
+          hands = x .hands ∙ rw e refl;
+          counts = x .counts ∙ ap (λ (w : Words). record { network = networkPlace node s; application = applicationPlace node s w }) (sym e);
+        }

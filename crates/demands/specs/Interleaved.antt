@@ -34,7 +34,7 @@ use Rattle.sending.specs.Acknowledge.{acknowledging, sayingAcknowledgement}
 use Rattle.sending.specs.Segment.{elementOf}
 use Rattle.demands.specs.Call.{Call, Hear, Acknowledge, Outcome, Heard, Said, Ended, step, run, after}
 use Rattle.demands.specs.Refusal.{noKeyOpens}
-use Rattle.demands.specs.Speech.{Control, Speech, lastOf, headerOf, segmentPdu, Speakable, Handed, handUp}
+use Rattle.demands.specs.Speech.{Control, Speech, lastOf, headerOf, segmentPdu, Speakable, Handed, handUp, Tried}
 
 -- ---- a fresh receiver
 abbrev pub start : Setup → Receiver
@@ -182,6 +182,12 @@ abbrev pub isStored : Outcome → Bool
 isStored (Heard o) = storedAs (o .heard .answer)
 isStored (Said s) = false
 isStored (Ended g) = false
+
+-- how many keys an answer counts as tried
+abbrev pub tried : Outcome → Tried
+tried (Heard o) = record { network = o .heard .network; application = o .heard .application }
+tried (Said s) = record { network = 0; application = 0 }
+tried (Ended g) = record { network = 0; application = 0 }
 
 abbrev pub dueAs : Node → List Speech → List Arrival → Event → List Handed
 dueAs node speeches before (Segment k i seq ttl) =

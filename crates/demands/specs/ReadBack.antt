@@ -31,9 +31,9 @@ use Rattle.sending.specs.Control.{controlAllowed}
 use Rattle.sending.specs.Transmission.{sendingIv, addressOf, nextSeq}
 use Rattle.demands.specs.Call.{Call, Hear, SendAccess, SendControl, SendSegment, Outcome, Said, Ended, step, run}
 use Rattle.demands.specs.Call as call
-use Rattle.demands.specs.Interleaved.{start, nodeOf, Each, handed, isStored}
+use Rattle.demands.specs.Interleaved.{start, nodeOf, Each, handed, isStored, tried}
 use Rattle.demands.specs.NeverTwice.{made, holds, octetsMade}
-use Rattle.demands.specs.Speech.{Words, Access, Control, Speech, envelopeOf, octetsOf, Handed, handUp}
+use Rattle.demands.specs.Speech.{Words, Access, Control, Speech, envelopeOf, octetsOf, Handed, handUp, Tried, networkPlace, applicationPlace}
 
 -- ---- the sender
 -- the call that sends a message
@@ -131,9 +131,16 @@ storedFirst (o ∷ p ∷ l) = (isStored o ≡ true) × storedFirst (p ∷ l)
 abbrev pub hearAll : List ℕ → List ℕ → List (List ℕ) → List Call
 hearAll fwd msg l = map (λ p. Hear p fwd msg) l
 
+-- each answer counts the network keys tried, up to the message's own, and the last the application keys likewise
+abbrev pub countedLast : Node → Speech → List (List ℕ) → List Tried
+countedLast node s [] = []
+countedLast node s (p ∷ []) = record { network = networkPlace node s; application = applicationPlace node s (s .words) } ∷ []
+countedLast node s (p ∷ r ∷ l) = record { network = networkPlace node s; application = 0 } ∷ countedLast node s (r ∷ l)
+
 pub record Heard (setup : Setup) (s : Speech) (fwd msg : List ℕ) (l : List (List ℕ)) : Type 0 where
   pub hands : map handed (run (start setup) (hearAll fwd msg l)) ≡ lastOnly (handUp s) l
   pub stores : storedFirst (run (start setup) (hearAll fwd msg l))
+  pub counts : map tried (run (start setup) (hearAll fwd msg l)) ≡ countedLast (nodeOf setup) s l
 
 abbrev pub ReadBack : Type 0
 ReadBack =

@@ -6,6 +6,7 @@
 --   headerOf node s i n t  its header, sent with sequence number n and arriving with TTL t
 --   Speakable node s       a speech that this node is to read
 --   handUp s               what is handed up of it
+--   networkPlace, applicationPlace    how many keys are tried for it
 -- Keys are named by their places in the receiver's own lists.
 use mathlib.Core.Bool.{Bool, true, false}
 use mathlib.Core.List.{List, _++_}
@@ -17,14 +18,14 @@ use Rattle.common.specs.Chunks.{chunk, chunkCount}
 use Rattle.common.specs.Lists.{padded}
 use Rattle.network.specs.declared.header.Header.{Header}
 use Rattle.network.specs.Address.{isUnicast}
-use Rattle.network.specs.Candidates.{keyAt}
+use Rattle.network.specs.Candidates.{keyAt, candidates}
 use Rattle.network.specs.Pdu.{pduOf}
 use Rattle.transport.specs.declared.securing.Envelope.{Envelope}
 use Rattle.transport.specs.declared.securing.MessageKey.{MessageKey}
 use Rattle.transport.specs.declared.securing.MessageKey.the-variants.{Application, Device}
 use Rattle.transport.specs.Ranges.{OpcodeInRange}
 use Rattle.transport.specs.SecureOpen as message
-use Rattle.transport.specs.Securing.{secured, applicationKeyAt}
+use Rattle.transport.specs.Securing.{secured, applicationKeyAt, applicationCandidates}
 use Rattle.transport.specs.Segment.{accessOctet, controlOctet, fullOctets, segmentFront}
 use Rattle.memory.specs.declared.pair.Pair.{Pair}
 use Rattle.node.specs.declared.addresses.Node.{Node}
@@ -167,3 +168,19 @@ handUpAs s (Control opcode parameters) =
 
 abbrev pub handUp : Speech → Handed
 handUp s = handUpAs s (s .words)
+
+-- ---- how many keys are tried
+-- what an answer counts
+pub record Tried : Type 0 where
+  pub network : ℕ
+  pub application : ℕ
+
+-- the place, from 1, of the message's network key among those with its NID
+abbrev pub networkPlace : Node → Speech → ℕ
+networkPlace node s = length (candidates (node .keys) (s .network) (keyAt (node .keys) (s .network) .nid)) + 1
+
+-- that of its application key among those that fit; the device key is not counted, and a control message has none
+abbrev pub applicationPlace : Node → Speech → Words → ℕ
+applicationPlace node s (Access (Application i) szmic payload) = length (applicationCandidates (node .secrets) i (envelopeOf node s (Application i) szmic)) + 1
+applicationPlace node s (Access Device szmic payload) = 0
+applicationPlace node s (Control opcode parameters) = 0

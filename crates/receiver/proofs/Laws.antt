@@ -165,6 +165,9 @@ module _ (r : Receiver) (pdu fwd msg : List ℕ) (wide : 29 ≤ length fwd) (big
     pub answers : hearing r pdu fwd msg .heard .answer ≡ t .answer .answer
     pub left-is : hearing r pdu fwd msg .heard .receiver ≡ t .answer .receiver
     pub message-is : hearing r pdu fwd msg .message ≡ t .buffer
+    -- the trials are those of opening it, and those of its message
+    pub network-is : hearing r pdu fwd msg .heard .network ≡ trials
+    pub application-is : hearing r pdu fwd msg .heard .application ≡ t .answer .trials
 
   -- it is new, and for this node: it is taken by its form
   pub heard-new :
@@ -175,4 +178,6 @@ module _ (r : Receiver) (pdu fwd msg : List ℕ) (wide : 29 ≤ length fwd) (big
         answers = rw (heard-opened, e, f) (ap (λ (x : Lent Taken). x .answer .answer) g);
         left-is = rw (heard-opened, e, f) (ap (λ (x : Lent Taken). x .answer .receiver) g);
         message-is = rw (heard-opened, e, f) (ap (λ (x : Lent Taken). x .buffer) g);
+        network-is = rw (heard-opened, e) refl;
+        application-is = rw (heard-opened, e, f) (ap (λ (x : Lent Taken). x .answer .trials) g);
       }
