@@ -244,7 +244,7 @@ module _ (node : Node) (speeches : List Speech) (spent : Spent) where
       again e =
           let there : hasBit (filled k) i ≡ true = rw (sent .number-spent) (sc .seen-come k seq (sent .one-of) e) in
           let o : step r (Hear pdu fwd msg) ≡ Heard (outcome (refusedHeard r refusal.Cached trials) fwd msg) =
-              ap Heard (heard-again r pdu fwd msg wide big h trials opens e) in
+          ap Heard (heard-again r pdu fwd msg wide big h trials opens e) in
           let more : (j : ℕ) → comeWith j (filled j) (Segment k i seq ttl) ≡ filled j =
           λ j. by-test (eqb k j)
           (λ u. rw u (with-of-set (filled j) i (subst (λ (n : ℕ). hasBit (filled n) i ≡ true) (eqb-true k j u) there)))

@@ -1,4 +1,4 @@
--- Determinacy: for each public operation of every crate, two outcomes that satisfy its contract are equal. A contract is one equation between the outcome
+-- Determinacy: for each public operation, but those by which programs read and write text, two outcomes that satisfy its contract are equal. A contract is one equation between the outcome
 -- (answer, new state and each lent buffer) and the definition named here, so one line an operation says which definition that is.
 use mathlib.Core.Bool.{Bool}
 use mathlib.Core.List.{List, _++_}

@@ -4,7 +4,7 @@
 --   sentInFull sender q words buf   that call, and one for each segment behind the first
 --   Shared                      the same keys and IV Index
 --   Between, Sending            the premises
---   ReadBack                    the promise
+--   ReadBack                    the promise: what is handed up, stored and counted
 --   GoesOut                     a request that is accepted is sent in full
 use mathlib.Core.Bool.{Bool, true, false}
 use mathlib.Core.List.{List, [], _∷_, map}
