@@ -2,17 +2,13 @@
 //
 // Each writes its answer to the first octets of out and says how many they are: none where the line is not of its form.
 ghost use Prim.Native.Nat.{_≤_};
-ghost use lib.ListN.{length};
-use super::field;
-use super::hex;
-use super::hex::Octets;
-use super::text;
 use modes::ccm::MicSize;
+use text::field;
+use text::hex;
+use text::hex::Octets;
 
 // Answers a request of this file.
-pub(crate) fn request(line: &[u8], out: &mut [u8]) -> usize
-    ensures { λ r. ⌜ r ≤ length (now (out .entry)) ⌝ }
-{
+pub(crate) fn request(line: &[u8], out: &mut [u8]) -> usize {
     let word = field::nth(line, 0);
     if common::equal(word, b"aes") {
         return encrypted(line, out);
@@ -30,9 +26,7 @@ pub(crate) fn request(line: &[u8], out: &mut [u8]) -> usize
 }
 
 // `aes KEY BLOCK`: the block, encrypted.
-fn encrypted(line: &[u8], out: &mut [u8]) -> usize
-    ensures { λ r. ⌜ r ≤ length (now (out .entry)) ⌝ }
-{
+fn encrypted(line: &[u8], out: &mut [u8]) -> usize {
     let mut key = [0u8; 16];
     let mut block = [0u8; 16];
     if !hex::fill(field::nth(line, 1), &mut key) || !hex::fill(field::last(line, 2), &mut block) {
@@ -42,9 +36,7 @@ fn encrypted(line: &[u8], out: &mut [u8]) -> usize
 }
 
 // `cmac KEY MESSAGE`: the MAC of the message.
-fn mac(line: &[u8], out: &mut [u8]) -> usize
-    ensures { λ r. ⌜ r ≤ length (now (out .entry)) ⌝ }
-{
+fn mac(line: &[u8], out: &mut [u8]) -> usize {
     let mut key = [0u8; 16];
     let mut message = [0u8; 384];
     if !hex::fill(field::nth(line, 1), &mut key) {
@@ -103,9 +95,7 @@ fn mic_size(octets: usize) -> MicSize {
 }
 
 // `seal KEY NONCE SIZE MESSAGE`: the message, encrypted, and its MIC.
-fn sealed(line: &[u8], out: &mut [u8]) -> usize
-    ensures { λ r. ⌜ r ≤ length (now (out .entry)) ⌝ }
-{
+fn sealed(line: &[u8], out: &mut [u8]) -> usize {
     let terms = terms_of(line);
     let key = terms.key;
     let nonce = terms.nonce;
@@ -127,9 +117,7 @@ fn sealed(line: &[u8], out: &mut [u8]) -> usize
 }
 
 // `open KEY NONCE SIZE SEALED`: the message that was sealed, or `refused`.
-fn opened(line: &[u8], out: &mut [u8]) -> usize
-    ensures { λ r. ⌜ r ≤ length (now (out .entry)) ⌝ }
-{
+fn opened(line: &[u8], out: &mut [u8]) -> usize {
     let terms = terms_of(line);
     let key = terms.key;
     let nonce = terms.nonce;

@@ -1,17 +1,13 @@
 // The requests on key derivation (MP 3.8.2).
 //
 // Each writes its answer to the first octets of out and says how many they are: none where the line is not of its form.
-ghost use Prim.Native.Nat.{_≤_};
-ghost use lib.ListN.{length};
-use super::field;
-use super::hex;
-use super::hex::Octets;
-use super::text;
+use super::parts;
+use text::field;
+use text::hex;
+use text::hex::Octets;
 
 // Answers a request of this file.
-pub(crate) fn request(line: &[u8], out: &mut [u8]) -> usize
-    ensures { λ r. ⌜ r ≤ length (now (out .entry)) ⌝ }
-{
+pub(crate) fn request(line: &[u8], out: &mut [u8]) -> usize {
     let word = field::nth(line, 0);
     if common::equal(word, b"s1") {
         return salt(line, out);
@@ -26,9 +22,7 @@ pub(crate) fn request(line: &[u8], out: &mut [u8]) -> usize
 }
 
 // `s1 MESSAGE`: the salt.
-fn salt(line: &[u8], out: &mut [u8]) -> usize
-    ensures { λ r. ⌜ r ≤ length (now (out .entry)) ⌝ }
-{
+fn salt(line: &[u8], out: &mut [u8]) -> usize {
     let mut message = [0u8; 384];
     let Octets::Count(n) = hex::read(field::last(line, 1), &mut message) else {
         return 0;
@@ -37,23 +31,19 @@ fn salt(line: &[u8], out: &mut [u8]) -> usize
 }
 
 // `k2 KEY`: NID, encryption key and privacy key.
-fn network_keys(line: &[u8], out: &mut [u8]) -> usize
-    ensures { λ r. ⌜ r ≤ length (now (out .entry)) ⌝ }
-{
+fn network_keys(line: &[u8], out: &mut [u8]) -> usize {
     let mut key = [0u8; 16];
     if !hex::fill(field::last(line, 1), &mut key) {
         return 0;
     }
     let k = keys::k2(key);
     let nid = hex::put(&[k.nid], out, 0);
-    let encryption = hex::put_field(&k.encryption, out, nid);
-    hex::put_field(&k.privacy, out, encryption)
+    let encryption = parts::put_field(&k.encryption, out, nid);
+    parts::put_field(&k.privacy, out, encryption)
 }
 
 // `k4 KEY`: the AID.
-fn aid(line: &[u8], out: &mut [u8]) -> usize
-    ensures { λ r. ⌜ r ≤ length (now (out .entry)) ⌝ }
-{
+fn aid(line: &[u8], out: &mut [u8]) -> usize {
     let mut key = [0u8; 16];
     if !hex::fill(field::last(line, 1), &mut key) {
         return 0;

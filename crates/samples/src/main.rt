@@ -5,12 +5,10 @@
 // The form of each request stands over its function, in ciphers.rt, derivation.rt and pdu.rt.
 mod ciphers;
 mod derivation;
-mod field;
-mod hex;
+mod parts;
 mod pdu;
-mod text;
 
-ghost use Prim.Native.Nat.{_≤_};
+ghost use Prim.Native.Nat.{_≤_, _<_};
 ghost use lib.ListN.{length};
 
 // Reads standard input, its first 65,536 octets, and answers it.
@@ -24,9 +22,22 @@ fn main() {
 fn answer_all(input: &[u8]) {
     let mut at: usize = 0;
     while at < input.len() {
-        let next = field::line_end(input, at);
+        let next = line_end(input, at);
         answer(&input[at..next]);
         at = next;
+    }
+}
+
+// Where the line that begins at `at` ends: just past its newline, or at the end of the input.
+fn line_end(input: &[u8], at: usize) -> usize
+    requires { ⌜ at < length (now input) ⌝ }
+    ensures { λ r. ⌜ (at < r) × (r ≤ length (now (input .entry))) ⌝ }
+{
+    let newline = text::until(input, at, b'\n');
+    if newline < input.len() {
+        newline + 1
+    } else {
+        input.len()
     }
 }
 
@@ -37,14 +48,12 @@ fn answer(line: &[u8]) {
         return;
     }
     let mut out = io::buffer();
-    let n = respond(text::before(line, b'\n'), &mut out);
+    let n = respond(text::first(line, text::until(line, 0, b'\n')), &mut out);
     io::write_all(1, text::first(&out, n));
 }
 
 // Writes the answer to a request, and a newline, to the first octets of out, and says how many they are.
-fn respond(line: &[u8], out: &mut [u8]) -> usize
-    ensures { λ r. ⌜ r ≤ length (now (out .entry)) ⌝ }
-{
+fn respond(line: &[u8], out: &mut [u8]) -> usize {
     let n = request(line, out);
     if n == 0 {
         return text::put(b"unread\n", out, 0);
@@ -53,9 +62,7 @@ fn respond(line: &[u8], out: &mut [u8]) -> usize
 }
 
 // Writes the answer to a request to the first octets of out, and says how many they are: none where the line is no request.
-fn request(line: &[u8], out: &mut [u8]) -> usize
-    ensures { λ r. ⌜ r ≤ length (now (out .entry)) ⌝ }
-{
+fn request(line: &[u8], out: &mut [u8]) -> usize {
     let n = ciphers::request(line, out);
     if 0 < n {
         return n;

@@ -3,19 +3,17 @@
 // Each writes its answer to the first octets of out and says how many they are: none where the line is not of its form.
 ghost use Prim.Native.Nat.{_≤_};
 ghost use lib.ListN.{length};
-use super::field;
-use super::hex;
-use super::hex::Octets;
-use super::text;
+use super::parts;
 use keys::NetworkKeys;
 use network::header::Header;
 use network::opening::Opening;
 use network::sealing::Answer;
+use text::field;
+use text::hex;
+use text::hex::Octets;
 
 // Answers a request of this file.
-pub(crate) fn request(line: &[u8], out: &mut [u8]) -> usize
-    ensures { λ r. ⌜ r ≤ length (now (out .entry)) ⌝ }
-{
+pub(crate) fn request(line: &[u8], out: &mut [u8]) -> usize {
     let word = field::nth(line, 0);
     if common::equal(word, b"netseal") {
         return sealed(line, out);
@@ -27,9 +25,7 @@ pub(crate) fn request(line: &[u8], out: &mut [u8]) -> usize
 }
 
 // `netseal NETKEY IVINDEX CTL TTL SEQ SRC DST TRANSPORT`: the Network PDU, or `refused` and the refusal's number.
-fn sealed(line: &[u8], out: &mut [u8]) -> usize
-    ensures { λ r. ⌜ r ≤ length (now (out .entry)) ⌝ }
-{
+fn sealed(line: &[u8], out: &mut [u8]) -> usize {
     let mut key = [0u8; 16];
     let h = header_of(line);
     if h.len == 0 || !hex::fill(field::nth(line, 1), &mut key) {
@@ -39,7 +35,7 @@ fn sealed(line: &[u8], out: &mut [u8]) -> usize
     let answer = network::sealing::seal(keys::k2(key), h, &mut pdu);
     let Answer::Sealed(n) = answer else {
         let number = network::sealing::number(answer);
-        return text::put_count(b"refused ", number as usize, out, 0);
+        return parts::put_count(b"refused ", number as usize, out, 0);
     };
     hex::put(text::first(&pdu, n), out, 0)
 }
@@ -131,9 +127,7 @@ fn key_at(octets: &[u8], at: usize) -> NetworkKeys
 
 // `netopen NETKEYS IVINDEX PDU`: what the Network PDU says, how many keys were tried and which opened it; or `refused`, the
 // refusal's number and how many keys were tried.
-fn opened(line: &[u8], out: &mut [u8]) -> usize
-    ensures { λ r. ⌜ r ≤ length (now (out .entry)) ⌝ }
-{
+fn opened(line: &[u8], out: &mut [u8]) -> usize {
     let held = held_of(field::nth(line, 1));
     let list = held.list;
     let count = held.count;
@@ -153,39 +147,33 @@ fn opened(line: &[u8], out: &mut [u8]) -> usize
 }
 
 // Puts what became of a Network PDU into out.
-fn put_opening(o: Opening, out: &mut [u8]) -> usize
-    ensures { λ r. ⌜ r ≤ length (now (out .entry)) ⌝ }
-{
+fn put_opening(o: Opening, out: &mut [u8]) -> usize {
     let answer = o.answer;
     let number = network::opening::number(answer);
     if 0 < number {
-        let refused = text::put_count(b"refused ", number as usize, out, 0);
-        return text::put_count(b" trials ", o.trials, out, refused);
+        let refused = parts::put_count(b"refused ", number as usize, out, 0);
+        return parts::put_count(b" trials ", o.trials, out, refused);
     }
     let h = o.header;
     let said = put_header(h, out);
-    let tried = text::put_count(b" trials ", o.trials, out, said);
-    text::put_count(b" key ", h.key, out, tried)
+    let tried = parts::put_count(b" trials ", o.trials, out, said);
+    parts::put_count(b" key ", h.key, out, tried)
 }
 
 // Puts what a Network PDU says into out: CTL, TTL, SEQ, SRC, DST and transport.
-fn put_header(h: Header, out: &mut [u8]) -> usize
-    ensures { λ r. ⌜ r ≤ length (now (out .entry)) ⌝ }
-{
+fn put_header(h: Header, out: &mut [u8]) -> usize {
     let transport = h.transport;
     let seq = put_front(h, out);
-    let src = hex::put_field(&two(h.src), out, seq);
-    let dst = hex::put_field(&two(h.dst), out, src);
-    hex::put_field(text::first(&transport, h.len), out, dst)
+    let src = parts::put_field(&two(h.src), out, seq);
+    let dst = parts::put_field(&two(h.dst), out, src);
+    parts::put_field(text::first(&transport, h.len), out, dst)
 }
 
 // Puts CTL, TTL and SEQ into out.
-fn put_front(h: Header, out: &mut [u8]) -> usize
-    ensures { λ r. ⌜ r ≤ length (now (out .entry)) ⌝ }
-{
+fn put_front(h: Header, out: &mut [u8]) -> usize {
     let ctl = text::put(&[bit(h.ctl)], out, 0);
-    let ttl = hex::put_field(&[h.ttl], out, ctl);
-    hex::put_field(&three(h.seq), out, ttl)
+    let ttl = parts::put_field(&[h.ttl], out, ctl);
+    parts::put_field(&three(h.seq), out, ttl)
 }
 
 // The digit of CTL.
