@@ -1,4 +1,4 @@
--- Each file proves the statements of the file of the same name in specs/.
+-- A file proves the statements of the file of the same name in specs/, or holds the laws that those proofs rest on.
 pub mod Walks
 pub mod Examples
 pub mod Refusal

@@ -68,7 +68,9 @@ use Rattle.node.proofs.SetupLaws.{local-is-unicast}
 use Rattle.receiver.specs.declared.answer.Taken.{Taken}
 use Rattle.receiver.specs.declared.state.Receiver.{Receiver}
 use Rattle.receiver.specs.Hearing.{takenAs}
+use Rattle.receiver.specs.declared.answer.Answer.the-variants as answer
 use Rattle.receiver.specs.Segmented as segments
+use Rattle.receiver.proofs.Laws.{taken-access-segment, taken-control-segment, segmented-placed, access-up, control-up}
 use Rattle.demands.specs.Speech.{Words, Access, Control, Speech, isControl, szmicOf, keyOf, aidOf, akfOf, firstOf, envelopeOf, cutOf, octetsOf, sizeOf, lastOf, segmentOf, headerOf, Fits, WordsRead, Speakable, Handed, handUpAs, handUp, applicationPlace}
 
 -- ---- octets in an array with room for them
@@ -346,26 +348,25 @@ module _ (node : Node) (s : Speech) where
         taken-access :
             (r : Receiver) (msg : List ℕ) (key : MessageKey) (szmic : Bool) (payload : List ℕ) → s .words ≡ Access key szmic payload
             → aidOf node key < 64 → (akfOf key ≡ false → isUnicast (s .dst) ≡ true) → takenAs (formOf h) r h msg ≡ asSegment r msg
-        unfolding takenAs
         taken-access r msg key szmic payload e low u =
             let z = s .auth .seq % 8192 in
             let c = subst (λ (f : List ℕ). Carries h false f) (ap (λ (ws : Words). segmentFront (firstOf node ws) (szmicOf ws) z i (lastOf node s)) e)
             (carries false (ap isControl e)) in
             let m : 16 ≡ 4 + sizeOf s = rw (ap isControl e) refl in
-            rw (access-segment-reads-back h (akfOf key) (aidOf node key) szmic z i (lastOf node s) c (key-range key low u) (in-range 16 m))
-            (ap (λ (b : Bool). segments.segmented r h b z i (lastOf node s) msg) (sym (ap szmicOf e)))
+            taken-access-segment r h msg (akfOf key) (aidOf node key) szmic z i (lastOf node s)
+            (access-segment-reads-back h (akfOf key) (aidOf node key) szmic z i (lastOf node s) c (key-range key low u) (in-range 16 m))
+            ∙ ap (λ (b : Bool). segments.segmented r h b z i (lastOf node s) msg) (sym (ap szmicOf e))
 
         taken-control :
             (r : Receiver) (msg : List ℕ) (code : ℕ) (parameters : List ℕ) → s .words ≡ Control code parameters → OpcodeInRange code
             → takenAs (formOf h) r h msg ≡ asSegment r msg
-        unfolding takenAs
         taken-control r msg code parameters e o =
             let z = s .auth .seq % 8192 in
             let c = subst (λ (f : List ℕ). Carries h true f) (ap (λ (ws : Words). segmentFront (firstOf node ws) (szmicOf ws) z i (lastOf node s)) e)
             (carries true (ap isControl e)) in
             let m : 12 ≡ 4 + sizeOf s = rw (ap isControl e) refl in
-            rw (control-segment-reads-back h code z i (lastOf node s) c o (in-range 12 m))
-            (ap (λ (b : Bool). segments.segmented r h b z i (lastOf node s) msg) (sym (ap szmicOf e)))
+            taken-control-segment r h msg code z i (lastOf node s) (control-segment-reads-back h code z i (lastOf node s) c o (in-range 12 m))
+            ∙ ap (λ (b : Bool). segments.segmented r h b z i (lastOf node s) msg) (sym (ap szmicOf e))
 
         module _ (made : WellMade node) where
           taken-as : (r : Receiver) (msg : List ℕ) (ws : Words) → s .words ≡ ws → WordsRead node s ws → takenAs (formOf h) r h msg ≡ asSegment r msg
@@ -390,9 +391,10 @@ module _ (node : Node) (s : Speech) where
         pub segment-placed :
             (r : Receiver) (msg : List ℕ) → SegmentOf (s .auth .seq) seq
             → asSegment r msg ≡ segments.placed r h (record { auth = s .auth; terms = termsOf node s; sego = i }) msg
-        unfolding segments.segmented segments.segmentedAs headerOf
+        unfolding headerOf
         segment-placed r msg t =
-            rw (leads-back (s .auth .seq) seq t) (ap (λ (g : Segment). segments.placed r h g msg) segment-is)
+            segmented-placed r h msg (szmicOf (s .words)) (s .auth .seq % 8192) i (lastOf node s) (s .auth .seq) (leads-back (s .auth .seq) seq t)
+            ∙ ap (λ (g : Segment). segments.placed r h g msg) segment-is
 
 -- ---- the session of a speech
 -- with these places filled, so long, and these octets
@@ -419,33 +421,36 @@ module _ (node : Node) (made : WellMade node) (s : Speech) (w : Speakable node s
     envelope-is key szmic payload e low =
         rw (ap (firstOf node) e, ap szmicOf e, akf-access true (akfOf key) (aidOf node key), aid-access true (akfOf key) (aidOf node key) low) refl
 
+    -- what is handed up of these words
+    abbrev handing : Words → Lent Taken
+    handing ws =
+        lent (record { answer = handUpAs s ws .answer; trials = applicationPlace node s ws; receiver = segments.upgraded r session }) (onto (handUpAs s ws .octets) msg)
+
+    -- access or control, by the words
+    abbrev either : Bool → Lent Taken
+    either b = if b then segments.controlUp r session msg else segments.accessUp r session msg
+
     opened-up :
         (key : MessageKey) (szmic : Bool) (payload : List ℕ) → s .words ≡ Access key szmic payload → Opens node s key szmic payload msg → Up msg
-    unfolding segments.accessUp segments.accessUpAs segments.messageOf
     opened-up key szmic payload e o =
-        rw (
-          same,
-          envelope-is key szmic payload e (o .aid-fits),
-          all,
-          ap isControl e,
-          o .opens-to,
-          ap (handUpAs s) e,
-          ap (applicationPlace node s) e,
-        ) refl
+        let u :
+        unsecuring (r .node .secrets) (r .node .applications) (r .node .device) (segments.sessionEnvelope session) (take len bytes) msg
+        ≡ lent (Message key (applicationPlace node s (Access key szmic payload)) (length payload)) (onto payload msg) =
+        rw (same, envelope-is key szmic payload e (o .aid-fits), all) (o .opens-to) in
+        ap either (ap isControl e) ∙ access-up r session msg key (applicationPlace node s (Access key szmic payload)) (length payload) (onto payload msg) u
+        ∙ ap handing (sym e)
+
+    control-handed : (code : ℕ) (parameters : List ℕ) → s .words ≡ Control code parameters → OpcodeInRange code → Up msg
+    control-handed code parameters e q =
+        let coded : opcode (firstOf node (s .words)) ≡ code = ap (λ (ws : Words). opcode (firstOf node ws)) e ∙ opcode-control true code (q .opcode-fits) in
+        let octets = all ∙ cut-is node s (Control code parameters) e in
+        let told : ℕ → List ℕ → Lent Taken =
+        λ c m. lent (record { answer = answer.Control (s .src) (s .dst) (s .network) c (s .auth) (length m); trials = 0; receiver = segments.upgraded r session }) (onto m msg) in
+        ap either (ap isControl e) ∙ control-up r session msg ∙ ap (λ (c : ℕ). told c (take len bytes)) coded ∙ ap (told code) octets ∙ ap handing (sym e)
 
     up-as : (ws : Words) → s .words ≡ ws → WordsRead node s ws → Up msg
-    unfolding segments.controlUp segments.messageOf
     up-as (Access key szmic payload) e q = opened-up key szmic payload e (message-opens node s made szmic payload msg room key e q)
-    up-as (Control code parameters) e q =
-        rw (
-          ap isControl e,
-          ap (firstOf node) e,
-          opcode-control true code (q .1 .opcode-fits),
-          all,
-          cut-is node s (Control code parameters) e,
-          ap (handUpAs s) e,
-          ap (applicationPlace node s) e,
-        ) refl
+    up-as (Control code parameters) e q = control-handed code parameters e (q .1)
 
     pub session-up : Up msg
     session-up = up-as (s .words) refl (w .words-read)

@@ -36,7 +36,8 @@ use Rattle.receiver.specs.declared.answer.Taken.{Taken}
 use Rattle.receiver.specs.declared.state.Receiver.{Receiver}
 use Rattle.receiver.specs.Good.{Good}
 use Rattle.receiver.specs.Segmented as segments
-use Rattle.receiver.specs.State.{withSession}
+use Rattle.receiver.specs.State.{withReplay, withSession}
+use Rattle.receiver.proofs.Laws.{placed-repeat, placed-join, placed-open, gathered-stored, gathered-up, upgraded-is}
 use Rattle.demands.specs.Interleaved.{isLastMissing, handedAs}
 use Rattle.demands.specs.Speech.{Words, Access, Control, Speech, isControl, lastOf, headerOf, Speakable, Handed, handUpAs, handUp, applicationPlace}
 use Rattle.demands.proofs.GatherLaws.{Holds, holds-begun, stored-is, newLen, newBytes, holds-more, holds-all}
@@ -172,11 +173,13 @@ module _ (node : Node) (made : WellMade node) (s : Speech) (w : Speakable node s
           λ p x e. owned-set (λ (y : Entry). y .src) noEntry 32 n speaker l o (g .entry-places) p x k h (λ _. e ∙ q) in
           by-choice (EntriesOwned n speaker) (ltb (entryPlace l (s .src)) 32) (λ _. put _ _ refl) (λ _. put _ _ refl)
 
+      -- the message is handed up, which leaves q
+      abbrev handing : Receiver → Lent Taken
+      handing q = lent (record { answer = handUp s .answer; trials = applicationPlace node s (s .words); receiver = q }) (onto (handUp s .octets) msg)
+
       up-step :
           eqb filled (allBits (lastOf node s)) ≡ true
-          → (let q = segments.upgraded (withSession r slot noSession) session in
-          Step node s r bits i (lent (record { answer = handUp s .answer; trials = applicationPlace node s (s .words); receiver = q }) (onto (handUp s .octets) msg)))
-      unfolding segments.upgraded
+          → Step node s r bits i (handing (withReplay (withSession r slot noSession) (handedUp (r .replay) (s .src) (s .auth) (lastOf node s) (s .dst))))
       up-step c =
           record {
             due = rw (last-missing bits i (lastOf node s) fresh true c) (handed-up s (s .words) msg);
@@ -193,14 +196,15 @@ module _ (node : Node) (made : WellMade node) (s : Speech) (w : Speakable node s
           }
 
       pub gathered-steps : 384 ≤ length msg → Step node s r bits i (segments.gathered r slot session msg)
-      unfolding segments.gathered complete
+      unfolding complete
       gathered-steps big =
           by-test (eqb filled (allBits (lastOf node s)))
           (λ c.
           let all = subst (λ (b : ℕ). Holds node s b len bytes) (eqb-true filled (allBits (lastOf node s)) c) holds in
           let u = session-up node made s w (withSession r slot noSession) same filled len bytes msg big (holds-all node s w len bytes all) in
-          rw c (subst (Step node s r bits i) (sym u) (up-step c)))
-          (λ c. rw c (stored-step c))
+          let is = gathered-up r slot session msg c ∙ u ∙ ap handing (upgraded-is (withSession r slot noSession) session msg) in
+          subst (Step node s r bits i) (sym is) (up-step c))
+          (λ c. subst (Step node s r bits i) (sym (gathered-stored r slot session msg c)) (stored-step c))
 
     -- ---- at each stage
     module _ (sent : s .dst ≡ 0 → ⊥) (big : 384 ≤ length msg) (seq ttl : ℕ) (room : hasRoom (r .replay) (s .src) ≡ true)
@@ -211,19 +215,11 @@ module _ (node : Node) (made : WellMade node) (s : Speech) (w : Speakable node s
       abbrev t : Lent Taken
       t = segments.placed r h (segmentAt node s i) msg
 
-      header-src : h .src ≡ s .src
-      unfolding headerOf
-      header-src = refl
-
-      decided : (d : Decision) → decision (r .replay) (r .sessions) (s .src) (segmentAt node s i) ≡ d → t ≡ segments.placedAs d r h (segmentAt node s i) msg
-      unfolding segments.placed headerOf
-      decided d e = ap (λ (x : Decision). segments.placedAs x r h (segmentAt node s i) msg) e
-
       repeated :
           (b : ℕ) → decision (r .replay) (r .sessions) (s .src) (segmentAt node s i) ≡ Repeat b → hasBit bits i ≡ true
           → Stage node s (r .replay) (r .sessions) bits → Step node s r bits i t
-      unfolding segments.placedAs
-      repeated b e has st = subst (Step node s r bits i) (sym (decided (Repeat b) e)) (again has st (Repeated (h .src) (s .auth) b) refl)
+      unfolding headerOf
+      repeated b e has st = subst (Step node s r bits i) (sym (placed-repeat r h msg (segmentAt node s i) b e)) (again has st (Repeated (h .src) (s .auth) b) refl)
 
       -- the session that stands in a slot is its source's alone
       own-only : (j : ℕ) → j < 8 → sessionAt (r .sessions) j .src ≡ s .src → sessionPlace (r .sessions) (s .src) < 8 → j ≡ sessionPlace (r .sessions) (s .src)
@@ -235,14 +231,14 @@ module _ (node : Node) (made : WellMade node) (s : Speech) (w : Speakable node s
       joined :
           (len : ℕ) (bytes : List ℕ) → hasBit bits i ≡ false → lookUp (r .replay) (s .src) ≡ noEntry → sessionPlace (r .sessions) (s .src) < 8
           → sessionAt (r .sessions) (sessionPlace (r .sessions) (s .src)) ≡ sessionOf node s bits len bytes → Holds node s bits len bytes → Step node s r bits i t
-      unfolding segments.placedAs
+      unfolding headerOf
       joined len bytes has none own held holds =
           let slot = sessionPlace (r .sessions) (s .src) in
           let e = decide-join node s (r .replay) (r .sessions) i none room bits len bytes own held has in
           let more = holds-more node s w bits len bytes holds i there seq ttl in
           let new = newLen node s w bits len bytes holds i there seq ttl in
           let laid = newBytes node s w bits len bytes holds i there seq ttl in
-          subst (Step node s r bits i) (sym (decided (Join slot) e))
+          subst (Step node s r bits i) (sym (placed-join r h msg (segmentAt node s i) slot e))
           (rw (held, stored-is node s w bits len bytes holds i there seq ttl)
           (gathered-steps has none room slot own (omega arith) (λ j hj q. own-only j hj q own)
           (λ a n z q. n (q ∙ ap (λ (x : Session). x .src) held)) new laid more big))
@@ -258,7 +254,7 @@ module _ (node : Node) (made : WellMade node) (s : Speech) (w : Speakable node s
 
       opened :
           bits ≡ 0 → lookUp (r .replay) (s .src) ≡ noEntry → 8 ≤ sessionPlace (r .sessions) (s .src) → Step node s r bits i t
-      unfolding segments.placedAs headerOf
+      unfolding headerOf
       opened zero none out =
           let slot = sessionPlace (r .sessions) 0 in
           let within = free out in
@@ -271,7 +267,7 @@ module _ (node : Node) (made : WellMade node) (s : Speech) (w : Speakable node s
           let begins : stored (begun (s .src) (segmentAt node s i)) h i ≡ sessionOf node s (withBit bits i) new laid =
           ap (λ (x : Session). stored x h i) (begun-is ∙ ap (λ (b : ℕ). sessionOf node s b 0 (replicate 384 0)) (sym zero))
           ∙ stored-is node s w bits 0 (replicate 384 0) holds i there seq ttl in
-          subst (Step node s r bits i) (sym (decided (Open slot) e))
+          subst (Step node s r bits i) (sym (placed-open r h msg (segmentAt node s i) slot e))
           (rw begins
           (gathered-steps (rw zero (has-none i)) none room slot within (omega arith)
           (λ j hj q. let u = none-own j q in absurd (omega arith))

@@ -54,7 +54,7 @@ use Rattle.receiver.specs.Fresh.{settingUp}
 use Rattle.receiver.specs.Hearing.{takenAs}
 use Rattle.receiver.specs.State.{withCache}
 use Rattle.receiver.specs.Whole as whole
-use Rattle.receiver.proofs.Laws.{heard-new}
+use Rattle.receiver.proofs.Laws.{heard-new, taken-access, taken-control}
 use Rattle.demands.specs.Call.{Hear, step}
 use Rattle.demands.specs.Interleaved.{start, nodeOf, handedAs, handed, tried}
 use Rattle.demands.specs.Speech.{Handed, Tried}
@@ -86,27 +86,24 @@ module _ (setup : Setup) (h : Header) (sealed : sealable (keyAt (nodeOf setup .k
   unfolding settingUp
   unseen = by-test (seen noCache (h .src) (h .seq)) (λ t. absurd (seen-none (h .src) (h .seq) spoken t)) (λ t. t)
 
-  abbrev t : Form → Lent Taken
-  t f = takenAs f q h msg
-
   -- the place of its network key
   abbrev place : ℕ
   place = length (candidates (nodeOf setup .keys) (h .key) (keyAt (nodeOf setup .keys) (h .key) .nid)) + 1
 
   -- what is handed up and counted is what the message of its form hands up and counts
-  record Whole (f : Form) : Type 0 where
-    hands-as : handed (step (start setup) (Hear pdu fwd msg)) ≡ handedAs (t f .answer .answer) (t f .buffer)
-    tried-as : tried (step (start setup) (Hear pdu fwd msg)) ≡ record { network = place; application = t f .answer .trials }
+  record Whole (t : Lent Taken) : Type 0 where
+    hands-as : handed (step (start setup) (Hear pdu fwd msg)) ≡ handedAs (t .answer .answer) (t .buffer)
+    tried-as : tried (step (start setup) (Hear pdu fwd msg)) ≡ record { network = place; application = t .answer .trials }
 
-  heard-whole : (f : Form) → formOf h ≡ f → Whole f
-  heard-whole f e =
+  heard-whole : (t : Lent Taken) → takenAs (formOf h) q h msg ≡ t → Whole t
+  heard-whole t e =
       let l = heard-new (start setup) pdu fwd msg wide big h place (open-seal (nodeOf setup .keys) (nodeOf setup .networks) (nodeOf setup .iv) h sealed formed receives) unseen here
-      (t f) (ap t e) in
+      t e in
       record { hands-as = rw (l .answers, l .message-is) refl; tried-as = rw (l .network-is, l .application-is) refl }
 
-  replay-none : q .replay ≡ noEntries
+  admitted-here : whole.admission (q .replay) h ≡ Admitted
   unfolding settingUp
-  replay-none = refl
+  admitted-here = admits h
 
   -- ---- an access message
   pub access-heard :
@@ -116,15 +113,13 @@ module _ (setup : Setup) (h : Header) (sealed : sealable (keyAt (nodeOf setup .k
       ≡ lent (Message key trials (length payload)) (onto payload msg))
       → Reads setup pdu fwd msg (record { answer = answer.Access (h .src) (h .dst) (h .key) key (whole.pairOf h) (length payload); octets = payload })
       (record { network = place; application = trials })
-  unfolding takenAs whole.wholeAccess whole.unless whole.openedWhole whole.openedAs
   access-heard akf aid trials key payload f u =
-      let x = heard-whole (form.Access akf aid) f in
+      let x = heard-whole _ (taken-access q h msg akf aid trials (length payload) key (onto payload msg) f admitted-here u) in
       record {
         hands =
             x .hands-as
-            ∙ rw (replay-none, admits h, u)
-            (ap (λ (l : List ℕ). record { answer = answer.Access (h .src) (h .dst) (h .key) key (whole.pairOf h) (length payload); octets = l } ∷ []) (take-append-seam payload _));
-        counts = x .tried-as ∙ rw (replay-none, admits h, u) refl;
+            ∙ ap (λ (l : List ℕ). record { answer = answer.Access (h .src) (h .dst) (h .key) key (whole.pairOf h) (length payload); octets = l } ∷ []) (take-append-seam payload _);
+        counts = x .tried-as;
       }
 
   -- ---- a control message
@@ -132,13 +127,11 @@ module _ (setup : Setup) (h : Header) (sealed : sealable (keyAt (nodeOf setup .k
       (code : ℕ) (parameters : List ℕ) → formOf h ≡ form.Control code → drop 1 (transportOf h) ≡ parameters
       → Reads setup pdu fwd msg (record { answer = answer.Control (h .src) (h .dst) (h .key) code (whole.pairOf h) (length parameters); octets = parameters })
       (record { network = place; application = 0 })
-  unfolding takenAs whole.wholeControl whole.unless whole.wholeControlUp
   control-heard code parameters f m =
-      let x = heard-whole (form.Control code) f in
+      let x = heard-whole _ (taken-control q h msg code parameters f admitted-here m) in
       record {
         hands =
             x .hands-as
-            ∙ rw (replay-none, admits h, m)
-            (ap (λ (l : List ℕ). record { answer = answer.Control (h .src) (h .dst) (h .key) code (whole.pairOf h) (length parameters); octets = l } ∷ []) (take-append-seam parameters _));
-        counts = x .tried-as ∙ rw (replay-none, admits h) refl;
+            ∙ ap (λ (l : List ℕ). record { answer = answer.Control (h .src) (h .dst) (h .key) code (whole.pairOf h) (length parameters); octets = l } ∷ []) (take-append-seam parameters _);
+        counts = x .tried-as;
       }

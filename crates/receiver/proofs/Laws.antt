@@ -2,6 +2,10 @@
 --   fixed-heard     what setup fixed stays, and every next SEQ: only cache, replay list, sessions and outgoing message are written
 --   heard-opened    a PDU that opens is judged by the cache
 --   heard-again     one that is in the cache leaves everything
+--   taken-..        a message by its form
+--   placed-..       a segment by the decision on it
+--   gathered-..     a session with a segment more
+--   access-up, control-up, upgraded-is   a complete one
 --   heard-new       one that is not, and is for this node, leaves what the message of its form leaves
 use mathlib.Core.Bool.{Bool, true, false}
 use mathlib.Core.List.{List}
@@ -9,35 +13,44 @@ use mathlib.Core.Path.{_≡_, refl, ap, _∙_}
 use Prim.Native.Nat.{ℕ, _≤_}
 use borrow.Author.Tests.{le-ltb}
 use lib.Dec.{ltb}
-use lib.ListN.{length}
-use Rattle.common.specs.Lent.{Lent}
+use lib.ListN.{length, take, drop}
+use Rattle.common.specs.Choice.{if_then_else_}
+use Rattle.common.specs.Lent.{Lent, lent}
+use Rattle.common.specs.Lists.{onto}
 use Rattle.common.proofs.Tests.{by-choice}
 use Rattle.network.specs.declared.header.Header.{Header}
 use Rattle.network.specs.declared.opening.Answer as network-answer
 use Rattle.network.specs.declared.opening.Answer.the-variants as network
+use Rattle.network.specs.Header.{transportOf}
 use Rattle.network.specs.Opening.{opening}
 use Rattle.transport.specs.declared.form.Form.{Form}
 use Rattle.transport.specs.declared.form.Form.the-variants as form
+use Rattle.transport.specs.declared.securing.MessageKey.{MessageKey}
 use Rattle.transport.specs.declared.securing.Opened.{Opened}
 use Rattle.transport.specs.declared.securing.Opened.the-variants.{Message, NotOpened, ShortBuffer}
 use Rattle.transport.specs.declared.seq_auth.SeqAuth.{SeqAuth}
 use Rattle.transport.specs.declared.seq_auth.SeqAuth.the-variants.{At, Nowhere}
+use Rattle.transport.specs.Fields.{opcode}
 use Rattle.transport.specs.Form.{formOf}
+use Rattle.transport.specs.Securing.{unsecuring}
 use Rattle.transport.specs.SeqAuth.{seqAuth}
 use Rattle.memory.specs.declared.decision.Decision.{Decision}
 use Rattle.memory.specs.declared.decision.Decision.the-variants.{Repeat, Join, Open, Stale, Differs, NoEntryLeft, NoSlotLeft}
 use Rattle.memory.specs.declared.session.Segment.{Segment}
 use Rattle.memory.specs.declared.session.Session.{Session}
 use Rattle.memory.specs.Cache.{seen, remembered}
-use Rattle.memory.specs.Decision.{decision}
-use Rattle.memory.specs.Session.{complete}
+use Rattle.memory.specs.Decision.{sessionAt, decision}
+use Rattle.memory.specs.Replay.{handedUp}
+use Rattle.memory.specs.Session.{noSession, begun, stored, complete}
 use Rattle.node.specs.Addresses.{forNode}
+use Rattle.receiver.specs.declared.answer.Answer.the-variants as answer
 use Rattle.receiver.specs.declared.answer.Refusal.the-variants as refusal
 use Rattle.receiver.specs.declared.answer.Taken.{Taken}
 use Rattle.receiver.specs.declared.state.Receiver.{Receiver}
+use Rattle.receiver.specs.declared.whole.Admission.the-variants as admission
 use Rattle.receiver.specs.Hearing.{Outcome, outcome, refusedHeard, takenAs, taken, passed, uncached, openedAs, hearing}
-use Rattle.receiver.specs.Segmented.{upgraded, accessUpAs, accessUp, controlUp, gathered, placedAs, placed, segmentedAs, segmented}
-use Rattle.receiver.specs.State.{withCache, withSession}
+use Rattle.receiver.specs.Segmented.{segmentOf, upgraded, messageOf, sessionEnvelope, accessUpAs, accessUp, controlUp, gathered, placedAs, placed, segmentedAs, segmented}
+use Rattle.receiver.specs.State.{withCache, withReplay, withSession}
 use Rattle.receiver.specs.Whole as whole
 use Rattle.receiver.proofs.GoodWhole.{by-admission}
 
@@ -181,3 +194,103 @@ module _ (r : Receiver) (pdu fwd msg : List ℕ) (wide : 29 ≤ length fwd) (big
         network-is = rw (heard-opened, e) refl;
         application-is = rw (heard-opened, e, f) (ap (λ (x : Lent Taken). x .answer .trials) g);
       }
+
+-- ---- by its form
+module _ (r : Receiver) (h : Header) (msg : List ℕ) where
+  pub taken-access-segment :
+      (akf : Bool) (aid : ℕ) (szmic : Bool) (seqZero segO segN : ℕ) → formOf h ≡ form.AccessSegment akf aid szmic seqZero segO segN
+      → takenAs (formOf h) r h msg ≡ segmented r h szmic seqZero segO segN msg
+  unfolding takenAs
+  taken-access-segment akf aid szmic seqZero segO segN e = rw e refl
+
+  pub taken-control-segment :
+      (opcode seqZero segO segN : ℕ) → formOf h ≡ form.ControlSegment opcode seqZero segO segN
+      → takenAs (formOf h) r h msg ≡ segmented r h false seqZero segO segN msg
+  unfolding takenAs
+  taken-control-segment opcode seqZero segO segN e = rw e refl
+
+  -- a whole message that is admitted
+  pub taken-access :
+      (akf : Bool) (aid trials len : ℕ) (key : MessageKey) (left : List ℕ) → formOf h ≡ form.Access akf aid → whole.admission (r .replay) h ≡ admission.Admitted
+      → unsecuring (r .node .secrets) (r .node .applications) (r .node .device) (whole.wholeEnvelope h akf aid) (drop 1 (transportOf h)) msg
+      ≡ lent (Message key trials len) left
+      → takenAs (formOf h) r h msg
+      ≡ lent (record { answer = answer.Access (h .src) (h .dst) (h .key) key (whole.pairOf h) len; trials = trials; receiver = whole.admitted r h }) left
+  unfolding takenAs whole.wholeAccess whole.unless whole.openedWhole whole.openedAs
+  taken-access akf aid trials len key left e a u = rw (e, a, u) refl
+
+  pub taken-control :
+      (opcode : ℕ) (parameters : List ℕ) → formOf h ≡ form.Control opcode → whole.admission (r .replay) h ≡ admission.Admitted → drop 1 (transportOf h) ≡ parameters
+      → takenAs (formOf h) r h msg
+      ≡ lent
+      (record { answer = answer.Control (h .src) (h .dst) (h .key) opcode (whole.pairOf h) (length parameters); trials = 0; receiver = whole.admitted r h })
+      (onto parameters msg)
+  unfolding takenAs whole.wholeControl whole.unless whole.wholeControlUp
+  taken-control opcode parameters e a m = rw (e, a, m) refl
+
+  -- ---- a segment
+  pub segmented-placed :
+      (szmic : Bool) (seqZero segO segN auth : ℕ) → seqAuth (h .seq) seqZero ≡ At auth
+      → segmented r h szmic seqZero segO segN msg ≡ placed r h (segmentOf h szmic auth segO segN) msg
+  unfolding segmented segmentedAs
+  segmented-placed szmic seqZero segO segN auth e = rw e refl
+
+  module _ (seg : Segment) where
+    abbrev decided : Decision
+    decided = decision (r .replay) (r .sessions) (h .src) seg
+
+    pub placed-repeat :
+        (bits : ℕ) → decided ≡ Repeat bits
+        → placed r h seg msg ≡ lent (record { answer = answer.Repeated (h .src) (seg .auth) bits; trials = 0; receiver = r }) msg
+    unfolding placed placedAs
+    placed-repeat bits e = rw e refl
+
+    pub placed-join : (slot : ℕ) → decided ≡ Join slot → placed r h seg msg ≡ gathered r slot (stored (sessionAt (r .sessions) slot) h (seg .sego)) msg
+    unfolding placed placedAs
+    placed-join slot e = rw e refl
+
+    pub placed-open : (slot : ℕ) → decided ≡ Open slot → placed r h seg msg ≡ gathered r slot (stored (begun (h .src) seg) h (seg .sego)) msg
+    unfolding placed placedAs
+    placed-open slot e = rw e refl
+
+-- ---- a session with a segment more
+module _ (r : Receiver) (slot : ℕ) (s : Session) (msg : List ℕ) where
+  pub gathered-stored :
+      complete s ≡ false
+      → gathered r slot s msg ≡ lent (record { answer = answer.Stored (s .src) (s .auth) (s .filled); trials = 0; receiver = withSession r slot s }) msg
+  unfolding gathered
+  gathered-stored c = rw c refl
+
+  pub gathered-up :
+      complete s ≡ true
+      → gathered r slot s msg
+      ≡ (if s .terms .ctl then controlUp (withSession r slot noSession) s msg else accessUp (withSession r slot noSession) s msg)
+  unfolding gathered
+  gathered-up c = rw c refl
+
+module _ (r : Receiver) (s : Session) (msg : List ℕ) where
+  pub access-up :
+      (key : MessageKey) (trials len : ℕ) (left : List ℕ)
+      → unsecuring (r .node .secrets) (r .node .applications) (r .node .device) (sessionEnvelope s) (take (s .len) (s .bytes)) msg
+      ≡ lent (Message key trials len) left
+      → accessUp r s msg
+      ≡ lent (record { answer = answer.Access (s .src) (s .terms .dst) (s .terms .key) key (s .auth) len; trials = trials; receiver = upgraded r s }) left
+  unfolding accessUp accessUpAs messageOf
+  access-up key trials len left u = rw u refl
+
+  pub control-up :
+      controlUp r s msg
+      ≡ lent
+      (record {
+        answer = answer.Control (s .src) (s .terms .dst) (s .terms .key) (opcode (s .terms .first)) (s .auth) (length (take (s .len) (s .bytes)));
+        trials = 0;
+        receiver = upgraded r s;
+      })
+      (onto (take (s .len) (s .bytes)) msg)
+  unfolding controlUp messageOf
+  control-up = refl
+
+  -- handing up raises the replay entry, and nothing else
+  pub upgraded-is : upgraded r s ≡ withReplay r (handedUp (r .replay) (s .src) (s .auth) (s .terms .segn) (s .terms .dst))
+  unfolding upgraded
+  upgraded-is = refl
