@@ -106,8 +106,11 @@ static void row(const char *what, const uint8_t pdu[29], bool stored, bool hande
 	       (heard - network - inner) / (network + inner));
 }
 
-int main(void)
+// hear COUNT: hears the access message so often and prints nothing; bench/console times that.
+int main(int argc, char **argv)
 {
+	if (argc > 1)
+		return hear(access, (uint32_t)strtoul(argv[1], NULL, 10)) == 0;
 	printf("%-42s %8s %8s %8s %10s %10s %12s\n", "a PDU of 29 octets heard, nanoseconds", "hear", "open", "message", "over open", "the rest", "over ciphers");
 	row("an access message is handed up", access, false, true, 5000);
 	row("a segment is stored", segment, true, false, 5000);

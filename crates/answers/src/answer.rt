@@ -9,6 +9,14 @@ use sending::answer::Answer as Sending;
 use text::hex;
 use text::number;
 use transport::securing::MessageKey;
+ghost use mathlib.Core.Path.{_≡_};
+ghost use mathlib.Core.List.{_++_};
+ghost use Prim.Native.Nat.{_+_};
+ghost use Rattle.common.specs.Lent.{lent};
+ghost use Rattle.text.specs.Octets.{octets};
+ghost use Rattle.text.specs.Hex.{hexText};
+ghost use Rattle.text.specs.Written.{putting};
+ghost use Rattle.answers.specs.Answer.{named, refusalText, refusedText, trialsText, pairText, segmentsText, routeText, keyText, messageText, effectText, accessText, controlText, acknowledgementText, heardText, forwardText, spokenText, givenUpText, setUpText, notedText};
 
 // How many network keys and application keys were tried.
 pub struct Trials {
@@ -17,47 +25,58 @@ pub struct Trials {
 }
 
 // `refused N`, N in decimal.
-fn put_refusal(n: u32, out: &mut [u8], at: usize) -> usize {
-    let mut digits = [0u8; 20];
-    let k = io::decimal(n as u64, &mut digits);
-    let from = text::put(b"refused ", out, at);
-    text::put(&digits[..k], out, from)
+fn put_refusal(n: u32, out: &mut [u8], at: usize) -> usize
+    ensures { λ r. ⌜ lent r (now (out .exit)) ≡ putting (refusalText n) (now (out .entry)) at ⌝ }
+{
+    number::put_decimal(b"refused ", n as u64, out, at)
 }
 
 // `refused N` and a newline.
-fn put_refused(n: u32, out: &mut [u8], at: usize) -> usize {
+fn put_refused(n: u32, out: &mut [u8], at: usize) -> usize
+    ensures { λ r. ⌜ lent r (now (out .exit)) ≡ putting (refusedText n) (now (out .entry)) at ⌝ }
+{
     let end = put_refusal(n, out, at);
     text::put(b"\n", out, end)
 }
 
 // ` trials T A`.
-fn put_trials(t: Trials, out: &mut [u8], at: usize) -> usize {
+fn put_trials(t: Trials, out: &mut [u8], at: usize) -> usize
+    ensures { λ r. ⌜ lent r (now (out .exit)) ≡ putting (trialsText t) (now (out .entry)) at ⌝ }
+{
     let network = number::put(b" trials ", t.network as u64, 1, out, at);
     number::put(b" ", t.application as u64, 1, out, network)
 }
 
 // ` iv I`, a label, and the sequence number.
-pub(crate) fn put_pair(p: Pair, label: &[u8], out: &mut [u8], at: usize) -> usize {
+pub(crate) fn put_pair(p: Pair, label: &[u8], out: &mut [u8], at: usize) -> usize
+    ensures { λ r. ⌜ lent r (now (out .exit)) ≡ putting (pairText p (now (label .entry))) (now (out .entry)) at ⌝ }
+{
     let iv = number::put(b" iv ", p.iv as u64, 8, out, at);
     number::put(label, p.seq as u64, 6, out, iv)
 }
 
 // ` src S iv I auth Q bits B`.
-pub(crate) fn put_segments(src: u16, auth: Pair, bits: u32, out: &mut [u8], at: usize) -> usize {
+pub(crate) fn put_segments(src: u16, auth: Pair, bits: u32, out: &mut [u8], at: usize) -> usize
+    ensures { λ r. ⌜ lent r (now (out .exit)) ≡ putting (segmentsText src auth bits) (now (out .entry)) at ⌝ }
+{
     let source = number::put(b" src ", src as u64, 4, out, at);
     let pair = put_pair(auth, b" auth ", out, source);
     number::put(b" bits ", bits as u64, 8, out, pair)
 }
 
 // ` src S dst D net K`.
-fn put_route(src: u16, dst: u16, network: usize, out: &mut [u8], at: usize) -> usize {
+fn put_route(src: u16, dst: u16, network: usize, out: &mut [u8], at: usize) -> usize
+    ensures { λ r. ⌜ lent r (now (out .exit)) ≡ putting (routeText src dst network) (now (out .entry)) at ⌝ }
+{
     let source = number::put(b" src ", src as u64, 4, out, at);
     let destination = number::put(b" dst ", dst as u64, 4, out, source);
     number::put(b" net ", network as u64, 1, out, destination)
 }
 
 // ` key J`: the application key's number, or `dev`.
-fn put_key(key: MessageKey, out: &mut [u8], at: usize) -> usize {
+fn put_key(key: MessageKey, out: &mut [u8], at: usize) -> usize
+    ensures { λ r. ⌜ lent r (now (out .exit)) ≡ putting (keyText key) (now (out .entry)) at ⌝ }
+{
     match key {
         MessageKey::Application(i) => number::put(b" key ", i as u64, 1, out, at),
         MessageKey::Device => text::put(b" key dev", out, at),
@@ -65,7 +84,9 @@ fn put_key(key: MessageKey, out: &mut [u8], at: usize) -> usize {
 }
 
 // ` iv I seq Q trials T A message BYTES`.
-fn put_message(p: Pair, t: Trials, message: &[u8], out: &mut [u8], at: usize) -> usize {
+fn put_message(p: Pair, t: Trials, message: &[u8], out: &mut [u8], at: usize) -> usize
+    ensures { λ r. ⌜ lent r (now (out .exit)) ≡ putting (messageText p t (now (message .entry))) (now (out .entry)) at ⌝ }
+{
     let pair = put_pair(p, b" seq ", out, at);
     let trials = put_trials(t, out, pair);
     let label = text::put(b" message ", out, trials);
@@ -73,7 +94,9 @@ fn put_message(p: Pair, t: Trials, message: &[u8], out: &mut [u8], at: usize) ->
 }
 
 // What an acknowledgement does.
-fn put_effect(effect: Effect, out: &mut [u8], at: usize) -> usize {
+fn put_effect(effect: Effect, out: &mut [u8], at: usize) -> usize
+    ensures { λ r. ⌜ lent r (now (out .exit)) ≡ putting (effectText effect) (now (out .entry)) at ⌝ }
+{
     match effect {
         Effect::Nothing => text::put(b" nothing", out, at),
         Effect::Marked => text::put(b" marked", out, at),
@@ -83,7 +106,9 @@ fn put_effect(effect: Effect, out: &mut [u8], at: usize) -> usize {
 }
 
 // `stored` or `repeat`, with the segments that have come.
-fn put_segment(word: &[u8], src: u16, auth: Pair, bits: u32, out: &mut [u8], at: usize) -> usize {
+fn put_segment(word: &[u8], src: u16, auth: Pair, bits: u32, out: &mut [u8], at: usize) -> usize
+    ensures { λ r. ⌜ lent r (now (out .exit)) ≡ putting (now (word .entry) ++ segmentsText src auth bits) (now (out .entry)) at ⌝ }
+{
     let named = text::put(word, out, at);
     put_segments(src, auth, bits, out, named)
 }
@@ -96,28 +121,36 @@ fn put_access(
     key: MessageKey,
     out: &mut [u8],
     at: usize,
-) -> usize {
+) -> usize
+    ensures { λ r. ⌜ lent r (now (out .exit)) ≡ putting (accessText src dst network key) (now (out .entry)) at ⌝ }
+{
     let word = text::put(b"access", out, at);
     let route = put_route(src, dst, network, out, word);
     put_key(key, out, route)
 }
 
 // `control src S dst D net K opcode O`.
-fn put_control(src: u16, dst: u16, network: usize, opcode: u8, out: &mut [u8], at: usize) -> usize {
+fn put_control(src: u16, dst: u16, network: usize, opcode: u8, out: &mut [u8], at: usize) -> usize
+    ensures { λ r. ⌜ lent r (now (out .exit)) ≡ putting (controlText src dst network opcode) (now (out .entry)) at ⌝ }
+{
     let word = text::put(b"control", out, at);
     let route = put_route(src, dst, network, out, word);
     number::put(b" opcode ", opcode as u64, 1, out, route)
 }
 
 // `acknowledgement src S bits B EFFECT`.
-fn put_acknowledgement(src: u16, bits: u32, effect: Effect, out: &mut [u8], at: usize) -> usize {
+fn put_acknowledgement(src: u16, bits: u32, effect: Effect, out: &mut [u8], at: usize) -> usize
+    ensures { λ r. ⌜ lent r (now (out .exit)) ≡ putting (acknowledgementText src bits effect) (now (out .entry)) at ⌝ }
+{
     let source = number::put(b"acknowledgement src ", src as u64, 4, out, at);
     let marks = number::put(b" bits ", bits as u64, 8, out, source);
     put_effect(effect, out, marks)
 }
 
 // What became of a PDU that was heard; message is the buffer lent for a message.
-pub fn put_heard(a: Answer, t: Trials, message: &[u8], out: &mut [u8], at: usize) -> usize {
+pub fn put_heard(a: Answer, t: Trials, message: &[u8], out: &mut [u8], at: usize) -> usize
+    ensures { λ r. ⌜ lent r (now (out .exit)) ≡ putting (heardText a t (now (message .entry))) (now (out .entry)) at ⌝ }
+{
     match a {
         Answer::Refused(refusal) => {
             let end = put_refusal(receiver::answer::number(refusal), out, at);
@@ -161,7 +194,9 @@ pub fn put_heard(a: Answer, t: Trials, message: &[u8], out: &mut [u8], at: usize
 }
 
 // ` forward PDU`, where something was forwarded, and a newline.
-pub fn put_forward(pdu: &[u8], out: &mut [u8], at: usize) -> usize {
+pub fn put_forward(pdu: &[u8], out: &mut [u8], at: usize) -> usize
+    ensures { λ r. ⌜ lent r (now (out .exit)) ≡ putting (forwardText (now (pdu .entry))) (now (out .entry)) at ⌝ }
+{
     if pdu.len() == 0 {
         return text::put(b"\n", out, at);
     }
@@ -171,14 +206,18 @@ pub fn put_forward(pdu: &[u8], out: &mut [u8], at: usize) -> usize {
 }
 
 // `sent PDU` and a newline.
-fn put_sent(pdu: &[u8], out: &mut [u8], at: usize) -> usize {
+fn put_sent(pdu: &[u8], out: &mut [u8], at: usize) -> usize
+    ensures { λ r. ⌜ lent r (now (out .exit)) ≡ putting (octets "sent " ++ (hexText (now (pdu .entry)) ++ octets "\n")) (now (out .entry)) at ⌝ }
+{
     let label = text::put(b"sent ", out, at);
     let end = hex::put(pdu, out, label);
     text::put(b"\n", out, end)
 }
 
 // `started PDU segments N` and a newline; N is SegN + 1.
-fn put_started(pdu: &[u8], segn: u8, out: &mut [u8], at: usize) -> usize {
+fn put_started(pdu: &[u8], segn: u8, out: &mut [u8], at: usize) -> usize
+    ensures { λ r. ⌜ lent r (now (out .exit)) ≡ putting (octets "started " ++ (hexText (now (pdu .entry)) ++ (named " segments " 1 (segn + 1) ++ octets "\n"))) (now (out .entry)) at ⌝ }
+{
     let label = text::put(b"started ", out, at);
     let made = hex::put(pdu, out, label);
     let end = number::put(b" segments ", segn as u64 + 1, 1, out, made);
@@ -186,7 +225,9 @@ fn put_started(pdu: &[u8], segn: u8, out: &mut [u8], at: usize) -> usize {
 }
 
 // What a request to send is answered; pdu is the buffer lent for a PDU.
-pub fn put_spoken(a: Sending, pdu: &[u8], out: &mut [u8], at: usize) -> usize {
+pub fn put_spoken(a: Sending, pdu: &[u8], out: &mut [u8], at: usize) -> usize
+    ensures { λ r. ⌜ lent r (now (out .exit)) ≡ putting (spokenText a (now (pdu .entry))) (now (out .entry)) at ⌝ }
+{
     match a {
         Sending::Sent(len) => put_sent(text::first(pdu, len), out, at),
         Sending::Started { len, segn } => put_started(text::first(pdu, len), segn, out, at),
@@ -195,7 +236,9 @@ pub fn put_spoken(a: Sending, pdu: &[u8], out: &mut [u8], at: usize) -> usize {
 }
 
 // What a request to give up is answered.
-pub fn put_given_up(a: GivingUp, out: &mut [u8], at: usize) -> usize {
+pub fn put_given_up(a: GivingUp, out: &mut [u8], at: usize) -> usize
+    ensures { λ r. ⌜ lent r (now (out .exit)) ≡ putting (givenUpText a) (now (out .entry)) at ⌝ }
+{
     match a {
         GivingUp::Done => text::put(b"given up\n", out, at),
         GivingUp::Refused(refusal) => put_refused(receiver::answer::number(refusal), out, at),
@@ -203,7 +246,9 @@ pub fn put_given_up(a: GivingUp, out: &mut [u8], at: usize) -> usize {
 }
 
 // What a setup is answered.
-pub fn put_set_up(a: SettingUp, out: &mut [u8], at: usize) -> usize {
+pub fn put_set_up(a: SettingUp, out: &mut [u8], at: usize) -> usize
+    ensures { λ r. ⌜ lent r (now (out .exit)) ≡ putting (setUpText a) (now (out .entry)) at ⌝ }
+{
     match a {
         SettingUp::Ready => text::put(b"ready\n", out, at),
         SettingUp::Refused(refusal) => put_refused(receiver::answer::number(refusal), out, at),
@@ -211,15 +256,19 @@ pub fn put_set_up(a: SettingUp, out: &mut [u8], at: usize) -> usize {
 }
 
 // What a line is answered that needs no receiver.
-pub fn put_noted(reply: Reply, out: &mut [u8], at: usize) -> usize {
+pub fn put_noted(reply: Reply, out: &mut [u8], at: usize) -> usize
+    ensures { λ r. ⌜ lent r (now (out .exit)) ≡ putting (notedText reply) (now (out .entry)) at ⌝ }
+{
     match reply {
         Reply::Ok => text::put(b"ok\n", out, at),
         Reply::Unread => put_unread(out, at),
-        Reply::Silence => at,
+        Reply::Silence => text::put(b"", out, at),
     }
 }
 
 // What a line is answered that does not fit.
-pub fn put_unread(out: &mut [u8], at: usize) -> usize {
+pub fn put_unread(out: &mut [u8], at: usize) -> usize
+    ensures { λ r. ⌜ lent r (now (out .exit)) ≡ putting (octets "unread\n") (now (out .entry)) at ⌝ }
+{
     text::put(b"unread\n", out, at)
 }

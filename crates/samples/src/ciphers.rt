@@ -1,11 +1,11 @@
 // The requests on AES-128, CMAC and CCM.
 //
 // Each writes its answer to the first octets of out and says how many they are: none where the line is not of its form.
-ghost use Prim.Native.Nat.{_≤_};
 use modes::ccm::MicSize;
 use text::field;
 use text::hex;
 use text::hex::Octets;
+ghost use Prim.Native.Nat.{_≤_};
 
 // Answers a request of this file.
 pub(crate) fn request(line: &[u8], out: &mut [u8]) -> usize {

@@ -1,7 +1,6 @@
 // The requests on key derivation (MP 3.8.2).
 //
 // Each writes its answer to the first octets of out and says how many they are: none where the line is not of its form.
-use super::parts;
 use text::field;
 use text::hex;
 use text::hex::Octets;
@@ -38,8 +37,8 @@ fn network_keys(line: &[u8], out: &mut [u8]) -> usize {
     }
     let k = keys::k2(key);
     let nid = hex::put(&[k.nid], out, 0);
-    let encryption = parts::put_field(&k.encryption, out, nid);
-    parts::put_field(&k.privacy, out, encryption)
+    let encryption = super::part::put_field(&k.encryption, out, nid);
+    super::part::put_field(&k.privacy, out, encryption)
 }
 
 // `k4 KEY`: the AID.

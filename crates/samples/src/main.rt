@@ -5,11 +5,8 @@
 // The form of each request stands over its function, in ciphers.rt, derivation.rt and pdu.rt.
 mod ciphers;
 mod derivation;
-mod parts;
+mod part;
 mod pdu;
-
-ghost use Prim.Native.Nat.{_≤_, _<_};
-ghost use lib.ListN.{length};
 
 // Reads standard input, its first 65,536 octets, and answers it.
 fn main() {
@@ -18,26 +15,18 @@ fn main() {
     answer_all(&input[..n]);
 }
 
-// Answers each line.
+// Answers each line, with its newline if it has one.
 fn answer_all(input: &[u8]) {
     let mut at: usize = 0;
     while at < input.len() {
-        let next = line_end(input, at);
-        answer(&input[at..next]);
-        at = next;
-    }
-}
-
-// Where the line that begins at `at` ends: just past its newline, or at the end of the input.
-fn line_end(input: &[u8], at: usize) -> usize
-    requires { ⌜ at < length (now input) ⌝ }
-    ensures { λ r. ⌜ (at < r) × (r ≤ length (now (input .entry))) ⌝ }
-{
-    let newline = text::until(input, at, b'\n');
-    if newline < input.len() {
-        newline + 1
-    } else {
-        input.len()
+        let end = text::until(input, at, b'\n');
+        if end < input.len() {
+            answer(&input[at..end + 1]);
+            at = end + 1;
+        } else {
+            answer(&input[at..]);
+            at = input.len();
+        }
     }
 }
 

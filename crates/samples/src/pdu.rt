@@ -1,9 +1,6 @@
 // The requests on one Network PDU (MP 3.4).
 //
 // Each writes its answer to the first octets of out and says how many they are: none where the line is not of its form.
-ghost use Prim.Native.Nat.{_≤_};
-ghost use lib.ListN.{length};
-use super::parts;
 use keys::NetworkKeys;
 use network::header::Header;
 use network::opening::Opening;
@@ -11,6 +8,9 @@ use network::sealing::Answer;
 use text::field;
 use text::hex;
 use text::hex::Octets;
+use text::number;
+ghost use Prim.Native.Nat.{_≤_};
+ghost use lib.ListN.{length};
 
 // Answers a request of this file.
 pub(crate) fn request(line: &[u8], out: &mut [u8]) -> usize {
@@ -34,8 +34,8 @@ fn sealed(line: &[u8], out: &mut [u8]) -> usize {
     let mut pdu = [0u8; 29];
     let answer = network::sealing::seal(keys::k2(key), h, &mut pdu);
     let Answer::Sealed(n) = answer else {
-        let number = network::sealing::number(answer);
-        return parts::put_count(b"refused ", number as usize, out, 0);
+        let refusal = network::sealing::number(answer);
+        return number::put_decimal(b"refused ", refusal as u64, out, 0);
     };
     hex::put(text::first(&pdu, n), out, 0)
 }
@@ -149,31 +149,31 @@ fn opened(line: &[u8], out: &mut [u8]) -> usize {
 // Puts what became of a Network PDU into out.
 fn put_opening(o: Opening, out: &mut [u8]) -> usize {
     let answer = o.answer;
-    let number = network::opening::number(answer);
-    if 0 < number {
-        let refused = parts::put_count(b"refused ", number as usize, out, 0);
-        return parts::put_count(b" trials ", o.trials, out, refused);
+    let refusal = network::opening::number(answer);
+    if 0 < refusal {
+        let refused = number::put_decimal(b"refused ", refusal as u64, out, 0);
+        return number::put_decimal(b" trials ", o.trials as u64, out, refused);
     }
     let h = o.header;
     let said = put_header(h, out);
-    let tried = parts::put_count(b" trials ", o.trials, out, said);
-    parts::put_count(b" key ", h.key, out, tried)
+    let tried = number::put_decimal(b" trials ", o.trials as u64, out, said);
+    number::put_decimal(b" key ", h.key as u64, out, tried)
 }
 
 // Puts what a Network PDU says into out: CTL, TTL, SEQ, SRC, DST and transport.
 fn put_header(h: Header, out: &mut [u8]) -> usize {
     let transport = h.transport;
     let seq = put_front(h, out);
-    let src = parts::put_field(&two(h.src), out, seq);
-    let dst = parts::put_field(&two(h.dst), out, src);
-    parts::put_field(text::first(&transport, h.len), out, dst)
+    let src = super::part::put_field(&two(h.src), out, seq);
+    let dst = super::part::put_field(&two(h.dst), out, src);
+    super::part::put_field(text::first(&transport, h.len), out, dst)
 }
 
 // Puts CTL, TTL and SEQ into out.
 fn put_front(h: Header, out: &mut [u8]) -> usize {
     let ctl = text::put(&[bit(h.ctl)], out, 0);
-    let ttl = parts::put_field(&[h.ttl], out, ctl);
-    parts::put_field(&three(h.seq), out, ttl)
+    let ttl = super::part::put_field(&[h.ttl], out, ctl);
+    super::part::put_field(&three(h.seq), out, ttl)
 }
 
 // The digit of CTL.

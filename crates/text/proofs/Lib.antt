@@ -1,2 +1,5 @@
--- The laws that the proofs of readers and writers of text cite.
-pub mod Digits
+-- Laws of the definitions in specs/.
+pub mod WrittenLaws
+pub mod FieldLaws
+pub mod HexLaws
+pub mod NumberLaws

@@ -3,18 +3,26 @@ pub mod field;
 pub mod hex;
 pub mod number;
 
-ghost use Prim.Native.Nat.{_≤_};
-ghost use lib.ListN.{length};
+ghost use mathlib.Core.Path.{_≡_};
+ghost use Prim.Native.Nat.{_+_, _≤_, min};
+ghost use lib.ListN.{length, take, drop};
 ghost use Rattle.io.specs.Counts.{Counts};
+ghost use Rattle.common.specs.Lent.{lent};
+ghost use Rattle.common.specs.Search.{first as placeOf};
+ghost use Rattle.text.specs.Field.{is};
+ghost use Rattle.text.specs.Written.{putting};
 
 // The first n octets of s: all of them where there are no more than n.
-pub fn first(s: &[u8], n: usize) -> &[u8] {
+pub fn first(s: &[u8], n: usize) -> &[u8]
+    ensures { λ r. ⌜ now r ≡ take n (now (s .entry)) ⌝ }
+{
     if n < s.len() { &s[..n] } else { s }
 }
 
 // A number of octets of s: n, or all where it has no more than n. `&s[..r]` then needs no proof.
 pub fn within(n: usize, s: &[u8]) -> usize
     ensures { λ r. ⌜ Counts r (now (s .entry)) ⌝ }
+    ensures { λ r. ⌜ r ≡ min n (length (now (s .entry))) ⌝ }
 {
     if n < s.len() {
         return n;
@@ -24,6 +32,7 @@ pub fn within(n: usize, s: &[u8]) -> usize
 
 // Where the first mark at or behind `from` stands: at the end of s where there is none, and at `from` where that is past the end.
 pub fn until(s: &[u8], from: usize, mark: u8) -> usize
+    ensures { λ r. ⌜ r ≡ from + placeOf (is mark) (drop from (now (s .entry))) ⌝ }
     ensures { λ r. ⌜ from ≤ r ⌝ }
 {
     let mut i = from;
@@ -38,7 +47,7 @@ pub fn until(s: &[u8], from: usize, mark: u8) -> usize
 
 // Puts s into out at `at`, as much of it as there is room for, and says where it ends.
 pub fn put(s: &[u8], out: &mut [u8], at: usize) -> usize
-    ensures { λ r. ⌜ r ≤ length (now (out .entry)) ⌝ }
+    ensures { λ r. ⌜ lent r (now (out .exit)) ≡ putting (now (s .entry)) (now (out .entry)) at ⌝ }
 {
     if out.len() <= at {
         return out.len();
@@ -48,5 +57,5 @@ pub fn put(s: &[u8], out: &mut [u8], at: usize) -> usize
     if s.len() < room {
         return at + s.len();
     }
-    out.len()
+    at + room
 }

@@ -1,7 +1,9 @@
--- `text::first` meets its contract: the first `n` of more than `n` octets are `n`.
+-- `text::first` meets its contract: the first `n` of more than `n` octets are a part, and of fewer they are all.
 -- Assumes nothing.
+use mathlib.Core.Path.{sym}
 use native.Mathlib.Omega.{arith}
 use lib.ListN.{length-take}
+use lib.Seq.{take-all}
 use borrow.Author.Needs.{needs}
 use Rattle.text.proofs.first.Statement.{statement}
 use Rattle.text.proofs.first.Tie as tie
@@ -13,7 +15,7 @@ returns : tie.Need-returns
 returns c = search needs
 
 returns-2 : tie.Need-returns-2
-returns-2 c = search needs
+returns-2 c = sym (take-all _ _ (c .if1 .left))
 
 pub first-spec : {M : Type 1} → statement M
 first-spec = tie.close (tie.spec slice-aggregate-result returns returns-2)

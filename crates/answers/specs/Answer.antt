@@ -1,0 +1,109 @@
+-- The console's answers as text. IV Indexes and bits have 8 digits, sequence numbers 6, addresses 4, other numbers no zeros in front.
+--   heardText a t message   what became of a PDU that was heard, t the numbers of keys tried
+--   forwardText pdu         what was forwarded, and the newline
+--   spokenText a pdu        a request to send
+--   givenUpText a           a request to give up
+--   setUpText a             a setup
+--   notedText r             a line that needs no receiver
+use mathlib.Core.List.{List, [], _∷_, _++_}
+use Prim.Native.Nat.{ℕ, _+_}
+use Prim.Native.String.{String}
+use lib.ListN.{take}
+use Rattle.memory.specs.declared.outgoing.Effect.{Effect}
+use Rattle.memory.specs.declared.outgoing.Effect.the-variants as effect
+use Rattle.memory.specs.declared.pair.Pair.{Pair}
+use Rattle.transport.specs.declared.securing.MessageKey.{MessageKey}
+use Rattle.transport.specs.declared.securing.MessageKey.the-variants.{Application, Device}
+use Rattle.receiver.specs.declared.answer.Answer.{Answer}
+use Rattle.receiver.specs.declared.answer.Answer.the-variants.{Refused, Stored, Repeated, Access, Control, Acknowledgement}
+use Rattle.receiver.specs.Answer.{refusalNumber}
+use Rattle.receiver.specs.declared.fresh.Answer.{Answer as SettingUp}
+use Rattle.receiver.specs.declared.fresh.Answer.the-variants as fresh
+use Rattle.receiver.specs.declared.give_up.Answer.{Answer as GivingUp}
+use Rattle.receiver.specs.declared.give_up.Answer.the-variants as up
+use Rattle.sending.specs.declared.answer.Answer.{Answer as Sending}
+use Rattle.sending.specs.declared.answer.Answer.the-variants as sending
+use Rattle.commands.specs.declared.desk.Reply.{Reply}
+use Rattle.commands.specs.declared.desk.Reply.the-variants as reply
+use Rattle.text.specs.Octets.{octets}
+use Rattle.text.specs.Hex.{hexText}
+use Rattle.text.specs.Number.{numberText, decimalText}
+use Rattle.answers.specs.declared.answer.Trials.{Trials}
+
+-- a label, and a number behind it in at least w digits
+abbrev pub named : String → ℕ → ℕ → List ℕ
+named label w n = octets label ++ numberText w n
+
+abbrev pub refusalText : ℕ → List ℕ
+refusalText n = octets "refused " ++ decimalText n
+
+abbrev pub refusedText : ℕ → List ℕ
+refusedText n = refusalText n ++ octets "\n"
+
+abbrev pub trialsText : Trials → List ℕ
+trialsText t = named " trials " 1 (t .network) ++ named " " 1 (t .application)
+
+-- the label stands before the sequence number
+abbrev pub pairText : Pair → List ℕ → List ℕ
+pairText p label = named " iv " 8 (p .iv) ++ (label ++ numberText 6 (p .seq))
+
+abbrev pub segmentsText : ℕ → Pair → ℕ → List ℕ
+segmentsText src auth bits = named " src " 4 src ++ (pairText auth (octets " auth ") ++ named " bits " 8 bits)
+
+abbrev pub routeText : ℕ → ℕ → ℕ → List ℕ
+routeText src dst network = named " src " 4 src ++ (named " dst " 4 dst ++ named " net " 1 network)
+
+abbrev pub keyText : MessageKey → List ℕ
+keyText (Application i) = named " key " 1 i
+keyText Device = octets " key dev"
+
+abbrev pub messageText : Pair → Trials → List ℕ → List ℕ
+messageText p t message = pairText p (octets " seq ") ++ (trialsText t ++ (octets " message " ++ hexText message))
+
+abbrev pub effectText : Effect → List ℕ
+effectText effect.Nothing = octets " nothing"
+effectText effect.Marked = octets " marked"
+effectText effect.Completed = octets " complete"
+effectText effect.Cancelled = octets " cancelled"
+
+abbrev pub accessText : ℕ → ℕ → ℕ → MessageKey → List ℕ
+accessText src dst network key = octets "access" ++ (routeText src dst network ++ keyText key)
+
+abbrev pub controlText : ℕ → ℕ → ℕ → ℕ → List ℕ
+controlText src dst network opcode = octets "control" ++ (routeText src dst network ++ named " opcode " 1 opcode)
+
+abbrev pub acknowledgementText : ℕ → ℕ → Effect → List ℕ
+acknowledgementText src bits effect = named "acknowledgement src " 4 src ++ (named " bits " 8 bits ++ effectText effect)
+
+-- what became of a PDU that was heard; the message stands in the first octets of a buffer
+unfoldable pub heardText : Answer → Trials → List ℕ → List ℕ
+heardText (Refused refusal) t message = refusalText (refusalNumber refusal) ++ trialsText t
+heardText (Stored src auth bits) t message = (octets "stored" ++ segmentsText src auth bits) ++ trialsText t
+heardText (Repeated src auth bits) t message = (octets "repeat" ++ segmentsText src auth bits) ++ trialsText t
+heardText (Access src dst network key pair len) t message = accessText src dst network key ++ messageText pair t (take len message)
+heardText (Control src dst network opcode pair len) t message = controlText src dst network opcode ++ messageText pair t (take len message)
+heardText (Acknowledgement src bits effect) t message = acknowledgementText src bits effect ++ trialsText t
+
+-- what was forwarded, if anything, and the newline
+abbrev pub forwardText : List ℕ → List ℕ
+forwardText [] = octets "\n"
+forwardText (o ∷ pdu) = octets " forward " ++ (hexText (o ∷ pdu) ++ octets "\n")
+
+-- what a request to send is answered; the PDU stands in the first octets of a buffer
+unfoldable pub spokenText : Sending → List ℕ → List ℕ
+spokenText (sending.Sent len) pdu = octets "sent " ++ (hexText (take len pdu) ++ octets "\n")
+spokenText (sending.Started len segn) pdu = octets "started " ++ (hexText (take len pdu) ++ (named " segments " 1 (segn + 1) ++ octets "\n"))
+spokenText (sending.Refused refusal) pdu = refusedText (refusalNumber refusal)
+
+unfoldable pub givenUpText : GivingUp → List ℕ
+givenUpText up.Done = octets "given up\n"
+givenUpText (up.Refused refusal) = refusedText (refusalNumber refusal)
+
+unfoldable pub setUpText : SettingUp → List ℕ
+setUpText fresh.Ready = octets "ready\n"
+setUpText (fresh.Refused refusal) = refusedText (refusalNumber refusal)
+
+unfoldable pub notedText : Reply → List ℕ
+notedText reply.Ok = octets "ok\n"
+notedText reply.Unread = octets "unread\n"
+notedText reply.Silence = []

@@ -1,0 +1,3 @@
+-- What the console's answers say.
+pub mod Answer
+pub mod Looking

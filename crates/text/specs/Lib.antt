@@ -1,0 +1,6 @@
+-- What reading and writing text means: fields, octets as hex pairs, numbers, and text put behind text.
+pub mod Octets
+pub mod Written
+pub mod Field
+pub mod Hex
+pub mod Number
