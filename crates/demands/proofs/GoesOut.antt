@@ -1,6 +1,7 @@
--- What sending accepts goes out in full. A request that is allowed names an element with a unicast address, a network key whose NID has 7 bits, a TTL and a DST that may be sent with, and a message whose
--- transport PDUs have their length; so sealing refuses none, and with SEQs left and a buffer each call makes its PDU. Segments are sent one after another, none of them heard
--- yet, and well within 8,191 numbers. Assumes nothing.
+-- What sending accepts goes out in full. A request that is allowed names an element, whose address is unicast since setup made it; a network key that is
+-- held, whose NID has 7 bits since it was derived; a TTL of 7 bits; a DST that may be sent to; and a message whose transport PDUs have their length.
+-- That is all that sealing asks for, so it refuses none, and with an SEQ left and a buffer the call makes its PDU. A message in segments is then kept:
+-- each later call finds it, none of its segments heard yet, and its number well within 8,191 of the first. Assumes nothing.
 use mathlib.Core.Bool.{Bool, true, false, _&&_, _||_, not, false≢true}
 use mathlib.Core.List.{List, [], _∷_, map}
 use mathlib.Core.Path.{_≡_, refl, sym, ap, _∙_, subst}

@@ -1,7 +1,10 @@
--- Demand 3. Follow the scene from arrival to arrival: behind any list of them each speech stands at the stage that its segments come so far make (`Scenery`), whatever came between, since
--- a slot or an entry of one source is never another's, and eight speakers find a slot each. Read off that stage: a segment hands up the message exactly where it was the
--- last that was missing, and the acknowledgement names the places filled. Behind all of them every speech is done, so no session is open and each replay entry is
--- the speech's own, in whatever order they came; the order in turn is one such. From the first segment on a speech is complete once and stays so: one message. Assumes nothing.
+-- Demand 3. Follow the scene from arrival to arrival. Behind any list of them each speech stands at the stage that its segments come so far make
+-- (`Scenery`): silent, gathering in a session, or done. A segment moves its own speech on and leaves the others, since a slot or an entry of one source
+-- is never another's; there is always room, since eight speakers need eight slots at most and 32 entries are more than eight. A PDU from the cache
+-- brings a segment that had come; one that no key opens, and a request to acknowledge, move nothing. Now read off the stage: a segment hands up the
+-- message exactly where it was the last that was missing, and an acknowledgement names the places filled. Behind all of them every speech is done, so no
+-- session is open and each replay entry is the speech's own, in whatever order they came; the order in turn is one such. A speech that is done stays so:
+-- one message each. Assumes nothing.
 use mathlib.Core.Bool.{Bool, true, false, _&&_, _||_, not, false≢true, true≢false}
 use mathlib.Core.List.{List, [], _∷_, _++_, map}
 use mathlib.Core.Logic.{_⊎_, inl, inr, ⊎-elim}

@@ -1,6 +1,8 @@
--- Sequence numbers rise. A call that makes a PDU used its element's next SEQ and left that one greater by one; every other call, and every other element, leaves a next SEQ that has
--- not fallen. So all that is used later of that element lies above: what a list of calls uses begins at the next SEQ that it finds. Two equal uses
--- would be one below itself. Assumes nothing.
+-- Sequence numbers rise. A call that makes a PDU stamped it with its element's next SEQ and left that one greater by one; every other call, and every
+-- other element, leaves a next SEQ that has not fallen: hearing and giving up do not touch it. So whatever a list of calls uses of an element begins at
+-- the next SEQ that the list finds. Take the first call away: what it used lies one below where the rest begins, so below all that the rest uses of that
+-- element. Two equal uses would then lie below each other. What was used is also what was sent, since the header that was sealed carries it. Assumes
+-- nothing.
 use mathlib.Core.Bool.{Bool, true, false, _&&_, false≢true, true≢false}
 use mathlib.Core.List.{List, [], _∷_, _++_}
 use mathlib.Core.Path.{_≡_, refl, sym, ap, _∙_, subst}

@@ -1,7 +1,9 @@
--- Demand 2. A call that made a PDU went one of two ways. Whole: the PDU opens to the header that was sealed; a fresh receiver has nothing against it; the transport PDU reads back as it was
--- written, and the message's key, which both hold, opens what it secured. In segments: the sender keeps the secured octets and each later call seals their next chunk under the next
--- SEQ, so the PDUs are those of one speech, each segment once and in order; that is a scene of demand 3 with one speaker, where segment n finds the places below it
--- filled, and so SegN is the one that was missing last. Requests that are allowed name keys and lengths that both sides agree on. Assumes nothing.
+-- Demand 2. A call that made a PDU went one of two ways. Whole: the PDU opens to the header that was sealed; a fresh receiver has nothing in its cache
+-- or its replay list against it; the transport PDU reads back as it was written; and the message's key, which both hold, opens what it secured. In
+-- segments: the sender keeps the secured octets, and each later call seals their next chunk under the next SEQ. So the PDUs are those of one speech,
+-- each segment once and in order: a scene of demand 3 with one speaker, where segment n finds the places below it filled. Then SegN is the one that was
+-- missing last, and all before it are stored. That both sides agree on keys, nonce and lengths follows from the request's being allowed. Assumes
+-- nothing.
 use mathlib.Core.Bool.{Bool, true, false, _&&_, _||_, not, false≢true, true≢false}
 use mathlib.Core.List.{List, [], _∷_, _++_, map}
 use mathlib.Core.Path.{_≡_, refl, sym, ap, _∙_, subst}

@@ -1,5 +1,7 @@
--- Demand 1, of sending and giving up. Every refusal stands before the transmission or is its own: before it nothing has been touched, and a transmission that is
--- not sent hands back what it got, since sealing writes nothing where it refuses. The promises are read off each call's chain of tests. Assumes nothing.
+-- Demand 1, of sending and giving up. Follow a call down its chain of tests. A refusal that stands before the transmission has touched nothing: 16 and
+-- 14 hand back receiver and buffer. The transmission has refusals of its own: without an SEQ (15) it does not begin, and sealing writes nothing where it
+-- refuses, so it too hands back what it got. What is sent or begun is no refusal. Giving up either zeroes what is there or, where nothing is, hands the
+-- receiver back. So each promise is read off the end of each way. Assumes nothing.
 use mathlib.Core.Bool.{Bool, true, false, _&&_, false≢true}
 use mathlib.Core.List.{List}
 use mathlib.Core.Path.{_≡_, refl, sym, ap, _∙_, subst}
