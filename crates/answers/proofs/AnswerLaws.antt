@@ -127,26 +127,34 @@ module _ (out : List ℕ) (at r : ℕ) (o : List ℕ) where
     unfolding spokenText
     spoken-refused x n k h e = rw (k, ← h) e
 
-  -- ---- what became of a PDU: its front is put, and the rest behind it
-  module _ (a : Answer) (t : Trials) (message : List ℕ) (r1 : ℕ) (o1 : List ℕ) where
+  -- ---- what became of a PDU
+  module _ (a : Answer) (t : Trials) (message : List ℕ) where
     pub heard-refused :
-        (x : Refusal) (n : ℕ) → a ≡ Refused x → n ≡ refusalNumber x → lent r1 o1 ≡ putting (refusalText n) out at
-        → lent r o ≡ putting (trialsText t) o1 r1 → lent r o ≡ putting (heardText a t message) out at
+        (x : Refusal) (n : ℕ) → a ≡ Refused x → n ≡ refusalNumber x → lent r o ≡ putting (refusalText n ++ trialsText t) out at
+        → lent r o ≡ putting (heardText a t message) out at
     unfolding heardText
-    heard-refused x n k h e f = rw (k, ← h) (put-then _ _ out at r1 r o1 o e f)
+    heard-refused x n k h e = rw (k, ← h) e
 
     pub heard-stored :
-        (src : ℕ) (auth : Pair) (bits : ℕ) → a ≡ Stored src auth bits → lent r1 o1 ≡ putting (octets "stored" ++ segmentsText src auth bits) out at
-        → lent r o ≡ putting (trialsText t) o1 r1 → lent r o ≡ putting (heardText a t message) out at
+        (src : ℕ) (auth : Pair) (bits : ℕ) → a ≡ Stored src auth bits
+        → lent r o ≡ putting (octets "stored" ++ (segmentsText src auth bits ++ trialsText t)) out at → lent r o ≡ putting (heardText a t message) out at
     unfolding heardText
-    heard-stored src auth bits k e f = rw k (put-then _ _ out at r1 r o1 o e f)
+    heard-stored src auth bits k e = rw k e
 
     pub heard-repeated :
-        (src : ℕ) (auth : Pair) (bits : ℕ) → a ≡ Repeated src auth bits → lent r1 o1 ≡ putting (octets "repeat" ++ segmentsText src auth bits) out at
-        → lent r o ≡ putting (trialsText t) o1 r1 → lent r o ≡ putting (heardText a t message) out at
+        (src : ℕ) (auth : Pair) (bits : ℕ) → a ≡ Repeated src auth bits
+        → lent r o ≡ putting (octets "repeat" ++ (segmentsText src auth bits ++ trialsText t)) out at → lent r o ≡ putting (heardText a t message) out at
     unfolding heardText
-    heard-repeated src auth bits k e f = rw k (put-then _ _ out at r1 r o1 o e f)
+    heard-repeated src auth bits k e = rw k e
 
+    pub heard-acknowledgement :
+        (src bits : ℕ) (f : Effect) → a ≡ Acknowledgement src bits f → lent r o ≡ putting (acknowledgementText src bits f t) out at
+        → lent r o ≡ putting (heardText a t message) out at
+    unfolding heardText
+    heard-acknowledgement src bits f k e = rw k e
+
+  -- a message: its front is put, and the rest behind it
+  module _ (a : Answer) (t : Trials) (message : List ℕ) (r1 : ℕ) (o1 : List ℕ) where
     pub heard-access :
         (src dst network : ℕ) (key : MessageKey) (pair : Pair) (len : ℕ) (s : List ℕ) → a ≡ Access src dst network key pair len → s ≡ take len message
         → lent r1 o1 ≡ putting (accessText src dst network key) out at → lent r o ≡ putting (messageText pair t s) o1 r1
@@ -160,12 +168,6 @@ module _ (out : List ℕ) (at r : ℕ) (o : List ℕ) where
         → lent r o ≡ putting (heardText a t message) out at
     unfolding heardText
     heard-control src dst network opcode pair len s k h e f = rw (k, ← h) (put-then _ _ out at r1 r o1 o e f)
-
-    pub heard-acknowledgement :
-        (src bits : ℕ) (f : Effect) → a ≡ Acknowledgement src bits f → lent r1 o1 ≡ putting (acknowledgementText src bits f) out at
-        → lent r o ≡ putting (trialsText t) o1 r1 → lent r o ≡ putting (heardText a t message) out at
-    unfolding heardText
-    heard-acknowledgement src bits f k e g = rw k (put-then _ _ out at r1 r o1 o e g)
 
 pub ruleset key-rules = (key-application, key-device)
 

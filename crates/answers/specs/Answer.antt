@@ -72,17 +72,17 @@ accessText src dst network key = octets "access" ++ (routeText src dst network +
 abbrev pub controlText : ℕ → ℕ → ℕ → ℕ → List ℕ
 controlText src dst network opcode = octets "control" ++ (routeText src dst network ++ named " opcode " 1 opcode)
 
-abbrev pub acknowledgementText : ℕ → ℕ → Effect → List ℕ
-acknowledgementText src bits effect = named "acknowledgement src " 4 src ++ (named " bits " 8 bits ++ effectText effect)
+abbrev pub acknowledgementText : ℕ → ℕ → Effect → Trials → List ℕ
+acknowledgementText src bits effect t = named "acknowledgement src " 4 src ++ (named " bits " 8 bits ++ (effectText effect ++ trialsText t))
 
 -- what became of a PDU that was heard; the message stands in the first octets of a buffer
 unfoldable pub heardText : Answer → Trials → List ℕ → List ℕ
 heardText (Refused refusal) t message = refusalText (refusalNumber refusal) ++ trialsText t
-heardText (Stored src auth bits) t message = (octets "stored" ++ segmentsText src auth bits) ++ trialsText t
-heardText (Repeated src auth bits) t message = (octets "repeat" ++ segmentsText src auth bits) ++ trialsText t
+heardText (Stored src auth bits) t message = octets "stored" ++ (segmentsText src auth bits ++ trialsText t)
+heardText (Repeated src auth bits) t message = octets "repeat" ++ (segmentsText src auth bits ++ trialsText t)
 heardText (Access src dst network key pair len) t message = accessText src dst network key ++ messageText pair t (take len message)
 heardText (Control src dst network opcode pair len) t message = controlText src dst network opcode ++ messageText pair t (take len message)
-heardText (Acknowledgement src bits effect) t message = acknowledgementText src bits effect ++ trialsText t
+heardText (Acknowledgement src bits effect) t message = acknowledgementText src bits effect t
 
 -- what was forwarded, if anything, and the newline
 abbrev pub forwardText : List ℕ → List ℕ

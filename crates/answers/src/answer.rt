@@ -105,12 +105,29 @@ fn put_effect(effect: Effect, out: &mut [u8], at: usize) -> usize
     }
 }
 
+// `refused N trials T A`.
+fn put_refusal_heard(n: u32, t: Trials, out: &mut [u8], at: usize) -> usize
+    ensures { λ r. ⌜ lent r (now (out .exit)) ≡ putting (refusalText n ++ trialsText t) (now (out .entry)) at ⌝ }
+{
+    let end = put_refusal(n, out, at);
+    put_trials(t, out, end)
+}
+
 // `stored` or `repeat`, with the segments that have come.
-fn put_segment(word: &[u8], src: u16, auth: Pair, bits: u32, out: &mut [u8], at: usize) -> usize
-    ensures { λ r. ⌜ lent r (now (out .exit)) ≡ putting (now (word .entry) ++ segmentsText src auth bits) (now (out .entry)) at ⌝ }
+fn put_segment(
+    word: &[u8],
+    src: u16,
+    auth: Pair,
+    bits: u32,
+    t: Trials,
+    out: &mut [u8],
+    at: usize,
+) -> usize
+    ensures { λ r. ⌜ lent r (now (out .exit)) ≡ putting (now (word .entry) ++ (segmentsText src auth bits ++ trialsText t)) (now (out .entry)) at ⌝ }
 {
     let named = text::put(word, out, at);
-    put_segments(src, auth, bits, out, named)
+    let segments = put_segments(src, auth, bits, out, named);
+    put_trials(t, out, segments)
 }
 
 // `access src S dst D net K key J`.
@@ -138,13 +155,21 @@ fn put_control(src: u16, dst: u16, network: usize, opcode: u8, out: &mut [u8], a
     number::put(b" opcode ", opcode as u64, 1, out, route)
 }
 
-// `acknowledgement src S bits B EFFECT`.
-fn put_acknowledgement(src: u16, bits: u32, effect: Effect, out: &mut [u8], at: usize) -> usize
-    ensures { λ r. ⌜ lent r (now (out .exit)) ≡ putting (acknowledgementText src bits effect) (now (out .entry)) at ⌝ }
+// `acknowledgement src S bits B EFFECT trials T A`.
+fn put_acknowledgement(
+    src: u16,
+    bits: u32,
+    effect: Effect,
+    t: Trials,
+    out: &mut [u8],
+    at: usize,
+) -> usize
+    ensures { λ r. ⌜ lent r (now (out .exit)) ≡ putting (acknowledgementText src bits effect t) (now (out .entry)) at ⌝ }
 {
     let source = number::put(b"acknowledgement src ", src as u64, 4, out, at);
     let marks = number::put(b" bits ", bits as u64, 8, out, source);
-    put_effect(effect, out, marks)
+    let done = put_effect(effect, out, marks);
+    put_trials(t, out, done)
 }
 
 // What became of a PDU that was heard; message is the buffer lent for a message.
@@ -152,18 +177,9 @@ pub fn put_heard(a: Answer, t: Trials, message: &[u8], out: &mut [u8], at: usize
     ensures { λ r. ⌜ lent r (now (out .exit)) ≡ putting (heardText a t (now (message .entry))) (now (out .entry)) at ⌝ }
 {
     match a {
-        Answer::Refused(refusal) => {
-            let end = put_refusal(receiver::answer::number(refusal), out, at);
-            put_trials(t, out, end)
-        }
-        Answer::Stored { src, auth, bits } => {
-            let end = put_segment(b"stored", src, auth, bits, out, at);
-            put_trials(t, out, end)
-        }
-        Answer::Repeated { src, auth, bits } => {
-            let end = put_segment(b"repeat", src, auth, bits, out, at);
-            put_trials(t, out, end)
-        }
+        Answer::Refused(x) => put_refusal_heard(receiver::answer::number(x), t, out, at),
+        Answer::Stored { src, auth, bits } => put_segment(b"stored", src, auth, bits, t, out, at),
+        Answer::Repeated { src, auth, bits } => put_segment(b"repeat", src, auth, bits, t, out, at),
         Answer::Access {
             src,
             dst,
@@ -187,8 +203,7 @@ pub fn put_heard(a: Answer, t: Trials, message: &[u8], out: &mut [u8], at: usize
             put_message(pair, t, text::first(message, len), out, end)
         }
         Answer::Acknowledgement { src, bits, effect } => {
-            let end = put_acknowledgement(src, bits, effect, out, at);
-            put_trials(t, out, end)
+            put_acknowledgement(src, bits, effect, t, out, at)
         }
     }
 }

@@ -100,3 +100,12 @@ put-nothing out at h =
     sym
     (ap₂ lent (ap length same ∙ front)
     (ap (λ (l : List ℕ). onto l out) same ∙ ap (λ (n : ℕ). take at out ++ drop n out) front ∙ take-append-drop at out))
+
+-- where the text ends is within the buffer
+pub put-within : (s out : List ℕ) (at r : ℕ) (o : List ℕ) → lent r o ≡ putting s out at → r ≤ length o
+unfolding putting
+put-within s out at r o e =
+    let w = written out at s in
+    let er : r ≡ length w = ap (λ (p : Lent ℕ). p .answer) e in
+    let eo : length o ≡ length (onto w out) = ap (λ (p : Lent ℕ). length (p .buffer)) e in
+    omega (arith, er, eo, length-append w (drop (length w) out))

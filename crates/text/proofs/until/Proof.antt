@@ -1,13 +1,13 @@
 -- `text::until` meets its contract: the mark that is to be found from `from` on is to be found from `i` on, and what is left of `s` falls.
 -- Assumes nothing.
+use mathlib.Core.Path.{_≡_, refl, sym, _∙_}
 use Prim.Native.Nat.{_+_, _-_, _≤_}
-use Rattle.common.specs.Search.{first as placeOf}
-use Rattle.text.proofs.FieldLaws.{mark-here, mark-on, mark-past}
-use Rattle.text.specs.Field.{is}
+use native.Mathlib.Omega.{arith}
 use borrow.Author.Needs.{needs}
 use lib.ListN.{length, drop}
-use mathlib.Core.Path.{_≡_, refl, sym, _∙_}
-use native.Mathlib.Omega.{arith}
+use Rattle.common.specs.Search.{first as placeOf}
+use Rattle.text.specs.Field.{is}
+use Rattle.text.proofs.FieldLaws.{mark-here, mark-on, mark-past}
 use Rattle.text.proofs.until.Statement.{statement}
 use Rattle.text.proofs.until.Tie as tie
 
@@ -20,17 +20,8 @@ abbrev μ-loop : tie.MeasureT-loop
 loop-holds : tie.Need-loop-holds Inv-loop μ-loop
 loop-holds c = (omega arith, refl)
 
-shared-slice-read-if1 : tie.Need-shared-slice-read-if1 Inv-loop μ-loop
-shared-slice-read-if1 c = search needs
-
 returns : tie.Need-returns Inv-loop μ-loop
 returns c = let l = c .before .before .before .loop in (sym (l .inv .1 ∙ mark-here _ _ (l .i) (search needs) (c .if1 .taken)), l .inv .0)
-
-add-i : tie.Need-add-i Inv-loop μ-loop
-add-i c = search needs
-
-loop-less : tie.Need-loop-less Inv-loop μ-loop
-loop-less c = search needs
 
 loop-again : tie.Need-loop-again Inv-loop μ-loop
 loop-again c = let l = c .before .before .before .loop in (omega arith, l .inv .1 ∙ mark-on _ _ (l .i) (search needs) (c .if1 .left))
@@ -42,12 +33,4 @@ pub until-spec : {M : Type 1} → statement M
 until-spec =
     tie.close
     (tie.spec
-    Inv-loop
-    μ-loop
-    loop-holds
-    shared-slice-read-if1
-    returns
-    add-i
-    loop-less
-    loop-again
-    returns-2)
+    Inv-loop μ-loop loop-holds (λ c. search needs) returns (λ c. search needs) (λ c. search needs) loop-again returns-2)

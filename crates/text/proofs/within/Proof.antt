@@ -12,4 +12,6 @@ returns-2 : tie.Need-returns-2
 returns-2 c = ((omega arith, simp length-take (omega arith)), omega arith)
 
 pub within-spec : {M : Type 1} → statement M
-within-spec = tie.close (tie.spec returns returns-2)
+within-spec = tie.close
+    (tie.spec
+    returns returns-2)

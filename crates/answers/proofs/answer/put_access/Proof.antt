@@ -7,5 +7,7 @@ use Rattle.answers.proofs.answer.put_access.Tie as tie
 
 pub put-access-spec : {M : Type 1} → statement M
 put-access-spec =
-    tie.close (tie.spec
-    (λ c. search needs) (λ c κs. search needs) (λ c κs. search needs) (λ c κs. search needs) (λ c. search needs) (λ c. search (put-then, needs)))
+    tie.close
+    (tie.spec
+    (λ c. search needs) (λ c κs. search needs) (λ c κs. search needs) (λ c κs. search needs) (λ c. search needs)
+    (λ c. search (put-then, needs)))

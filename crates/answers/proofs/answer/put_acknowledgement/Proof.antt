@@ -7,6 +7,7 @@ use Rattle.answers.proofs.answer.put_acknowledgement.Tie as tie
 
 pub put-acknowledgement-spec : {M : Type 1} → statement M
 put-acknowledgement-spec =
-    tie.close (tie.spec
-    (λ c. search needs) (λ c κs. search needs) (λ c. search needs) (λ c κs. search needs) (λ c κs. search needs) (λ c. search needs)
-    (λ c. search (put-then, needs)))
+    tie.close
+    (tie.spec
+    (λ c. search needs) (λ c κs. search needs) (λ c. search needs) (λ c κs. search needs) (λ c κs. search needs) (λ c κs. search needs)
+    (λ c. search needs) (λ c. search (put-then, needs)))

@@ -7,8 +7,9 @@ use Rattle.answers.proofs.answer.put_effect.Tie as tie
 
 pub put-effect-spec : {M : Type 1} → statement M
 put-effect-spec =
-    tie.close (tie.spec
-    (λ c. search needs) (λ c. search needs) (λ c κs. search needs) (λ c. search needs) (λ c. search needs) (λ c κs. search needs) (λ c. search needs)
-    (λ c. search needs) (λ c κs. search needs) (λ c. search needs) (λ c. search needs) (λ c κs. search needs) (λ c. search needs)
-    (λ c. search effect-rules) (λ c. search needs) (λ c. search effect-rules) (λ c. search needs) (λ c. search effect-rules) (λ c. search needs)
-    (λ c. search effect-rules))
+    tie.close
+    (tie.spec
+    (λ c. search needs) (λ c. search needs) (λ c κs. search needs) (λ c. search needs) (λ c. search needs) (λ c κs. search needs)
+    (λ c. search needs) (λ c. search needs) (λ c κs. search needs) (λ c. search needs) (λ c. search needs) (λ c κs. search needs)
+    (λ c. search needs) (λ c. search effect-rules) (λ c. search needs) (λ c. search effect-rules) (λ c. search needs)
+    (λ c. search effect-rules) (λ c. search needs) (λ c. search effect-rules))

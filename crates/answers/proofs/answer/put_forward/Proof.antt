@@ -8,7 +8,8 @@ use Rattle.answers.proofs.answer.put_forward.Tie as tie
 
 pub put-forward-spec : {M : Type 1} → statement M
 put-forward-spec =
-    tie.close (tie.spec
-    (λ c. search needs) (λ c κs. search needs) (λ c. search needs) (λ c. search (forward-none, forward-some, put-then, needs)) (λ c. search needs)
-    (λ c κs. search needs) (λ c κs. search needs) (λ c. search needs) (λ c κs. search needs) (λ c. search needs)
+    tie.close
+    (tie.spec
+    (λ c. search needs) (λ c κs. search needs) (λ c. search needs) (λ c. search (forward-none, forward-some, put-then, needs))
+    (λ c. search needs) (λ c κs. search needs) (λ c κs. search needs) (λ c. search needs) (λ c κs. search needs) (λ c. search needs)
     (λ c. search (forward-none, forward-some, put-then, needs)))

@@ -7,6 +7,7 @@ use Rattle.answers.proofs.answer.put_key.Tie as tie
 
 pub put-key-spec : {M : Type 1} → statement M
 put-key-spec =
-    tie.close (tie.spec
-    (λ c. search needs) (λ c. search needs) (λ c κs. search needs) (λ c. search needs) (λ c. search needs) (λ c κs. search needs) (λ c. search needs)
-    (λ c. search key-rules) (λ c. search needs) (λ c. search key-rules))
+    tie.close
+    (tie.spec
+    (λ c. search needs) (λ c. search needs) (λ c κs. search needs) (λ c. search needs) (λ c. search needs) (λ c κs. search needs)
+    (λ c. search needs) (λ c. search key-rules) (λ c. search needs) (λ c. search key-rules))

@@ -7,5 +7,6 @@ use Rattle.answers.proofs.answer.put_segment.Tie as tie
 
 pub put-segment-spec : {M : Type 1} → statement M
 put-segment-spec =
-    tie.close (tie.spec
-    (λ c κs. search needs) (λ c κs. search needs) (λ c. search needs) (λ c. search (put-then, needs)))
+    tie.close
+    (tie.spec
+    (λ c κs. search needs) (λ c κs. search needs) (λ c κs. search needs) (λ c. search needs) (λ c. search (put-then, needs)))

@@ -7,6 +7,7 @@ use Rattle.answers.proofs.answer.put_started.Tie as tie
 
 pub put-started-spec : {M : Type 1} → statement M
 put-started-spec =
-    tie.close (tie.spec
+    tie.close
+    (tie.spec
     (λ c. search needs) (λ c κs. search needs) (λ c κs. search needs) (λ c. search needs) (λ c. search needs) (λ c κs. search needs)
     (λ c. search needs) (λ c κs. search needs) (λ c. search needs) (λ c. search (put-then, needs)))

@@ -1,77 +1,74 @@
--- `looking::put_cache` meets its contract: no call changes the length of `out`, and the places that are left fall.
+-- `looking::put_cache` meets its contract: before place `i` the entries in front of it, oldest first, are put, and the places that are left fall.
 -- Assumes nothing.
-use Prim.Native.Nat.{_≤_, _-_}
+use mathlib.Core.List.{List, _++_}
+use mathlib.Core.Path.{_≡_, refl, ap, sym, _∙_}
+use Prim.Native.Nat.{ℕ, _-_, _%_, _≤_, _<_}
+use native.Mathlib.Omega.{arith}
 use borrow.Author.Needs.{needs}
-use lib.ListN.{length}
-use mathlib.Core.Path.{_≡_}
+use lib.ListN.{length, take, drop}
+use Rattle.common.proofs.Lists.{length-mapped}
+use Rattle.memory.specs.declared.cache.Seen.{Seen}
+use Rattle.text.specs.Written.{putting}
+use Rattle.text.proofs.WrittenLaws.{put-then, put-within}
+use Rattle.answers.specs.Looking.{seenText}
+use Rattle.answers.proofs.LookingLaws.{PutSo, so-none, so-more, so-all, rotated, length-rotated}
 use Rattle.answers.proofs.looking.put_cache.Statement.{statement}
 use Rattle.answers.proofs.looking.put_cache.Tie as tie
 
+-- the text of one
+abbrev each : ℕ → Seen → List ℕ
+each k e = seenText (e .src) (e .seq)
+
 abbrev Inv-loop : tie.InvT-loop
-Inv-loop out₀ at entries oldest to₀ i₀ t10 out to i = (i ≤ 16) × (length out ≡ length out₀)
+Inv-loop out₀ at entries oldest to₀ i₀ t10 out to i = (i ≤ 16) × (oldest < 16) × (length entries ≡ 16) × (length out ≡ length out₀) × PutSo each (drop oldest entries ++ take oldest entries) out₀ to₀ out to i
 
 abbrev μ-loop : tie.MeasureT-loop
 μ-loop out₀ at entries oldest to₀ i₀ t10 out to i = 16 - i
 
-slice-aggregate-put : tie.Need-slice-aggregate-put Inv-loop μ-loop
-slice-aggregate-put c = search needs
-
-put-requires : tie.Need-put-requires Inv-loop μ-loop
-put-requires c κs = search needs
-
 loop-holds : tie.Need-loop-holds Inv-loop μ-loop
-loop-holds c = search needs
-
-add-e : tie.Need-add-e Inv-loop μ-loop
-add-e c = search needs
-
-mul-e : tie.Need-mul-e Inv-loop μ-loop
-mul-e c = search needs
-
-array-copy-out-e : tie.Need-array-copy-out-e Inv-loop μ-loop
-array-copy-out-e c = search needs
-
-put-seen-requires : tie.Need-put-seen-requires Inv-loop μ-loop
-put-seen-requires c κs = search needs
-
-add-i : tie.Need-add-i Inv-loop μ-loop
-add-i c = search needs
-
-loop-less : tie.Need-loop-less Inv-loop μ-loop
-loop-less c = search needs
+loop-holds c =
+    let a = c .before .before .before .before .before .before .before .before .args in
+    let n = a .cache .next % 16 in
+    let all : length (a .cache .entries) ≡ 16 = search (needs, length-mapped) in (
+      omega arith,
+      omega arith,
+      all,
+      refl,
+      so-none each (drop n (a .cache .entries) ++ take n (a .cache .entries)) _ _ (put-within _ _ _ _ _ (c .before .before .put .ensures)),
+    )
 
 loop-again : tie.Need-loop-again Inv-loop μ-loop
-loop-again c = search needs
-
-slice-aggregate-put-2 : tie.Need-slice-aggregate-put-2 Inv-loop μ-loop
-slice-aggregate-put-2 c = search needs
-
-put-requires-2 : tie.Need-put-requires-2 Inv-loop μ-loop
-put-requires-2 c κs = search needs
-
-same-length : tie.Need-same-length Inv-loop μ-loop
-same-length c = search needs
+loop-again c =
+    let l = c .before .before .before .before .before .before .loop in
+    let a = c .before .before .before .before .before .before .before .before .before .before .before .before .before .before .before .args in
+    let n = a .cache .next % 16 in
+    let entries = a .cache .entries in
+    let none : Seen = record { src = 0; seq = 0 } in
+    let many = length-rotated entries n (omega arith) in
+    let here = rotated none entries n (l .i) (l .inv .2) (l .inv .1) (omega arith) in (
+      omega arith,
+      l .inv .1,
+      l .inv .2,
+      search needs,
+      so-more each (drop n entries ++ take n entries) _ _ none (l .out) (l .to) (l .i) _ _ (omega (arith, many)) (l .inv .4)
+          (c .before .before .put-seen .ensures ∙ ap (λ (e : Seen). putting (seenText (e .src) (e .seq)) (l .out) (l .to)) (sym here)),
+    )
 
 returns : tie.Need-returns Inv-loop μ-loop
-returns c = search needs
+returns c =
+    let l = c .before .before .before .before .before .before .loop in
+    let a = c .before .before .before .before .before .before .before .before .before .before .before .before .before .before .before .args in
+    let n = a .cache .next % 16 in
+    let entries = a .cache .entries in
+    let many = length-rotated entries n (omega arith) in
+    put-then _ _ _ _ _ _ _ _ (c .before .before .before .before .before .before .before .before .before .put .ensures)
+    (put-then _ _ _ _ _ _ _ _ (so-all each (drop n entries ++ take n entries) _ _ (l .out) (l .to) (l .i) (omega (arith, many)) (l .inv .4))
+    (c .before .before .put2 .ensures))
 
 pub put-cache-spec : {M : Type 1} → statement M
 put-cache-spec =
     tie.close
     (tie.spec
-    Inv-loop
-    μ-loop
-    slice-aggregate-put
-    put-requires
-    loop-holds
-    add-e
-    mul-e
-    array-copy-out-e
-    put-seen-requires
-    add-i
-    loop-less
-    loop-again
-    slice-aggregate-put-2
-    put-requires-2
-    same-length
+    Inv-loop μ-loop (λ c. search needs) (λ c κs. search needs) loop-holds (λ c. search needs) (λ c. search needs) (λ c. search needs)
+    (λ c κs. search needs) (λ c. search needs) (λ c. search needs) loop-again (λ c. search needs) (λ c κs. search needs) (λ c. search needs)
     returns)

@@ -1,81 +1,67 @@
--- `looking::put_next` meets its contract: no call changes the length of `out`, and the places that are left fall.
+-- `looking::put_next` meets its contract: before element `i` the numbers of those in front of it are put, and the elements that are left fall.
 -- Assumes nothing.
-use Prim.Native.Nat.{_≤_, _-_}
+use mathlib.Core.List.{List}
+use mathlib.Core.Path.{_≡_, refl, ap, sym, _∙_}
+use Prim.Native.Nat.{ℕ, _-_, _≤_, min}
+use native.Mathlib.Omega.{arith}
 use borrow.Author.Needs.{needs}
-use lib.ListN.{length}
-use mathlib.Core.Path.{_≡_}
+use lib.ListN.{length, take, length-take}
+use lib.Seq.{getD-take}
+use Rattle.text.specs.Octets.{octets}
+use Rattle.text.specs.Written.{putting}
+use Rattle.text.proofs.WrittenLaws.{put-then, put-within}
+use Rattle.answers.specs.Answer.{named}
+use Rattle.answers.proofs.LookingLaws.{PutSo, so-none, so-more, so-all}
 use Rattle.answers.proofs.looking.put_next.Statement.{statement}
 use Rattle.answers.proofs.looking.put_next.Tie as tie
 
+-- the text of one
+abbrev each : ℕ → ℕ → List ℕ
+each k seq = named " " 6 seq
+
 abbrev Inv-loop : tie.InvT-loop
-Inv-loop elements out₀ at next to₀ i₀ t9 t10 out to i = (i ≤ 8) × (length out ≡ length out₀)
+Inv-loop elements out₀ at next n to₀ i₀ t10 t11 out to i =
+    (i ≤ n) × (n ≡ min elements 8) × (length next ≡ 8) × (length out ≡ length out₀) × PutSo each (take (min elements 8) next) out₀ to₀ out to i
 
 abbrev μ-loop : tie.MeasureT-loop
-μ-loop elements out₀ at next to₀ i₀ t9 t10 out to i = 8 - i
-
-slice-aggregate-put : tie.Need-slice-aggregate-put Inv-loop μ-loop
-slice-aggregate-put c = search needs
-
-put-requires : tie.Need-put-requires Inv-loop μ-loop
-put-requires c κs = search needs
+μ-loop elements out₀ at next n to₀ i₀ t10 t11 out to i = n - i
 
 loop-holds : tie.Need-loop-holds Inv-loop μ-loop
-loop-holds c = search needs
-
-slice-aggregate-put-2 : tie.Need-slice-aggregate-put-2 Inv-loop μ-loop
-slice-aggregate-put-2 c = search needs
-
-mul-put : tie.Need-mul-put Inv-loop μ-loop
-mul-put c = search needs
-
-array-read-put : tie.Need-array-read-put Inv-loop μ-loop
-array-read-put c = search needs
-
-cast-put : tie.Need-cast-put Inv-loop μ-loop
-cast-put c = search needs
-
-put-requires-2 : tie.Need-put-requires-2 Inv-loop μ-loop
-put-requires-2 c κs = search needs
-
-add-i : tie.Need-add-i Inv-loop μ-loop
-add-i c = search needs
-
-loop-less : tie.Need-loop-less Inv-loop μ-loop
-loop-less c = search needs
+loop-holds c =
+    let first = c .before .before .put .ensures in
+    let begun = c .before .before .before .before .before in
+    let a = begun .before .before .args in
+    let shown = take (min (a .elements) 8) (a .t1) in
+    (omega arith, begun .count .ensures, begun .before .before .good .0 .1 .0 .1, refl, so-none each shown _ _ (put-within _ _ _ _ _ first))
 
 loop-again : tie.Need-loop-again Inv-loop μ-loop
-loop-again c = search needs
-
-slice-aggregate-put-3 : tie.Need-slice-aggregate-put-3 Inv-loop μ-loop
-slice-aggregate-put-3 c = search needs
-
-put-requires-3 : tie.Need-put-requires-3 Inv-loop μ-loop
-put-requires-3 c κs = search needs
-
-same-length : tie.Need-same-length Inv-loop μ-loop
-same-length c = search needs
+loop-again c =
+    let l = c .before .before .before .before .before .before .loop in
+    let a = c .before .before .before .before .before .before .before .before .before .before .before .before .before .before .args in
+    let shown = take (min (a .elements) 8) (a .t1) in
+    let many = length-take (min (a .elements) 8) (a .t1) in
+    let here = getD-take (min (a .elements) 8) (a .t1) (l .i) 0 (omega arith) in
+    let text = ap (λ (x : ℕ). putting (each (l .i) x) (l .out) (l .to)) (sym here) in (
+      omega arith,
+      l .inv .1,
+      l .inv .2,
+      search needs,
+      so-more each shown _ _ 0 (l .out) (l .to) (l .i) _ _ (omega (arith, many)) (l .inv .4) (c .before .before .put2 .ensures ∙ text),
+    )
 
 returns : tie.Need-returns Inv-loop μ-loop
-returns c = search needs
+returns c =
+    let l = c .before .before .before .before .before .before .loop in
+    let a = c .before .before .before .before .before .before .before .before .before .before .before .before .before .before .args in
+    let shown = take (min (a .elements) 8) (a .t1) in
+    let many = length-take (min (a .elements) 8) (a .t1) in
+    put-then _ _ _ _ _ _ _ _ (c .before .before .before .before .before .before .before .before .before .put .ensures)
+    (put-then _ _ _ _ _ _ _ _ (so-all each shown _ _ (l .out) (l .to) (l .i) (omega (arith, many)) (l .inv .4)) (c .before .before .put3 .ensures))
 
 pub put-next-spec : {M : Type 1} → statement M
 put-next-spec =
     tie.close
     (tie.spec
-    Inv-loop
-    μ-loop
-    slice-aggregate-put
-    put-requires
-    loop-holds
-    slice-aggregate-put-2
-    mul-put
-    array-read-put
-    cast-put
-    put-requires-2
-    add-i
-    loop-less
-    loop-again
-    slice-aggregate-put-3
-    put-requires-3
-    same-length
-    returns)
+    Inv-loop μ-loop (λ c κs. search needs) (λ c. search needs) (λ c κs. search needs) loop-holds (λ c. search needs) (λ c. search needs)
+    (λ c. search needs) (λ c. search needs) (λ c κs. search needs) (λ c. search needs) (λ c. search needs) loop-again (λ c. search needs)
+    (λ c κs. search needs) (λ c. search needs) returns)

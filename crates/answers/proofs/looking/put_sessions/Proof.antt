@@ -1,57 +1,41 @@
--- `looking::put_sessions` meets its contract: no call changes the length of `out`, and the places that are left fall.
+-- `looking::put_sessions` meets its contract: before place `i` the text of those in front of it is put, and the places that are left fall.
 -- Assumes nothing.
-use Prim.Native.Nat.{_≤_, _-_}
+use mathlib.Core.Path.{_≡_, refl}
+use Prim.Native.Nat.{_-_, _≤_}
+use native.Mathlib.Omega.{arith}
 use borrow.Author.Needs.{needs}
 use lib.ListN.{length}
-use mathlib.Core.Path.{_≡_}
+use Rattle.text.proofs.WrittenLaws.{put-then, put-within}
+use Rattle.answers.specs.Looking.{sessionText}
+use Rattle.answers.proofs.LookingLaws.{PutSo, so-none, so-more, so-all}
 use Rattle.answers.proofs.looking.put_sessions.Statement.{statement}
 use Rattle.answers.proofs.looking.put_sessions.Tie as tie
 
 abbrev Inv-loop : tie.InvT-loop
-Inv-loop out₀ at sessions to₀ i₀ out to i = (i ≤ 8) × (length out ≡ length out₀)
+Inv-loop out₀ at sessions to₀ i₀ out to i = (i ≤ 8) × (length sessions ≡ 8) × (length out ≡ length out₀) × PutSo sessionText sessions out₀ to₀ out to i
 
 abbrev μ-loop : tie.MeasureT-loop
 μ-loop out₀ at sessions to₀ i₀ out to i = 8 - i
 
 loop-holds : tie.Need-loop-holds Inv-loop μ-loop
-loop-holds c = search needs
-
-mul-put-session : tie.Need-mul-put-session Inv-loop μ-loop
-mul-put-session c = search needs
-
-array-copy-out-put-session : tie.Need-array-copy-out-put-session Inv-loop μ-loop
-array-copy-out-put-session c = search needs
-
-put-session-requires : tie.Need-put-session-requires Inv-loop μ-loop
-put-session-requires c κs = search needs
-
-add-i : tie.Need-add-i Inv-loop μ-loop
-add-i c = search needs
-
-loop-less : tie.Need-loop-less Inv-loop μ-loop
-loop-less c = search needs
+loop-holds c =
+    let first = c .before .before .put .ensures in
+    let start = c .before .before .before .before .before .before in
+    (omega arith, start .good .0 .1 .0 .1, refl, so-none sessionText (start .args .t1) _ _ (put-within _ _ _ _ _ first))
 
 loop-again : tie.Need-loop-again Inv-loop μ-loop
-loop-again c = search needs
-
-same-length : tie.Need-same-length Inv-loop μ-loop
-same-length c = search needs
+loop-again c =
+    let l = c .before .before .before .before .before .before .loop in
+    (omega arith, l .inv .1, search needs, so-more sessionText _ _ _ _ (l .out) (l .to) (l .i) _ _ (omega arith) (l .inv .3) (c .before .before .put-session .ensures))
 
 returns : tie.Need-returns Inv-loop μ-loop
-returns c = search needs
+returns c =
+    let l = c .before .loop in
+    put-then _ _ _ _ _ _ _ _ (c .before .before .before .before .put .ensures) (so-all sessionText _ _ _ (l .out) (l .to) (l .i) (omega arith) (l .inv .3))
 
 pub put-sessions-spec : {M : Type 1} → statement M
 put-sessions-spec =
     tie.close
     (tie.spec
-    Inv-loop
-    μ-loop
-    loop-holds
-    mul-put-session
-    array-copy-out-put-session
-    put-session-requires
-    add-i
-    loop-less
-    loop-again
-    same-length
-    returns)
+    Inv-loop μ-loop (λ c. search needs) (λ c κs. search needs) loop-holds (λ c. search needs) (λ c. search needs) (λ c κs. search needs)
+    (λ c. search needs) (λ c. search needs) loop-again (λ c. search needs) returns)

@@ -16,4 +16,6 @@ returns c =
     take-all (length line - from) (drop from line) (simp length-drop (omega arith)) ∙ c .before .start .ensures .1
 
 pub last-spec : {M : Type 1} → statement M
-last-spec = tie.close (tie.spec (λ c κs. search needs) (λ c. search needs) (λ c. search needs) (λ c. search needs) returns)
+last-spec = tie.close
+    (tie.spec
+    (λ c κs. search needs) (λ c. search needs) (λ c. search needs) (λ c. search needs) returns)

@@ -18,4 +18,6 @@ returns c =
     c .first .ensures ∙ ap (λ (n : ℕ). take n rest) place ∙ ap (λ l. take (first (is 32) l) l) (c .before .before .last .ensures)
 
 pub nth-spec : {M : Type 1} → statement M
-nth-spec = tie.close (tie.spec (λ c κs. search needs) (λ c κs. search needs) (λ c κs. search needs) returns)
+nth-spec = tie.close
+    (tie.spec
+    (λ c κs. search needs) (λ c κs. search needs) (λ c κs. search needs) returns)

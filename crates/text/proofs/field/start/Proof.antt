@@ -1,14 +1,14 @@
 -- `field::start` meets its contract: what is to be found behind the line's `n` spaces is to be found behind `left` from `i` on, and what is left of the line falls.
 -- Assumes nothing.
+use mathlib.Core.Logic.{⊎-elim}
+use mathlib.Core.Path.{_≡_, refl, sym, _∙_, ap}
 use Prim.Native.Nat.{ℕ, _+_, _-_, _≤_}
-use Rattle.text.proofs.FieldLaws.{behind-space, behind-other, behind-none, behind-first, drop-past}
-use Rattle.text.specs.Field.{behind}
+use native.Mathlib.Omega.{arith}
 use borrow.Author.Needs.{needs}
 use borrow.Author.Tests.{ltb-true, ltb-false}
-use mathlib.Core.Logic.{⊎-elim}
 use lib.ListN.{length, drop}
-use mathlib.Core.Path.{_≡_, refl, sym, _∙_, ap}
-use native.Mathlib.Omega.{arith}
+use Rattle.text.specs.Field.{behind}
+use Rattle.text.proofs.FieldLaws.{behind-space, behind-other, behind-none, behind-first, drop-past}
 use Rattle.text.proofs.field.start.Statement.{statement}
 use Rattle.text.proofs.field.start.Tie as tie
 
@@ -17,21 +17,6 @@ Inv-loop line n left₀ i₀ left i = (i ≤ length line) × (behind n line ≡ 
 
 abbrev μ-loop : tie.MeasureT-loop
 μ-loop line n left₀ i₀ left i = length line - i
-
-loop-holds : tie.Need-loop-holds Inv-loop μ-loop
-loop-holds c = search needs
-
-shared-slice-read-if2 : tie.Need-shared-slice-read-if2 Inv-loop μ-loop
-shared-slice-read-if2 c = search needs
-
-sub-left : tie.Need-sub-left Inv-loop μ-loop
-sub-left c = search needs
-
-add-i : tie.Need-add-i Inv-loop μ-loop
-add-i c = search needs
-
-loop-less : tie.Need-loop-less Inv-loop μ-loop
-loop-less c = search needs
 
 loop-again : tie.Need-loop-again Inv-loop μ-loop
 loop-again c =
@@ -66,13 +51,5 @@ pub start-spec : {M : Type 1} → statement M
 start-spec =
     tie.close
     (tie.spec
-    Inv-loop
-    μ-loop
-    loop-holds
-    shared-slice-read-if2
-    sub-left
-    add-i
-    loop-less
-    loop-again
-    returns
+    Inv-loop μ-loop (λ c. search needs) (λ c. search needs) (λ c. search needs) (λ c. search needs) (λ c. search needs) loop-again returns
     returns-2)

@@ -7,6 +7,7 @@ use Rattle.text.proofs.hex.fill.Tie as tie
 
 pub fill-spec : {M : Type 1} → statement M
 fill-spec =
-    tie.close (tie.spec
+    tie.close
+    (tie.spec
     (λ c κs. search needs) (λ c. search needs) (λ c. search needs) (λ c. search needs) (λ c. search filling-rules) (λ c. search needs)
     (λ c. search filling-rules))

@@ -1,17 +1,17 @@
 -- `hex::put` meets its contract: after `i` octets their pairs are put, and what is left of the octets falls.
 -- Assumes nothing.
+use mathlib.Core.List.{List, _++_}
+use mathlib.Core.Path.{_≡_, refl, sym, ap, _∙_}
 use Prim.Native.Nat.{ℕ, _+_, _-_, _≤_}
-use Rattle.common.specs.Lent.{lent}
-use Rattle.text.proofs.HexLaws.{pairs-more, no-pairs, text-none, text-pairs}
-use Rattle.text.proofs.WrittenLaws.{put-full, put-then, put-nothing}
-use Rattle.text.specs.Hex.{pairs}
-use Rattle.text.specs.Written.{putting}
+use native.Mathlib.Omega.{arith}
 use borrow.Author.Needs.{needs}
 use lib.ListN.{length, take}
 use lib.Seq.{take-all}
-use mathlib.Core.List.{List, _++_}
-use mathlib.Core.Path.{_≡_, refl, sym, ap, _∙_}
-use native.Mathlib.Omega.{arith}
+use Rattle.common.specs.Lent.{lent}
+use Rattle.text.specs.Hex.{pairs}
+use Rattle.text.specs.Written.{putting}
+use Rattle.text.proofs.HexLaws.{pairs-more, no-pairs, text-none, text-pairs}
+use Rattle.text.proofs.WrittenLaws.{put-full, put-then, put-nothing}
 use Rattle.text.proofs.hex.put.Statement.{statement}
 use Rattle.text.proofs.hex.put.Tie as tie
 
@@ -20,15 +20,6 @@ Inv-loop octets out₀ at to₀ i₀ out to i = (i ≤ length octets) × (length
 
 abbrev μ-loop : tie.MeasureT-loop
 μ-loop octets out₀ at to₀ i₀ out to i = length octets - i
-
-slice-aggregate-put : tie.Need-slice-aggregate-put Inv-loop μ-loop
-slice-aggregate-put c = search needs
-
-put-requires : tie.Need-put-requires Inv-loop μ-loop
-put-requires c κs = search needs
-
-same-length : tie.Need-same-length Inv-loop μ-loop
-same-length c = search needs
 
 returns : tie.Need-returns Inv-loop μ-loop
 returns c =
@@ -44,24 +35,6 @@ loop-holds c =
     let a = c .before .before .before .before .args in
     (omega arith, refl, put-nothing (a .out .now) (a .at) (omega arith) ∙ ap (λ (s : List ℕ). putting s (a .out .now) (a .at)) (sym no-pairs))
 
-shared-slice-read-pair : tie.Need-shared-slice-read-pair Inv-loop μ-loop
-shared-slice-read-pair c = search needs
-
-pair-requires : tie.Need-pair-requires Inv-loop μ-loop
-pair-requires c κs = search needs
-
-slice-aggregate-put-2 : tie.Need-slice-aggregate-put-2 Inv-loop μ-loop
-slice-aggregate-put-2 c = search needs
-
-put-requires-2 : tie.Need-put-requires-2 Inv-loop μ-loop
-put-requires-2 c κs = search needs
-
-add-i : tie.Need-add-i Inv-loop μ-loop
-add-i c = search needs
-
-loop-less : tie.Need-loop-less Inv-loop μ-loop
-loop-less c = search needs
-
 loop-again : tie.Need-loop-again Inv-loop μ-loop
 loop-again c =
     let l = c .before .before .before .before .before .before .before .before .loop in
@@ -71,9 +44,6 @@ loop-again c =
     ap (λ (s : List ℕ). pairs (take (l .i) (a .octets .now)) ++ s) (c .before .before .before .before .before .pair .ensures)
     ∙ pairs-more (a .octets .now) (l .i) (search needs) in
     (omega arith, search needs, more ∙ ap (λ (s : List ℕ). putting s (a .out .now) (a .at)) text)
-
-same-length-2 : tie.Need-same-length-2 Inv-loop μ-loop
-same-length-2 c = search needs
 
 returns-3 : tie.Need-returns-3 Inv-loop μ-loop
 returns-3 c =
@@ -86,20 +56,6 @@ pub put-spec : {M : Type 1} → statement M
 put-spec =
     tie.close
     (tie.spec
-    Inv-loop
-    μ-loop
-    slice-aggregate-put
-    put-requires
-    same-length
-    returns
-    returns-2
-    loop-holds
-    shared-slice-read-pair
-    pair-requires
-    slice-aggregate-put-2
-    put-requires-2
-    add-i
-    loop-less
-    loop-again
-    same-length-2
+    Inv-loop μ-loop (λ c. search needs) (λ c κs. search needs) (λ c. search needs) returns returns-2 loop-holds (λ c. search needs)
+    (λ c κs. search needs) (λ c. search needs) (λ c κs. search needs) (λ c. search needs) (λ c. search needs) loop-again (λ c. search needs)
     returns-3)

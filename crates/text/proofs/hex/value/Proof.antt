@@ -10,12 +10,9 @@ pub value-spec : {M : Type 1} → statement M
 value-spec =
     tie.close
     (tie.spec
-    (λ c. search needs)
-    (λ c. search needs)
-    (λ c. value-decimal _ (omega arith) (omega arith))
+    (λ c. search needs) (λ c. search needs) (λ c. value-decimal _ (omega arith) (omega arith))
     (λ c. value-upper _ (omega arith) (omega arith) (omega arith) (omega arith))
     (λ c. value-lower _ (omega arith) (omega arith) (omega arith) (omega arith) (omega arith) (omega arith))
-    (λ c. value-low _ (omega arith))
-    (λ c. value-between _ (omega arith) (omega arith) (omega arith))
+    (λ c. value-low _ (omega arith)) (λ c. value-between _ (omega arith) (omega arith) (omega arith))
     (λ c. value-between-cases _ (omega arith) (omega arith) (omega arith) (omega arith) (omega arith))
     (λ c. value-high _ (omega arith) (omega arith) (omega arith) (omega arith) (omega arith) (omega arith)))

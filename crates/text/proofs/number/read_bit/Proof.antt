@@ -11,9 +11,7 @@ pub read-bit-spec : {M : Type 1} → statement M
 read-bit-spec =
     tie.close
     (tie.spec
-    (λ c κs. search needs)
-    (λ c. search needs)
-    (λ c. search needs)
+    (λ c κs. search needs) (λ c. search needs) (λ c. search needs)
     (λ c. let r = c .before .before .before .before .read in most-within 1 (λ n. Value (eqb n 1)) Unfit _ (r .result) (r .ensures) _ (search needs) (c .if1 .taken))
     (λ c. let r = c .before .before .before .before .read in most-above 1 (λ n. Value (eqb n 1)) Unfit _ (r .result) (r .ensures) _ (search needs) (c .if1 .left))
     (λ c. let r = c .before .before .read in most-none 1 (λ n. Value (eqb n 1)) Unfit _ (r .result) (r .ensures) (search needs)))

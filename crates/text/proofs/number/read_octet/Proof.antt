@@ -10,10 +10,7 @@ pub read-octet-spec : {M : Type 1} → statement M
 read-octet-spec =
     tie.close
     (tie.spec
-    (λ c κs. search needs)
-    (λ c. search needs)
-    (λ c. search needs)
-    (λ c. search needs)
+    (λ c κs. search needs) (λ c. search needs) (λ c. search needs) (λ c. search needs)
     (λ c. let r = c .before .before .before .before .read in most-within 0xff Value Unfit _ (r .result) (r .ensures) _ (search needs) (c .if1 .taken))
     (λ c. let r = c .before .before .before .before .read in most-above 0xff Value Unfit _ (r .result) (r .ensures) _ (search needs) (c .if1 .left))
     (λ c. let r = c .before .before .read in most-none 0xff Value Unfit _ (r .result) (r .ensures) (search needs)))

@@ -1,0 +1,82 @@
+-- A loop that puts the text of one element behind the other: the invariant, and how it begins, goes on and ends; and the cache, oldest first.
+-- Assumes nothing.
+use mathlib.Core.Path.{_≡_, refl, sym, ap, _∙_}
+use mathlib.Core.List.{List, [], _∷_, _++_, append-assoc, append-nil}
+use Prim.Native.Nat.{ℕ, zero, suc, _+_, _-_, _%_, _≤_, _<_}
+use native.Mathlib.Nat.{add-zero, add-suc, zero-add}
+use native.Mathlib.Numerals.{add-one}
+use native.Mathlib.Omega.{arith}
+use borrow.Author.Tests.{eq-eqb, ne-eqb, ltb-true, ltb-false}
+use lib.Dec.{eqb, ltb}
+use lib.ListN.{length, getD, take, drop, length-append, length-take, length-drop, List·getD-append}
+use lib.Seq.{take-all, getD-take, getD-drop, getD-append-add}
+use Rattle.common.specs.Choice.{if_then_else_}
+use Rattle.common.specs.Lent.{lent}
+use Rattle.common.proofs.Tests.{by-test}
+use Rattle.text.specs.Written.{putting}
+use Rattle.text.proofs.WrittenLaws.{put-then, put-nothing}
+use Rattle.answers.specs.Looking.{placedText}
+
+-- one element more
+placed-more :
+    {A : Type 0} (f : ℕ → A → List ℕ) (d : A) (k : ℕ) (l : List A) (i : ℕ) → i < length l
+    → placedText f k (take i l) ++ f (k + i) (getD l i d) ≡ placedText f k (take (suc i) l)
+unfolding placedText
+placed-more f d k [] i h = absurd (omega arith)
+placed-more f d k (x ∷ l) zero h = ap (λ (n : ℕ). f n x) (add-zero k) ∙ sym (append-nil (f k x))
+placed-more f d k (x ∷ l) (suc i) h =
+    append-assoc (f k x) (placedText f (suc k) (take i l)) (f (k + suc i) (getD l i d))
+    ∙ ap (λ (m : List ℕ). f k x ++ m)
+    (ap (λ (n : ℕ). placedText f (suc k) (take i l) ++ f n (getD l i d)) (omega arith) ∙ placed-more f d (suc k) l i (omega arith))
+
+module _ {A : Type 0} (f : ℕ → A → List ℕ) (l : List A) (out₀ : List ℕ) (at : ℕ) where
+  -- the text of the first i elements is put
+  abbrev pub PutSo : List ℕ → ℕ → ℕ → Type 0
+  PutSo out to i = lent to out ≡ putting (placedText f 0 (take i l)) out₀ at
+
+  pub so-none : at ≤ length out₀ → PutSo out₀ at 0
+  unfolding placedText
+  so-none h = put-nothing out₀ at h
+
+  pub so-more :
+      (d : A) (out : List ℕ) (to i : ℕ) (out′ : List ℕ) (to′ : ℕ) → i < length l → PutSo out to i → lent to′ out′ ≡ putting (f i (getD l i d)) out to
+      → PutSo out′ to′ (i + 1)
+  so-more d out to i out′ to′ h p e =
+      put-then _ _ out₀ at to to′ out out′ p e
+      ∙ ap (λ (t : List ℕ). putting t out₀ at)
+      (ap (λ (n : ℕ). placedText f 0 (take i l) ++ f n (getD l i d)) (sym (zero-add i))
+      ∙ placed-more f d 0 l i h ∙ ap (λ (n : ℕ). placedText f 0 (take n l)) (sym (add-one i)))
+
+  pub so-all : (out : List ℕ) (to i : ℕ) → length l ≤ i → PutSo out to i → lent to out ≡ putting (placedText f 0 l) out₀ at
+  so-all out to i h p = p ∙ ap (λ (m : List A). putting (placedText f 0 m) out₀ at) (take-all i l h)
+
+-- ---- what is put only where a number is not 0
+module _ (out : List ℕ) (at r : ℕ) (o : List ℕ) (n : ℕ) (s : List ℕ) where
+  pub where-none : n ≡ 0 → lent r o ≡ putting [] out at → lent r o ≡ putting (if eqb n 0 then [] else s) out at
+  where-none h e = rw (eq-eqb n 0 h) e
+
+  pub where-some : (n ≡ 0 → ⊥) → lent r o ≡ putting s out at → lent r o ≡ putting (if eqb n 0 then [] else s) out at
+  where-some h e = rw (ne-eqb n 0 h) e
+
+pub ruleset held-rules = (where-none, where-some, put-then)
+
+-- ---- a list of 16 from place n on, and then its front: what stands at a place
+pub rotated :
+    {A : Type 0} (d : A) (l : List A) (n i : ℕ) → length l ≡ 16 → n < 16 → i < 16 → getD (drop n l ++ take n l) i d ≡ getD l ((n + i) % 16) d
+rotated d l n i e hn hi =
+    let back : length (drop n l) ≡ 16 - n = length-drop n l ∙ ap (λ (k : ℕ). k - n) e in
+    by-test (ltb (n + i) 16)
+    (λ t.
+    let low : n + i < 16 = ltb-true (n + i) 16 t in
+    let same : n + i ≡ (n + i) % 16 = omega arith in
+    List·getD-append (drop n l) (take n l) d i (omega arith) ∙ getD-drop n l i d ∙ ap (λ (k : ℕ). getD l k d) same)
+    (λ t.
+    let high : 16 ≤ n + i = ltb-false (n + i) 16 t in
+    let k = n + i - 16 in
+    let place : i ≡ length (drop n l) + k = omega arith in
+    let same : k ≡ (n + i) % 16 = omega arith in
+    ap (λ (j : ℕ). getD (drop n l ++ take n l) j d) place
+    ∙ getD-append-add (drop n l) (take n l) k d ∙ getD-take n l k d (omega arith) ∙ ap (λ (j : ℕ). getD l j d) same)
+
+pub length-rotated : {A : Type 0} (l : List A) (n : ℕ) → n ≤ length l → length (drop n l ++ take n l) ≡ length l
+length-rotated l n h = simp (length-append, length-drop, length-take) (omega arith)
