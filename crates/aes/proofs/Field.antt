@@ -93,7 +93,7 @@ sum-sum (suc n) m a y z =
     ∙ sym (sum-xor m (term t a) (sumOfShifts n (xtime a) (y / 2)) z)
 
 -- ---- the laws of the product
-xtime-lt : (a : ℕ) → xtime a < 256
+pub xtime-lt : (a : ℕ) → xtime a < 256
 unfolding xtime
 xtime-lt a = xor-lt 8 (a % 128 * 2) (a / 128 % 2 * 27) (omega arith) (omega arith)
 

@@ -24,3 +24,4 @@ pub mod WholeSent
 pub mod ReadBack
 pub mod GoesOut
 pub mod Instance
+pub mod Forwarding

@@ -10,3 +10,4 @@ pub mod Interleaved
 pub mod ReadBack
 pub mod Instance
 pub mod Invariant
+pub mod Forwarding

@@ -13,3 +13,4 @@ pub mod Sealed
 pub mod SealOpen
 pub mod SealingLaws
 pub mod Forwarded
+pub mod Resealed

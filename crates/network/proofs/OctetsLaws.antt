@@ -8,7 +8,9 @@ use native.Mathlib.Nat.{add-zero, zero-add, one-mul, mul-one, mul-assoc, mod-eq-
 use native.Mathlib.Omega.{arith}
 use lib.Arith.{digits-lt, mod-mul}
 use lib.ListN.{length, length-append}
-use Rattle.network.specs.Octets.{octets, numberFrom, number, Octets}
+use Rattle.common.specs.Lists.{Octets}
+use Rattle.common.proofs.Octets.{octets-one, octets-append}
+use Rattle.network.specs.Octets.{octets, numberFrom, number}
 
 -- n octets are n
 pub length-octets : (n x : ℕ) → length (octets n x) ≡ n
@@ -16,18 +18,11 @@ unfolding octets
 length-octets zero x = refl
 length-octets (suc n) x = let e = length-octets n (x / 256) in simp length-append (omega arith)
 
--- octets, and one more behind them
-octets-snoc : (l : List ℕ) (x : ℕ) → Octets l → x < 256 → Octets (l ++ (x ∷ []))
-octets-snoc [] x p h zero = h
-octets-snoc [] x p h (suc i) = omega arith
-octets-snoc (y ∷ l) x p h zero = p 0
-octets-snoc (y ∷ l) x p h (suc i) = octets-snoc l x (λ j. p (suc j)) h i
-
 -- each is an octet
 pub octets-byte : (n x : ℕ) → Octets (octets n x)
 unfolding octets
 octets-byte zero x = λ i. omega arith
-octets-byte (suc n) x = octets-snoc (octets n (x / 256)) (x % 256) (octets-byte n (x / 256)) (omega arith)
+octets-byte (suc n) x = octets-append (octets n (x / 256)) (x % 256 ∷ []) (octets-byte n (x / 256)) (octets-one (x % 256) (omega arith))
 
 -- the number that one octet more gives
 numberFrom-snoc : (acc : ℕ) (l : List ℕ) (x : ℕ) → numberFrom acc (l ++ (x ∷ [])) ≡ numberFrom acc l * 256 + x

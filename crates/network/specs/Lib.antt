@@ -12,3 +12,4 @@ pub mod Opening
 pub mod Sealing
 pub mod SealOpen
 pub mod Forwarded
+pub mod Resealed

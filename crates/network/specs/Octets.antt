@@ -1,10 +1,8 @@
 -- A number stands in a PDU as octets, high first.
 --   octets n x   x as n octets
 --   number l     the number that octets give
---   Octets l     each element of l is an octet, so below 256
 use mathlib.Core.List.{List, [], _∷_, _++_}
-use Prim.Native.Nat.{ℕ, zero, suc, _+_, _*_, _/_, _%_, _<_}
-use lib.ListN.{getD}
+use Prim.Native.Nat.{ℕ, zero, suc, _+_, _*_, _/_, _%_}
 
 -- x as n octets: what is above them is left out
 unfoldable pub octets : ℕ → ℕ → List ℕ
@@ -19,7 +17,3 @@ numberFrom acc (x ∷ l) = numberFrom (acc * 256 + x) l
 -- the number that octets give
 unfoldable pub number : List ℕ → ℕ
 number l = numberFrom 0 l
-
--- each element of l is an octet, so below 256
-abbrev pub Octets : List ℕ → Type 0
-Octets l = (i : ℕ) → getD l i 0 < 256

@@ -2,6 +2,7 @@
 --   fixed-heard     what setup fixed stays, and every next SEQ: only cache, replay list, sessions and outgoing message are written
 --   heard-opened    a PDU that opens is judged by the cache
 --   heard-again     one that is in the cache leaves everything
+--   heard-forwarded one that is not is forwarded by `relayed`
 --   taken-..        a message by its form
 --   placed-..       a segment by the decision on it
 --   gathered-..     a session with a segment more
@@ -48,7 +49,7 @@ use Rattle.receiver.specs.declared.answer.Refusal.the-variants as refusa
 use Rattle.receiver.specs.declared.answer.Taken.{Taken}
 use Rattle.receiver.specs.declared.state.Receiver.{Receiver}
 use Rattle.receiver.specs.declared.whole.Admission.the-variants as admission
-use Rattle.receiver.specs.Hearing.{Outcome, outcome, refusedHeard, takenAs, taken, passed, uncached, openedAs, hearing}
+use Rattle.receiver.specs.Hearing.{Outcome, outcome, refusedHeard, relayed, takenAs, taken, passed, uncached, openedAs, hearing}
 use Rattle.receiver.specs.Segmented.{segmentOf, upgraded, messageOf, sessionEnvelope, accessUpAs, accessUp, controlUp, gathered, placedAs, placed, segmentedAs, segmented}
 use Rattle.receiver.specs.State.{withCache, withReplay, withSession}
 use Rattle.receiver.specs.Whole as whole
@@ -168,6 +169,13 @@ module _ (r : Receiver) (pdu fwd msg : List ℕ) (wide : 29 ≤ length fwd) (big
   pub heard-again : seen (r .cache) (h .src) (h .seq) ≡ true → hearing r pdu fwd msg ≡ outcome (refusedHeard r refusal.Cached trials) fwd msg
   unfolding uncached
   heard-again e = heard-opened ∙ rw e refl
+
+  -- one that is not is forwarded as `relayed` says, whatever becomes of its message
+  pub heard-forwarded :
+      seen (r .cache) (h .src) (h .seq) ≡ false
+      → lent (hearing r pdu fwd msg .heard .forwarded) (hearing r pdu fwd msg .forward) ≡ relayed (r .node) h fwd
+  unfolding uncached passed
+  heard-forwarded e = rw (heard-opened, e) refl
 
   -- the receiver with the PDU in its cache
   abbrev pub caching : Receiver
