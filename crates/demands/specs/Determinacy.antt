@@ -3,12 +3,13 @@
 use mathlib.Core.Bool.{Bool}
 use mathlib.Core.List.{List, _++_}
 use mathlib.Core.Path.{_≡_}
-use Prim.Native.Nat.{ℕ}
-use lib.ListN.{length, take}
+use Prim.Native.Nat.{ℕ, _+_, min}
+use lib.ListN.{length, take, drop}
 use Rattle.aes.specs.Cipher.{cipher}
 use Rattle.aes.specs.KeyExpansion.{keySchedule}
 use Rattle.common.specs.Bits.{hasBit, withBit, allBits}
 use Rattle.common.specs.Lists.{onto, same}
+use Rattle.common.specs.Search.{first as placeOf}
 use Rattle.keys.specs.Derivation as derivation
 use Rattle.keys.specs.declared.NetworkKeys.{NetworkKeys}
 use Rattle.memory.specs.Cache.{noCache, seen, remembered}
@@ -74,6 +75,10 @@ use Rattle.speed.specs.Blocks.{blocksDone}
 use Rattle.speed.specs.Hearing.{heardTimes, openedTimes}
 use Rattle.speed.specs.Mac.{macDone}
 use Rattle.speed.specs.Open as speed
+use Rattle.text.specs.Field.{is, behind, fieldOf}
+use Rattle.text.specs.Hex.{hexValue, reading, filling, hexText}
+use Rattle.text.specs.Number.{numberOf, shortOf, octetOf, bitOf, numberText, decimalText}
+use Rattle.text.specs.Written.{putting}
 use Rattle.transport.specs.Form.{formOf}
 use Rattle.transport.specs.Opcode.{opcodeKind}
 use Rattle.transport.specs.Securing as securing
@@ -193,9 +198,27 @@ pub record Determinate : Type 0 where
   pub speed-open : (key nonce sealed out : List ℕ) → Determined (speed.openDone key nonce sealed out)
   pub speed-hear : (keys : List ℕ) (first iv : ℕ) (pdu : List ℕ) (slot : ℕ) (msg : List ℕ) (times : ℕ) → Determined (heardTimes keys first iv pdu slot msg times)
   pub speed-open-pdu : (keys : List ℕ) (first iv : ℕ) (pdu : List ℕ) (times : ℕ) → Determined (openedTimes keys first iv pdu times)
+  -- text
+  pub text-first : (s : List ℕ) (n : ℕ) → Determined (take n s)
+  pub text-within : (n : ℕ) (s : List ℕ) → Determined (min n (length s))
+  pub text-until : (s : List ℕ) (from mark : ℕ) → Determined (from + placeOf (is mark) (drop from s))
+  pub text-put : (s out : List ℕ) (at : ℕ) → Determined (putting s out at)
+  pub field-last : (line : List ℕ) (n : ℕ) → Determined (behind n line)
+  pub field-nth : (line : List ℕ) (n : ℕ) → Determined (fieldOf n line)
+  pub hex-value : (digit : ℕ) → Determined (hexValue digit)
+  pub hex-read : (text out : List ℕ) → Determined (reading text out)
+  pub hex-fill : (text out : List ℕ) → Determined (filling text out)
+  pub hex-put : (s out : List ℕ) (at : ℕ) → Determined (putting (hexText s) out at)
+  pub number-read : (text : List ℕ) → Determined (numberOf text)
+  pub number-short : (text : List ℕ) → Determined (shortOf (numberOf text))
+  pub number-octet : (text : List ℕ) → Determined (octetOf (numberOf text))
+  pub number-bit : (text : List ℕ) → Determined (bitOf (numberOf text))
+  pub number-put : (label : List ℕ) (n width : ℕ) (out : List ℕ) (at : ℕ) → Determined (putting (label ++ numberText width n) out at)
+  pub number-put-decimal : (label : List ℕ) (n : ℕ) (out : List ℕ) (at : ℕ) → Determined (putting (label ++ decimalText n) out at)
   -- site
-  pub first : (s : List ℕ) (n : ℕ) → Determined (take n s)
   pub setting : (address next iv : ℕ) (flag : Bool) → Determined (setting address next iv flag)
   pub node : (address next iv : ℕ) (flag : Bool) → Determined (ready address next iv flag)
-  pub say : (a : spoken-answer.Answer) (pdu : List ℕ) → Determined (take (words.made a) pdu)
-  pub answer : (a : heard-answer.Answer) → Determined (words.handedUp a)
+  pub made : (a : spoken-answer.Answer) → Determined (words.made a)
+  pub handed-up : (a : heard-answer.Answer) → Determined (words.handedUp a)
+  pub put-said : (seq : ℕ) (a : spoken-answer.Answer) (pdu out : List ℕ) (at : ℕ) → Determined (putting (words.saidText seq a pdu) out at)
+  pub put-answer : (a : heard-answer.Answer) (out : List ℕ) (at : ℕ) → Determined (putting (words.answerText a) out at)

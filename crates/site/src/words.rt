@@ -1,13 +1,19 @@
-// What a node said and what it answers, in words.
+// What a node said and what it answers, in words: lines that are put into a lent buffer.
 use memory::outgoing::Effect;
 use receiver::answer::Answer as Heard;
 use sending::answer::Answer;
+use text::hex;
+use text::number;
+ghost use mathlib.Core.List.{_++_};
 ghost use mathlib.Core.Path.{_≡_};
-ghost use lib.ListN.{take};
-ghost use Rattle.site.specs.Words.{made, handedUp};
+ghost use Rattle.common.specs.Lent.{lent};
+ghost use Rattle.text.specs.Number.{numberText};
+ghost use Rattle.text.specs.Octets.{octets};
+ghost use Rattle.text.specs.Written.{putting};
+ghost use Rattle.site.specs.Words.{made, handedUp, sentText, refusedText, saidText, effectText, answerText};
 
 // How many octets of the buffer are the PDU that was made: none where sending refuses.
-fn made_len(answer: Answer) -> usize
+pub fn made(answer: Answer) -> usize
     ensures { λ n. ⌜ n ≡ made answer ⌝ }
 {
     match answer {
@@ -17,26 +23,8 @@ fn made_len(answer: Answer) -> usize
     }
 }
 
-// Writes the PDU that was sent, or the number of a refusal; 0 is none.
-fn told(seq: u32, number: u32, pdu: &[u8]) {
-    if number == 0 {
-        super::write::sent(seq, pdu);
-    } else {
-        super::write::refused(number);
-    }
-}
-
-// Writes what was sent with a SEQ, or why nothing was, and gives the PDU: no octets where none was made.
-pub fn say(seq: u32, answer: Answer, pdu: &[u8]) -> &[u8]
-    ensures { λ r. ⌜ now r ≡ take (made answer) (now (pdu .entry)) ⌝ }
-{
-    let made = super::first(pdu, made_len(answer));
-    told(seq, sending::answer::number(answer), made);
-    made
-}
-
 // How many octets of the message buffer are handed up: none where no message is.
-fn message_len(answer: Heard) -> usize
+pub fn handed_up(answer: Heard) -> usize
     ensures { λ n. ⌜ n ≡ handedUp answer ⌝ }
 {
     match answer {
@@ -49,51 +37,88 @@ fn message_len(answer: Heard) -> usize
     }
 }
 
-// Writes what a node answers to a PDU, and gives the length of the message that it hands up: 0 where it hands up none.
-pub fn answer(answer: Heard) -> usize
-    ensures { λ n. ⌜ n ≡ handedUp answer ⌝ }
+// `SEQ Q: PDU`, and a newline.
+fn put_sent(seq: u32, pdu: &[u8], out: &mut [u8], at: usize) -> usize
+    ensures { λ r. ⌜ lent r (now (out .exit)) ≡ putting (sentText seq (now (pdu .entry))) (now (out .entry)) at ⌝ }
 {
-    show(answer);
-    message_len(answer)
+    let named = number::put(b"SEQ ", seq as u64, 6, out, at);
+    let colon = text::put(b": ", out, named);
+    let end = hex::put(pdu, out, colon);
+    text::put(b"\n", out, end)
 }
 
-// Writes what a node answers to a PDU.
-fn show(answer: Heard) {
+// `refused N`, N in decimal, and a newline.
+fn put_refused(n: u32, out: &mut [u8], at: usize) -> usize
+    ensures { λ r. ⌜ lent r (now (out .exit)) ≡ putting (refusedText n) (now (out .entry)) at ⌝ }
+{
+    let end = number::put_decimal(b"refused ", n as u64, out, at);
+    text::put(b"\n", out, end)
+}
+
+// Puts what was sent with a SEQ, or why nothing was; pdu is the buffer that was lent for it.
+pub fn put_said(seq: u32, answer: Answer, pdu: &[u8], out: &mut [u8], at: usize) -> usize
+    ensures { λ r. ⌜ lent r (now (out .exit)) ≡ putting (saidText seq answer (now (pdu .entry))) (now (out .entry)) at ⌝ }
+{
     match answer {
-        Heard::Refused(refusal) => super::write::refused(receiver::answer::number(refusal)),
-        Heard::Stored { bits, .. } => places(b"segment stored", bits),
-        Heard::Repeated { bits, .. } => places(b"repeat", bits),
-        Heard::Access { src, .. } => from(b"access message", src),
-        Heard::Control { src, .. } => from(b"control message", src),
-        Heard::Acknowledgement { bits, effect, .. } => {
-            done(effect);
-            places(b"acknowledgement", bits);
-        }
+        Answer::Sent(len) => put_sent(seq, text::first(pdu, len), out, at),
+        Answer::Started { len, .. } => put_sent(seq, text::first(pdu, len), out, at),
+        Answer::Refused(refusal) => put_refused(receiver::answer::number(refusal), out, at),
     }
 }
 
-// Writes which segments came, as bits, bit 0 for segment 0.
-fn places(what: &[u8], bits: u32) {
-    super::write::text(what);
-    super::write::text(b", places filled ");
-    super::write::number(bits, 8);
-    super::write::text(b"\n");
+// A label, a number behind it in so many digits, and an end.
+fn put_named(label: &[u8], n: u32, width: usize, end: &[u8], out: &mut [u8], at: usize) -> usize
+    ensures { λ r. ⌜ lent r (now (out .exit)) ≡ putting (now (label .entry) ++ numberText width n ++ now (end .entry)) (now (out .entry)) at ⌝ }
+{
+    let named = number::put(label, n as u64, width, out, at);
+    text::put(end, out, named)
 }
 
-// Writes whose message is handed up.
-fn from(what: &[u8], src: u16) {
-    super::write::text(what);
-    super::write::text(b" from ");
-    super::write::number(src as u32, 4);
-    super::write::text(b":\n");
-}
-
-// Writes what an acknowledgement did to the message that the node keeps.
-fn done(effect: Effect) {
+// What an acknowledgement did to the message that the node keeps.
+fn put_effect(effect: Effect, out: &mut [u8], at: usize) -> usize
+    ensures { λ r. ⌜ lent r (now (out .exit)) ≡ putting (effectText effect) (now (out .entry)) at ⌝ }
+{
     match effect {
-        Effect::Nothing => super::write::text(b"nothing is marked: "),
-        Effect::Marked => super::write::text(b"segments are marked as heard: "),
-        Effect::Completed => super::write::text(b"all segments are heard: "),
-        Effect::Cancelled => super::write::text(b"the message is cancelled: "),
+        Effect::Nothing => text::put(b"nothing is marked: ", out, at),
+        Effect::Marked => text::put(b"segments are marked as heard: ", out, at),
+        Effect::Completed => text::put(b"all segments are heard: ", out, at),
+        Effect::Cancelled => text::put(b"the message is cancelled: ", out, at),
+    }
+}
+
+// That, and which segments it names, bit 0 for segment 0.
+fn put_acknowledgement(bits: u32, effect: Effect, out: &mut [u8], at: usize) -> usize
+    ensures { λ r. ⌜ lent r (now (out .exit)) ≡ putting (effectText effect ++ (octets "acknowledgement, places filled " ++ numberText 8 bits ++ octets "\n")) (now (out .entry)) at ⌝ }
+{
+    let done = put_effect(effect, out, at);
+    put_named(
+        b"acknowledgement, places filled ",
+        bits,
+        8,
+        b"\n",
+        out,
+        done,
+    )
+}
+
+// Puts what a node answers to a PDU: the number of a refusal, which segments came, or whose message is handed up.
+pub fn put_answer(answer: Heard, out: &mut [u8], at: usize) -> usize
+    ensures { λ r. ⌜ lent r (now (out .exit)) ≡ putting (answerText answer) (now (out .entry)) at ⌝ }
+{
+    match answer {
+        Heard::Refused(refusal) => put_refused(receiver::answer::number(refusal), out, at),
+        Heard::Stored { bits, .. } => {
+            put_named(b"segment stored, places filled ", bits, 8, b"\n", out, at)
+        }
+        Heard::Repeated { bits, .. } => {
+            put_named(b"repeat, places filled ", bits, 8, b"\n", out, at)
+        }
+        Heard::Access { src, .. } => {
+            put_named(b"access message from ", src as u32, 4, b":\n", out, at)
+        }
+        Heard::Control { src, .. } => {
+            put_named(b"control message from ", src as u32, 4, b":\n", out, at)
+        }
+        Heard::Acknowledgement { bits, effect, .. } => put_acknowledgement(bits, effect, out, at),
     }
 }

@@ -1,4 +1,5 @@
 // Messages #6 to #9 (MP 8.3.6 to 8.3.9): an access message in two segments under the device key, of which the first is lost and sent again.
+use super::say;
 use super::title;
 use network::header::Header;
 use node::addresses::Node;
@@ -36,7 +37,7 @@ fn begin(node: Receiver) -> Receiver {
         &mut pdu,
     );
     let answer = spoken.answer;
-    site::words::say(next[0], answer, &pdu);
+    say(next[0], answer, &pdu);
     spoken.receiver
 }
 
@@ -46,7 +47,7 @@ fn segment(node: Receiver, n: u8) -> Receiver {
     let mut pdu = [0u8; 29];
     let spoken = sending::segment::send(node, n, &mut pdu);
     let answer = spoken.answer;
-    site::words::say(next[0], answer, &pdu);
+    say(next[0], answer, &pdu);
     spoken.receiver
 }
 
@@ -56,10 +57,12 @@ fn hear(node: Receiver, pdu: &[u8]) -> Receiver {
     let mut message = [0u8; 384];
     let heard = receiver::hear::hear(node, pdu, &mut forward, &mut message);
     let answer = heard.answer;
-    let n = site::words::answer(answer);
+    let mut line = [0u8; 128];
+    let told = site::words::put_answer(answer, &mut line, 0);
+    io::write_all(1, text::first(&line, told));
+    let n = site::words::handed_up(answer);
     if 0 < n {
-        site::write::octets(site::first(&message, n));
-        site::write::text(b"\n");
+        write_octets(text::first(&message, n));
     }
     heard.receiver
 }
@@ -81,16 +84,25 @@ pub(crate) fn acknowledge_all() {
     acknowledge(whole);
 }
 
+// Writes octets as a line of hex pairs.
+fn write_octets(octets: &[u8]) {
+    let mut line = [0u8; 1024];
+    let end = text::hex::put(octets, &mut line, 0);
+    let n = text::put(b"\n", &mut line, end);
+    io::write_all(1, text::first(&line, n));
+}
+
 // A node acknowledges the sender of message #6, and the transport PDU is written.
 fn acknowledge(node: Receiver) -> Receiver {
     let mut pdu = [0u8; 29];
     let spoken = sending::acknowledge::send(node, 0, 0x0003, &mut pdu);
     let answer = spoken.answer;
     let Answer::Sent(len) = answer else {
-        site::write::refused(sending::answer::number(answer));
+        let next = node.next;
+        say(next[0], answer, &pdu);
         return node;
     };
-    show_transport(node.node, site::first(&pdu, len));
+    show_transport(node.node, text::first(&pdu, len));
     spoken.receiver
 }
 
@@ -104,6 +116,5 @@ fn show_transport(node: Node, pdu: &[u8]) {
 // Writes the transport PDU of a header.
 fn write_transport(header: Header) {
     let transport = header.transport;
-    site::write::octets(site::first(&transport, header.len));
-    site::write::text(b"\n");
+    write_octets(text::first(&transport, header.len));
 }

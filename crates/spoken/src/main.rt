@@ -4,6 +4,7 @@
 mod exchange;
 
 use receiver::state::Receiver;
+use sending::answer::Answer;
 use sending::request::Request;
 use sending::request::Ttl;
 use transport::securing::MessageKey;
@@ -22,9 +23,18 @@ fn main() {
 
 // Writes a line that begins with #.
 pub(crate) fn title(words: &[u8]) {
-    site::write::text(b"# ");
-    site::write::text(words);
-    site::write::text(b"\n");
+    let mut line = [0u8; 128];
+    let mark = text::put(b"# ", &mut line, 0);
+    let end = text::put(words, &mut line, mark);
+    let n = text::put(b"\n", &mut line, end);
+    io::write_all(1, text::first(&line, n));
+}
+
+// Writes what was sent with a SEQ, or why nothing was.
+pub(crate) fn say(seq: u32, answer: Answer, pdu: &[u8]) {
+    let mut line = [0u8; 128];
+    let n = site::words::put_said(seq, answer, pdu, &mut line, 0);
+    io::write_all(1, text::first(&line, n));
 }
 
 // What a request to send names.
@@ -72,7 +82,7 @@ fn control(node: Receiver, dst: u16, opcode: u8, parameters: &[u8]) {
     let mut pdu = [0u8; 29];
     let spoken = sending::control::send(node, request(dst, 0), opcode, parameters, &mut pdu);
     let answer = spoken.answer;
-    site::words::say(next[0], answer, &pdu);
+    say(next[0], answer, &pdu);
 }
 
 // A node sends message #22, under the application key.
@@ -89,5 +99,5 @@ fn send_to_label() {
         &mut pdu,
     );
     let answer = spoken.answer;
-    site::words::say(next[0], answer, &pdu);
+    say(next[0], answer, &pdu);
 }

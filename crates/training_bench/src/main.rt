@@ -79,10 +79,18 @@ fn carry(bench: Bench, spoken: Spoken, pdu: &[u8]) -> Bench {
     let before = bench.sender;
     let next = before.next;
     let answer = spoken.answer;
-    let heard = site::words::say(next[0], answer, pdu);
+    say(next[0], answer, pdu);
+    let heard = text::first(pdu, site::words::made(answer));
     let station = hear(bench.station, heard);
     let sender = spoken.receiver;
     Bench { sender, station }
+}
+
+// Writes what was said with a SEQ.
+fn say(seq: u32, answer: Answer, pdu: &[u8]) {
+    let mut line = [0u8; 128];
+    let n = site::words::put_said(seq, answer, pdu, &mut line, 0);
+    io::write_all(1, text::first(&line, n));
 }
 
 // A node hears a PDU and answers; what it hands up is shown.
@@ -91,12 +99,22 @@ fn hear(node: Receiver, pdu: &[u8]) -> Receiver {
     let mut message = [0u8; 384];
     let heard = receiver::hear::hear(node, pdu, &mut forward, &mut message);
     let answer = heard.answer;
-    let n = site::words::answer(answer);
+    let mut line = [0u8; 128];
+    let told = site::words::put_answer(answer, &mut line, 0);
+    io::write_all(1, text::first(&line, told));
+    let n = site::words::handed_up(answer);
     if 0 < n {
-        site::write::text(site::first(&message, n));
-        site::write::text(b"\n");
+        show(text::first(&message, n));
     }
     heard.receiver
+}
+
+// Writes a message as a line.
+fn show(message: &[u8]) {
+    let mut line = [0u8; 512];
+    let end = text::put(message, &mut line, 0);
+    let n = text::put(b"\n", &mut line, end);
+    io::write_all(1, text::first(&line, n));
 }
 
 // The receiver acknowledges, and the box hears it.
@@ -106,6 +124,6 @@ fn acknowledge(bench: Bench) {
     let mut pdu = [0u8; 29];
     let spoken = sending::acknowledge::send(station, 0, SENDER, &mut pdu);
     let answer = spoken.answer;
-    let heard = site::words::say(next[0], answer, &pdu);
-    hear(bench.sender, heard);
+    say(next[0], answer, &pdu);
+    hear(bench.sender, text::first(&pdu, site::words::made(answer)));
 }

@@ -58,6 +58,8 @@ fn send_status(wind_box: Receiver, force: u8) -> Receiver {
     );
     let answer = spoken.answer;
     let next = wind_box.next;
-    site::words::say(next[0], answer, &pdu);
+    let mut line = [0u8; 128];
+    let n = site::words::put_said(next[0], answer, &pdu, &mut line, 0);
+    io::write_all(1, text::first(&line, n));
     spoken.receiver
 }
