@@ -1,6 +1,8 @@
 // Which command a line is, by its first field.
 use super::setting::Item;
 use text::field;
+ghost use mathlib.Core.Path.{_≡_};
+ghost use Rattle.commands.specs.Command.{givingKey, settingUp, speaking, withReceiver, commandOf};
 
 pub(crate) enum Command {
     // One of the lines that lead to `setup`.
@@ -26,7 +28,9 @@ pub(crate) enum Order {
 }
 
 // The command of a line. Where there is no receiver yet, only the lines that set one up are commands.
-pub(crate) fn of(line: &[u8], ready: bool) -> Command {
+pub(crate) fn of(line: &[u8], ready: bool) -> Command
+    ensures { λ r. ⌜ r ≡ commandOf (now (line .entry)) ready ⌝ }
+{
     let word = field::nth(line, 0);
     if ready {
         return with_receiver(line, word);
@@ -34,21 +38,32 @@ pub(crate) fn of(line: &[u8], ready: bool) -> Command {
     setting_up(line, word)
 }
 
-// A command that has no field besides its word is the whole line.
-fn with_receiver(line: &[u8], word: &[u8]) -> Command {
+// The words that need a receiver, and all others. A command that has no field besides its word is the whole line.
+fn with_receiver(line: &[u8], word: &[u8]) -> Command
+    ensures { λ r. ⌜ r ≡ withReceiver (now (line .entry)) (now (word .entry)) ⌝ }
+{
+    if common::equal(word, b"room") {
+        return Command::Order(Order::Room);
+    }
     if common::equal(word, b"hear") {
         return Command::Order(Order::Hear);
+    }
+    if common::equal(line, b"stop") {
+        return Command::Order(Order::Stop);
+    }
+    if common::equal(word, b"drop") {
+        return Command::Order(Order::Drop);
     }
     if common::equal(line, b"show") {
         return Command::Order(Order::Show);
     }
-    if common::equal(word, b"room") {
-        return Command::Order(Order::Room);
-    }
     speaking(line, word)
 }
 
-fn speaking(line: &[u8], word: &[u8]) -> Command {
+// The words that send, and those that lead to a receiver.
+fn speaking(line: &[u8], word: &[u8]) -> Command
+    ensures { λ r. ⌜ r ≡ speaking (now (line .entry)) (now (word .entry)) ⌝ }
+{
     if common::equal(word, b"access") {
         return Command::Order(Order::Access);
     }
@@ -61,25 +76,13 @@ fn speaking(line: &[u8], word: &[u8]) -> Command {
     if common::equal(word, b"ack") {
         return Command::Order(Order::Ack);
     }
-    if common::equal(line, b"stop") {
-        return Command::Order(Order::Stop);
-    }
-    if common::equal(word, b"drop") {
-        return Command::Order(Order::Drop);
-    }
     setting_up(line, word)
 }
 
-fn setting_up(line: &[u8], word: &[u8]) -> Command {
-    if common::equal(word, b"netkey") {
-        return Command::Give(Item::NetKey);
-    }
-    if common::equal(word, b"appkey") {
-        return Command::Give(Item::AppKey);
-    }
-    if common::equal(word, b"devkey") {
-        return Command::Give(Item::DevKey);
-    }
+// The words that lead to a receiver.
+fn setting_up(line: &[u8], word: &[u8]) -> Command
+    ensures { λ r. ⌜ r ≡ settingUp (now (line .entry)) (now (word .entry)) ⌝ }
+{
     if common::equal(word, b"elements") {
         return Command::Give(Item::Elements);
     }
@@ -94,6 +97,22 @@ fn setting_up(line: &[u8], word: &[u8]) -> Command {
     }
     if common::equal(line, b"setup") {
         return Command::SetUp;
+    }
+    giving_key(word)
+}
+
+// The words that give a key.
+fn giving_key(word: &[u8]) -> Command
+    ensures { λ r. ⌜ r ≡ givingKey (now (word .entry)) ⌝ }
+{
+    if common::equal(word, b"netkey") {
+        return Command::Give(Item::NetKey);
+    }
+    if common::equal(word, b"appkey") {
+        return Command::Give(Item::AppKey);
+    }
+    if common::equal(word, b"devkey") {
+        return Command::Give(Item::DevKey);
     }
     Command::Unknown
 }

@@ -3,6 +3,8 @@ use super::line::Line;
 use super::setting;
 use super::setting::Item;
 use node::setup::Setup;
+ghost use mathlib.Core.Path.{_≡_};
+ghost use Rattle.commands.specs.Desk.{atStart, afterSetup, noted, notingRoom, noting};
 
 // The lengths of the buffers lent for a PDU and for a message.
 pub struct Room {
@@ -32,7 +34,9 @@ pub struct Noted {
 }
 
 // The desk at the start.
-pub fn start() -> Desk {
+pub fn start() -> Desk
+    ensures { λ r. ⌜ r ≡ atStart ⌝ }
+{
     Desk {
         ready: false,
         given: setting::nothing(),
@@ -44,7 +48,9 @@ pub fn start() -> Desk {
 }
 
 // The desk after a `setup`: what was given is forgotten, and there is a receiver if this one was ready or one before it.
-pub fn after_setup(d: Desk, ready: bool) -> Desk {
+pub fn after_setup(d: Desk, ready: bool) -> Desk
+    ensures { λ r. ⌜ r ≡ afterSetup d ready ⌝ }
+{
     let room = d.room;
     Desk {
         ready: d.ready || ready,
@@ -54,20 +60,36 @@ pub fn after_setup(d: Desk, ready: bool) -> Desk {
 }
 
 // Notes a line that needs no receiver; any other is unread.
-pub fn note(d: Desk, said: Line, line: &[u8]) -> Noted {
+pub fn note(d: Desk, said: Line, line: &[u8]) -> Noted
+    ensures { λ r. ⌜ r ≡ noting d said (now (line .entry)) ⌝ }
+{
     match said {
         Line::Give(item) => give(d, item, line),
         Line::Room(room) => make_room(d, room),
-        Line::Skipped => Noted {
-            desk: d,
-            reply: Reply::Silence,
-        },
-        _ => unread(d),
+        Line::Skipped => skipped(d),
+        Line::Unread => unread(d),
+        Line::SetUp => unread(d),
+        Line::Hear(_) => unread(d),
+        Line::Send(_) => unread(d),
+        Line::GiveUp(_) => unread(d),
+        Line::Show => unread(d),
+    }
+}
+
+// Nothing is answered.
+fn skipped(d: Desk) -> Noted
+    ensures { λ r. ⌜ r ≡ noted d Reply.Silence ⌝ }
+{
+    Noted {
+        desk: d,
+        reply: Reply::Silence,
     }
 }
 
 // The line does not fit, and leaves the desk as it was.
-fn unread(d: Desk) -> Noted {
+fn unread(d: Desk) -> Noted
+    ensures { λ r. ⌜ r ≡ noted d Reply.Unread ⌝ }
+{
     Noted {
         desk: d,
         reply: Reply::Unread,
@@ -75,7 +97,9 @@ fn unread(d: Desk) -> Noted {
 }
 
 // A line that leads to `setup`.
-fn give(d: Desk, item: Item, line: &[u8]) -> Noted {
+fn give(d: Desk, item: Item, line: &[u8]) -> Noted
+    ensures { λ r. ⌜ r ≡ noting d (Line.Give item) (now (line .entry)) ⌝ }
+{
     let before = d.given;
     let g = setting::give(before, item, line);
     if !g.fits {
@@ -90,7 +114,10 @@ fn give(d: Desk, item: Item, line: &[u8]) -> Noted {
     }
 }
 
-fn make_room(d: Desk, room: Room) -> Noted {
+// A line that names the lengths of the buffers.
+fn make_room(d: Desk, room: Room) -> Noted
+    ensures { λ r. ⌜ r ≡ notingRoom d room ⌝ }
+{
     let mut desk = d;
     desk.room = room;
     Noted {

@@ -17,6 +17,9 @@ use text::number;
 use text::number::Octet;
 use text::number::Short;
 use transport::securing::MessageKey;
+ghost use mathlib.Core.Path.{_≡_};
+ghost use Rattle.common.specs.Lent.{lent};
+ghost use Rattle.commands.specs.Line.{roomOf, hearOf, accessOf, controlOf, segmentOf, ackOf, dropOf, orderOf, lineOf};
 
 pub enum Line {
     // No octets, or a line that begins with #: nothing is answered.
@@ -67,7 +70,9 @@ pub enum GivingUp {
 }
 
 // Reads a line. Where there is no receiver yet, only those lines fit that set one up. Over 4,095 octets are too long.
-pub fn read(line: &[u8], ready: bool, octets: &mut [u8]) -> Line {
+pub fn read(line: &[u8], ready: bool, octets: &mut [u8]) -> Line
+    ensures { λ r. ⌜ lent r (now (octets .exit)) ≡ lineOf (now (line .entry)) ready (now (octets .entry)) ⌝ }
+{
     if line.len() == 0 {
         return Line::Skipped;
     }
@@ -86,7 +91,9 @@ pub fn read(line: &[u8], ready: bool, octets: &mut [u8]) -> Line {
 }
 
 // A line for the receiver.
-fn read_order(order: Order, line: &[u8], octets: &mut [u8]) -> Line {
+fn read_order(order: Order, line: &[u8], octets: &mut [u8]) -> Line
+    ensures { λ r. ⌜ lent r (now (octets .exit)) ≡ orderOf order (now (line .entry)) (now (octets .entry)) ⌝ }
+{
     match order {
         Order::Hear => hear(line, octets),
         Order::Access => access(line, octets),
@@ -101,7 +108,9 @@ fn read_order(order: Order, line: &[u8], octets: &mut [u8]) -> Line {
 }
 
 // `hear PDU`.
-fn hear(line: &[u8], octets: &mut [u8]) -> Line {
+fn hear(line: &[u8], octets: &mut [u8]) -> Line
+    ensures { λ r. ⌜ lent r (now (octets .exit)) ≡ hearOf (now (line .entry)) (now (octets .entry)) ⌝ }
+{
     match hex::read(field::last(line, 1), octets) {
         Octets::Count(len) => Line::Hear(len),
         Octets::NotHex => Line::Unread,
@@ -109,7 +118,9 @@ fn hear(line: &[u8], octets: &mut [u8]) -> Line {
 }
 
 // `access E DST TTL K J MIC BYTES`: element E sends under network key K and application key J, or `dev`.
-fn access(line: &[u8], octets: &mut [u8]) -> Line {
+fn access(line: &[u8], octets: &mut [u8]) -> Line
+    ensures { λ r. ⌜ lent r (now (octets .exit)) ≡ accessOf (now (line .entry)) (now (octets .entry)) ⌝ }
+{
     let Asked::For(request) = request_of(line) else {
         return Line::Unread;
     };
@@ -131,7 +142,9 @@ fn access(line: &[u8], octets: &mut [u8]) -> Line {
 }
 
 // `control E DST TTL K O BYTES`: element E sends with opcode O.
-fn control(line: &[u8], octets: &mut [u8]) -> Line {
+fn control(line: &[u8], octets: &mut [u8]) -> Line
+    ensures { λ r. ⌜ lent r (now (octets .exit)) ≡ controlOf (now (line .entry)) (now (octets .entry)) ⌝ }
+{
     let Asked::For(request) = request_of(line) else {
         return Line::Unread;
     };
@@ -149,7 +162,9 @@ fn control(line: &[u8], octets: &mut [u8]) -> Line {
 }
 
 // `segment N`.
-fn segment(line: &[u8]) -> Line {
+fn segment(line: &[u8]) -> Line
+    ensures { λ r. ⌜ r ≡ segmentOf (now (line .entry)) ⌝ }
+{
     match number::read_octet(field::last(line, 1)) {
         Octet::Value(n) => Line::Send(Sending::Segment(n)),
         Octet::Unfit => Line::Unread,
@@ -157,7 +172,9 @@ fn segment(line: &[u8]) -> Line {
 }
 
 // `ack K S`: acknowledges source S over network key K.
-fn acknowledgement(line: &[u8]) -> Line {
+fn acknowledgement(line: &[u8]) -> Line
+    ensures { λ r. ⌜ r ≡ ackOf (now (line .entry)) ⌝ }
+{
     let Octet::Value(network) = number::read_octet(field::nth(line, 1)) else {
         return Line::Unread;
     };
@@ -171,7 +188,9 @@ fn acknowledgement(line: &[u8]) -> Line {
 }
 
 // `drop S`: gives up the session of source S.
-fn session(line: &[u8]) -> Line {
+fn session(line: &[u8]) -> Line
+    ensures { λ r. ⌜ r ≡ dropOf (now (line .entry)) ⌝ }
+{
     match number::read_short(field::last(line, 1)) {
         Short::Value(src) => Line::GiveUp(GivingUp::Session(src)),
         Short::Unfit => Line::Unread,
@@ -179,16 +198,18 @@ fn session(line: &[u8]) -> Line {
 }
 
 // `room FORWARD MESSAGE`: the lengths of the two buffers lent from then on, each at most 384.
-fn room(line: &[u8]) -> Line {
+fn room(line: &[u8]) -> Line
+    ensures { λ r. ⌜ r ≡ roomOf (now (line .entry)) ⌝ }
+{
     let Short::Value(forward) = number::read_short(field::nth(line, 1)) else {
-        return Line::Unread;
-    };
-    let Short::Value(message) = number::read_short(field::last(line, 2)) else {
         return Line::Unread;
     };
     if 384 < forward {
         return Line::Unread;
     }
+    let Short::Value(message) = number::read_short(field::last(line, 2)) else {
+        return Line::Unread;
+    };
     if 384 < message {
         return Line::Unread;
     }

@@ -6,6 +6,8 @@ use text::number;
 use text::number::Octet;
 use text::number::Short;
 use transport::securing::MessageKey;
+ghost use mathlib.Core.Path.{_≡_};
+ghost use Rattle.commands.specs.Request.{withTtl, withKey, withMic, withRequest};
 
 // A TTL field: - is one left unnamed.
 enum TtlField {
@@ -13,7 +15,9 @@ enum TtlField {
     Unfit,
 }
 
-fn ttl_of(text: &[u8]) -> TtlField {
+fn ttl_of(text: &[u8]) -> TtlField
+    ensures { λ r. ⌜ r ≡ withTtl (now (text .entry)) TtlField.Unfit TtlField.Fits ⌝ }
+{
     if common::equal(text, b"-") {
         return TtlField::Fits(Ttl::Unnamed);
     }
@@ -29,7 +33,9 @@ pub(crate) enum Asked {
     Unfit,
 }
 
-pub(crate) fn request_of(line: &[u8]) -> Asked {
+pub(crate) fn request_of(line: &[u8]) -> Asked
+    ensures { λ r. ⌜ r ≡ withRequest (now (line .entry)) Asked.Unfit Asked.For ⌝ }
+{
     let Octet::Value(element) = number::read_octet(field::nth(line, 1)) else {
         return Asked::Unfit;
     };
@@ -56,7 +62,9 @@ pub(crate) enum KeyField {
     Unfit,
 }
 
-pub(crate) fn key_of(text: &[u8]) -> KeyField {
+pub(crate) fn key_of(text: &[u8]) -> KeyField
+    ensures { λ r. ⌜ r ≡ withKey (now (text .entry)) KeyField.Unfit KeyField.Fits ⌝ }
+{
     if common::equal(text, b"dev") {
         return KeyField::Fits(MessageKey::Device);
     }
@@ -73,7 +81,9 @@ pub(crate) enum MicField {
     Unfit,
 }
 
-pub(crate) fn mic_of(text: &[u8]) -> MicField {
+pub(crate) fn mic_of(text: &[u8]) -> MicField
+    ensures { λ r. ⌜ r ≡ withMic (now (text .entry)) MicField.Unfit MicField.Fits ⌝ }
+{
     match number::read_octet(text) {
         Octet::Value(n) => {
             if n == 4 {

@@ -11,7 +11,12 @@ use text::number::Bit;
 use text::number::Number;
 use text::number::Octet;
 use text::number::Short;
+ghost use mathlib.Core.Path.{_≡_};
 ghost use Prim.Native.Nat.{_<_};
+ghost use lib.ListN.{drop, set};
+ghost use Rattle.text.specs.Field.{fields};
+ghost use Rattle.commands.specs.Setting.{nothing as nothingGiven, counted as countedTo, fit as fitting, unfit as unfitting, giving};
+ghost use Rattle.commands.specs.Setting.{noSequences, sequencesOf, withNetworkKey, withApplicationKey, withGroup};
 
 // What a line gives.
 pub enum Item {
@@ -30,16 +35,22 @@ pub(crate) struct Given {
     pub setup: Setup,
 }
 
-fn fit(setup: Setup) -> Given {
+fn fit(setup: Setup) -> Given
+    ensures { λ r. ⌜ r ≡ fitting setup ⌝ }
+{
     Given { fits: true, setup }
 }
 
-fn unfit(setup: Setup) -> Given {
+fn unfit(setup: Setup) -> Given
+    ensures { λ r. ⌜ r ≡ unfitting setup ⌝ }
+{
     Given { fits: false, setup }
 }
 
 // Nothing is given: zeros, and relay off.
-pub fn nothing() -> Setup {
+pub fn nothing() -> Setup
+    ensures { λ r. ⌜ r ≡ nothingGiven ⌝ }
+{
     Setup {
         networks: 0,
         keys: [Key { octets: [0u8; 16] }; 4],
@@ -61,7 +72,9 @@ pub fn nothing() -> Setup {
 }
 
 // Takes what a line gives.
-pub(crate) fn give(s: Setup, item: Item, line: &[u8]) -> Given {
+pub(crate) fn give(s: Setup, item: Item, line: &[u8]) -> Given
+    ensures { λ r. ⌜ r ≡ giving s item (now (line .entry)) ⌝ }
+{
     match item {
         Item::NetKey => network_key(s, line),
         Item::AppKey => application_key(s, line),
@@ -76,27 +89,40 @@ pub(crate) fn give(s: Setup, item: Item, line: &[u8]) -> Given {
 // One more than a count, which stops once it is above `most`.
 fn counted(n: usize, most: usize) -> usize
     requires { ⌜ most < 256 ⌝ }
+    ensures { λ r. ⌜ r ≡ countedTo most n ⌝ }
 {
     if most < n { n } else { n + 1 }
 }
 
 // `netkey KEY`: the next network key.
-fn network_key(s: Setup, line: &[u8]) -> Given {
+fn network_key(s: Setup, line: &[u8]) -> Given
+    ensures { λ r. ⌜ r ≡ giving s Item.NetKey (now (line .entry)) ⌝ }
+{
     let mut octets = [0u8; 16];
     if !hex::fill(field::last(line, 1), &mut octets) {
         return unfit(s);
     }
+    fit(with_network_key(s, octets))
+}
+
+// The setup with the next network key.
+fn with_network_key(s: Setup, octets: [u8; 16]) -> Setup
+    ensures { λ r. ⌜ r ≡ withNetworkKey s octets ⌝ }
+{
     let n = s.networks;
     let mut after = s;
     after.networks = counted(n, 4);
     if n < 4 {
         after.keys[n] = Key { octets };
+        return after;
     }
-    fit(after)
+    after
 }
 
 // `appkey N KEY`: the next application key, bound to network key N.
-fn application_key(s: Setup, line: &[u8]) -> Given {
+fn application_key(s: Setup, line: &[u8]) -> Given
+    ensures { λ r. ⌜ r ≡ giving s Item.AppKey (now (line .entry)) ⌝ }
+{
     let mut key = [0u8; 16];
     let Octet::Value(network) = number::read_octet(field::nth(line, 1)) else {
         return unfit(s);
@@ -104,20 +130,27 @@ fn application_key(s: Setup, line: &[u8]) -> Given {
     if !hex::fill(field::last(line, 2), &mut key) {
         return unfit(s);
     }
+    fit(with_application_key(s, network as usize, key))
+}
+
+// The setup with the next application key, bound to a network key.
+fn with_application_key(s: Setup, network: usize, key: [u8; 16]) -> Setup
+    ensures { λ r. ⌜ r ≡ withApplicationKey s network key ⌝ }
+{
     let n = s.applications;
     let mut after = s;
     after.applications = counted(n, 4);
     if n < 4 {
-        after.secrets[n] = BoundKey {
-            key,
-            network: network as usize,
-        };
+        after.secrets[n] = BoundKey { key, network };
+        return after;
     }
-    fit(after)
+    after
 }
 
 // `devkey KEY`: the device key.
-fn device_key(s: Setup, line: &[u8]) -> Given {
+fn device_key(s: Setup, line: &[u8]) -> Given
+    ensures { λ r. ⌜ r ≡ giving s Item.DevKey (now (line .entry)) ⌝ }
+{
     let mut key = [0u8; 16];
     if !hex::fill(field::last(line, 1), &mut key) {
         return unfit(s);
@@ -134,8 +167,21 @@ struct Sequences {
     next: [u32; 8],
 }
 
+// A field is no number.
+fn no_sequences() -> Sequences
+    ensures { λ r. ⌜ r ≡ noSequences ⌝ }
+{
+    Sequences {
+        fits: false,
+        count: 0,
+        next: [0u32; 8],
+    }
+}
+
 // The numbers with one more, where there is a place for it.
-fn with_next(next: [u32; 8], place: usize, seq: u32) -> [u32; 8] {
+fn with_next(next: [u32; 8], place: usize, seq: u32) -> [u32; 8]
+    ensures { λ r. ⌜ r ≡ set next place seq ⌝ }
+{
     let mut after = next;
     if place < 8 {
         after[place] = seq;
@@ -143,20 +189,18 @@ fn with_next(next: [u32; 8], place: usize, seq: u32) -> [u32; 8] {
     after
 }
 
-// The numbers of a line, one behind each space from `from` on.
-fn read_sequences(line: &[u8], from: usize) -> Sequences {
+// The numbers of a line, one behind each space.
+fn read_sequences(line: &[u8]) -> Sequences
+    ensures { λ r. ⌜ r ≡ sequencesOf (drop 1 (fields (now (line .entry)))) ⌝ }
+{
     let mut next = [0u32; 8];
     let mut count: usize = 0;
-    let mut at = from;
+    let mut at = text::until(line, 0, b' ');
     while at < line.len() {
         let start = at + 1;
         let end = text::until(line, start, b' ');
         let Number::Value(seq) = number::read(text::first(&line[start..], end - start)) else {
-            return Sequences {
-                fits: false,
-                count,
-                next,
-            };
+            return no_sequences();
         };
         let after = with_next(next, count, seq);
         next = after;
@@ -171,12 +215,13 @@ fn read_sequences(line: &[u8], from: usize) -> Sequences {
 }
 
 // `elements FIRST SEQ..`: the first element's address, then each element's next SEQ.
-fn elements(s: Setup, line: &[u8]) -> Given {
+fn elements(s: Setup, line: &[u8]) -> Given
+    ensures { λ r. ⌜ r ≡ giving s Item.Elements (now (line .entry)) ⌝ }
+{
     let Short::Value(first) = number::read_short(field::nth(line, 1)) else {
         return unfit(s);
     };
-    // FIRST stands behind 9 octets, the word and a space.
-    let q = read_sequences(line, text::until(line, 9, b' '));
+    let q = read_sequences(field::last(line, 1));
     if !q.fits {
         return unfit(s);
     }
@@ -189,21 +234,33 @@ fn elements(s: Setup, line: &[u8]) -> Given {
 }
 
 // `group ADDRESS`: one more group address listened to.
-fn group(s: Setup, line: &[u8]) -> Given {
+fn group(s: Setup, line: &[u8]) -> Given
+    ensures { λ r. ⌜ r ≡ giving s Item.Group (now (line .entry)) ⌝ }
+{
     let Short::Value(address) = number::read_short(field::last(line, 1)) else {
         return unfit(s);
     };
+    fit(with_group(s, address))
+}
+
+// The setup with one more group address.
+fn with_group(s: Setup, address: u16) -> Setup
+    ensures { λ r. ⌜ r ≡ withGroup s address ⌝ }
+{
     let n = s.listened;
     let mut after = s;
     after.listened = counted(n, 8);
     if n < 8 {
         after.groups[n] = address;
+        return after;
     }
-    fit(after)
+    after
 }
 
 // `ivindex INDEX FLAG`: the IV Index and its update flag.
-fn iv_index(s: Setup, line: &[u8]) -> Given {
+fn iv_index(s: Setup, line: &[u8]) -> Given
+    ensures { λ r. ⌜ r ≡ giving s Item.IvIndex (now (line .entry)) ⌝ }
+{
     let Number::Value(iv) = number::read(field::nth(line, 1)) else {
         return unfit(s);
     };
@@ -217,7 +274,9 @@ fn iv_index(s: Setup, line: &[u8]) -> Given {
 }
 
 // `relay 0` or `relay 1`: relay off or on.
-fn relay(s: Setup, line: &[u8]) -> Given {
+fn relay(s: Setup, line: &[u8]) -> Given
+    ensures { λ r. ⌜ r ≡ giving s Item.Relay (now (line .entry)) ⌝ }
+{
     let Bit::Value(on) = number::read_bit(field::last(line, 1)) else {
         return unfit(s);
     };

@@ -1,0 +1,119 @@
+-- What a field that was read leads to. The code reads a field into an enum and goes on by its case, where a definition hands the field on: they
+-- agree, since what is made of a choice is made on either way of it. A number with a smaller bound is read as one of 16 bits and held to the bound.
+-- Assumes nothing.
+use mathlib.Core.Path.{_≡_, refl, _∙_}
+use mathlib.Core.Bool.{Bool, true, false}
+use mathlib.Core.List.{List}
+use Prim.Native.Nat.{ℕ, _≤_, _<_}
+use native.Mathlib.Omega.{arith}
+use borrow.Author.Tests.{lt-leb, leb-true, leb-false}
+use lib.Dec.{leb}
+use Rattle.common.specs.Choice.{if_then_else_}
+use Rattle.common.specs.Lent.{lent}
+use Rattle.common.proofs.Tests.{by-test}
+use Rattle.transport.specs.declared.securing.MessageKey.{MessageKey}
+use Rattle.sending.specs.declared.request.Request.{Request}
+use Rattle.sending.specs.declared.request.Ttl.{Ttl}
+use Rattle.text.specs.declared.number.Number.{Number}
+use Rattle.text.specs.declared.number.Number.the-variants as number
+use Rattle.text.specs.declared.number.Octet.{Octet}
+use Rattle.text.specs.declared.number.Octet.the-variants as octet
+use Rattle.text.specs.declared.number.Short.{Short}
+use Rattle.text.specs.declared.number.Short.the-variants as short
+use Rattle.text.specs.declared.hex.Octets.{Octets}
+use Rattle.text.specs.Hex.{reading}
+use Rattle.text.specs.Number.{numberOf, atMost, octetOf, shortOf}
+use Rattle.commands.specs.declared.requesting.TtlField.{TtlField}
+use Rattle.commands.specs.declared.requesting.TtlField.the-variants as ttl
+use Rattle.commands.specs.declared.requesting.KeyField.{KeyField}
+use Rattle.commands.specs.declared.requesting.KeyField.the-variants as key
+use Rattle.commands.specs.declared.requesting.MicField.{MicField}
+use Rattle.commands.specs.declared.requesting.MicField.the-variants as mic
+use Rattle.commands.specs.declared.requesting.Asked.{Asked}
+use Rattle.commands.specs.declared.requesting.Asked.the-variants as asked
+use Rattle.commands.specs.declared.line.Line.{Line}
+use Rattle.commands.specs.Request.{upTo, withTtl, withKey, withMic, withRequest}
+use Rattle.commands.specs.Line.{counted, withOctets}
+
+-- ---- what is made of a choice, and of a number, is made on either way
+if-map : {A B : Type 0} (g : A → B) (b : Bool) (x y : A) → g (if b then x else y) ≡ (if b then g x else g y)
+if-map g true x y = refl
+if-map g false x y = refl
+
+at-most-map : {A B : Type 0} (g : A → B) (most : ℕ) (f : ℕ → A) (x : A) (m : Number) → g (atMost most f x m) ≡ atMost most (λ n. g (f n)) (g x) m
+at-most-map g most f x (number.Value n) = if-map g (leb n most) (f n) x
+at-most-map g most f x number.NotHex = refl
+
+-- ---- what each reading leads to, x where it does not fit
+abbrev onOctet : {A : Type 0} → A → (ℕ → A) → Octet → A
+onOctet x f (octet.Value v) = f v
+onOctet x f octet.Unfit = x
+
+abbrev onShort : {A : Type 0} → A → (ℕ → A) → Short → A
+onShort x f (short.Value v) = f v
+onShort x f short.Unfit = x
+
+abbrev onTtl : {A : Type 0} → A → (Ttl → A) → TtlField → A
+onTtl x f (ttl.Fits v) = f v
+onTtl x f ttl.Unfit = x
+
+abbrev onKey : {A : Type 0} → A → (MessageKey → A) → KeyField → A
+onKey x f (key.Fits v) = f v
+onKey x f key.Unfit = x
+
+abbrev onMic : {A : Type 0} → A → (Bool → A) → MicField → A
+onMic x f (mic.Fits v) = f v
+onMic x f mic.Unfit = x
+
+abbrev onRequest : {A : Type 0} → A → (Request → A) → Asked → A
+onRequest x f (asked.For v) = f v
+onRequest x f asked.Unfit = x
+
+-- ---- a field that was read, and what it was read as
+module _ {A : Type 0} (text t : List ℕ) (same-text : t ≡ text) (x z : A) where
+  pub octet-read : (f : ℕ → A) (a b : Octet) → a ≡ octetOf (numberOf t) → a ≡ b → z ≡ onOctet x f b → z ≡ upTo 0xFF text x f
+  octet-read f a b e k r = r ∙ rw (← k, e, same-text) (at-most-map (onOctet x f) 0xFF octet.Value octet.Unfit (numberOf text))
+
+  pub short-read : (f : ℕ → A) (a b : Short) → a ≡ shortOf (numberOf t) → a ≡ b → z ≡ onShort x f b → z ≡ upTo 0xFFFF text x f
+  short-read f a b e k r = r ∙ rw (← k, e, same-text) (at-most-map (onShort x f) 0xFFFF short.Value short.Unfit (numberOf text))
+
+  pub ttl-read : (f : Ttl → A) (a b : TtlField) → a ≡ withTtl t ttl.Unfit ttl.Fits → a ≡ b → z ≡ onTtl x f b → z ≡ withTtl text x f
+  unfolding withTtl
+  ttl-read f a b e k r = r ∙ rw (← k, e, same-text) (simp (if-map (onTtl x f), at-most-map (onTtl x f)))
+
+  pub key-read : (f : MessageKey → A) (a b : KeyField) → a ≡ withKey t key.Unfit key.Fits → a ≡ b → z ≡ onKey x f b → z ≡ withKey text x f
+  unfolding withKey
+  key-read f a b e k r = r ∙ rw (← k, e, same-text) (simp (if-map (onKey x f), at-most-map (onKey x f)))
+
+  pub mic-read : (f : Bool → A) (a b : MicField) → a ≡ withMic t mic.Unfit mic.Fits → a ≡ b → z ≡ onMic x f b → z ≡ withMic text x f
+  unfolding withMic
+  mic-read f a b e k r = r ∙ rw (← k, e, same-text) (simp (if-map (onMic x f), at-most-map (onMic x f)))
+
+pub request-read :
+    {A : Type 0} (line : List ℕ) (x z : A) (f : Request → A) (a b : Asked) → a ≡ withRequest line asked.Unfit asked.For → a ≡ b → z ≡ onRequest x f b
+    → z ≡ withRequest line x f
+unfolding withRequest withTtl
+request-read line x z f a b e k r = r ∙ rw (← k, e) (simp (if-map (onRequest x f), at-most-map (onRequest x f)))
+
+-- ---- a number with a bound below 16 bits
+abbrev held : {A : Type 0} → ℕ → A → (ℕ → A) → ℕ → A
+held most x f n = if leb n most then f n else x
+
+at-most-held : {A : Type 0} (most : ℕ) (x : A) (f : ℕ → A) (m : Number) → leb most 0xFFFF ≡ true → atMost 0xFFFF (held most x f) x m ≡ atMost most f x m
+at-most-held most x f (number.Value n) h =
+    by-test (leb n 0xFFFF) (λ t. rw t)
+    (λ t. let more : 0xFFFF < n = leb-false n 0xFFFF t in let less : most ≤ 0xFFFF = leb-true most 0xFFFF h in rw (t, lt-leb n most (omega arith)))
+at-most-held most x f number.NotHex h = refl
+
+pub held-read :
+    {A : Type 0} (most : ℕ) (text t : List ℕ) → t ≡ text → (x z : A) (f : ℕ → A) (a b : Short) → a ≡ shortOf (numberOf t) → a ≡ b → leb most 0xFFFF ≡ true
+    → z ≡ onShort x (held most x f) b → z ≡ upTo most text x f
+held-read most text t same-text x z f a b e k h r = short-read text t same-text x z (held most x f) a b e k r ∙ at-most-held most x f (numberOf text) h
+
+-- ---- octets, read into a buffer
+pub octets-read :
+    (text t out left : List ℕ) → t ≡ text → (f : ℕ → Line) (z : Line) (a b : Octets) → lent a left ≡ reading t out → a ≡ b → z ≡ counted b f
+    → lent z left ≡ withOctets text out f
+octets-read text t out left same-text f z a b e k r = rw (← same-text, ← e, k, r)
+
+pub ruleset field-rules = (octet-read, short-read, ttl-read, key-read, mic-read, request-read, octets-read)

@@ -1,0 +1,164 @@
+-- The SEQs of a line, read number by number: what is left to read behind those that were read, and how that goes on; a list past whose end is set.
+-- Assumes nothing.
+use mathlib.Core.Path.{_≡_, refl, sym, ap, ap₂, _∙_}
+use mathlib.Core.Bool.{Bool, true, false, _&&_}
+use mathlib.Core.List.{List, [], _∷_, _++_, map, append-nil, append-assoc}
+use Prim.Native.Nat.{ℕ, suc, _+_, _-_, _≤_, _<_, min}
+use native.Mathlib.Nat.{zero-add, add-zero}
+use native.Mathlib.Omega.{arith}
+use borrow.Author.Tests.{lt-ltb, le-ltb, eqb-true, eqb-false, ltb-true, ltb-false}
+use lib.Dec.{eqb, ltb}
+use lib.ListN.{length, getD, take, drop, set, replicate, length-append, length-drop, length-set, List·getD-append, List·getD-eq-default}
+use lib.Seq.{getD-set-same, getD-set-other, getD-at, take-all}
+use Rattle.common.specs.Choice.{if_then_else_}
+use Rattle.common.specs.Lent.{lent}
+use Rattle.common.specs.Lists.{padded}
+use Rattle.common.specs.Search.{first}
+use Rattle.common.proofs.Lists.{tab-is, length-tab, getD-tab}
+use Rattle.common.proofs.Tests.{by-test}
+use Rattle.text.specs.declared.number.Number.{Number}
+use Rattle.text.specs.declared.number.Number.the-variants.{Value, NotHex}
+use Rattle.text.specs.declared.number.Short.the-variants as short
+use Rattle.text.specs.Field.{is, behind, fields}
+use Rattle.text.specs.Number.{numberOf}
+use Rattle.text.proofs.FieldLaws.{fields-on, fields-past, fields-from-two}
+use Rattle.node.specs.declared.setup.Setup.{Setup}
+use Rattle.commands.specs.declared.setting.Sequences.{Sequences}
+use Rattle.commands.specs.Setting.{counted, keyOf, isNumber, valueOf, areNumbers, noSequences, sequencesOf, withElements, fit, unfit, givenElements}
+
+-- one number more, or none
+abbrev withNumber : Number → (ℕ → Sequences) → Sequences
+withNumber (Value n) f = f n
+withNumber NotHex f = noSequences
+
+-- so many numbers were read, and stand in the list: the texts that are left
+unfoldable pub sequencesFrom : ℕ → List ℕ → List (List ℕ) → Sequences
+sequencesFrom count next [] = record { fits = true; count = count; next = next }
+sequencesFrom count next (text ∷ texts) = withNumber (numberOf text) (λ n. sequencesFrom (counted 8 count) (set next count n) texts)
+
+-- ---- one more of nine at most
+counted-nine : (k : ℕ) → counted 8 (min k 9) ≡ min (k + 1) 9
+counted-nine k =
+    by-test (ltb 8 (min k 9)) (λ t. let h : 8 < min k 9 = ltb-true 8 (min k 9) t in rw t (omega arith))
+    (λ t. let h : min k 9 ≤ 8 = ltb-false 8 (min k 9) t in rw t (omega arith))
+
+-- ---- a number goes to its place among the first eight
+module _ (l : List ℕ) (n : ℕ) where
+  more-at : (i : ℕ) → i < 8 → getD (set (padded 8 l) (min (length l) 9) n) i 0 ≡ getD (l ++ n ∷ []) i 0
+  more-at i h =
+      let k = min (length l) 9 in
+      let long : length (padded 8 l) ≡ 8 = length-tab (λ j. getD l j 0) 8 in
+      by-test (eqb i (length l))
+      (λ t.
+      let e : i ≡ length l = eqb-true i (length l) t in
+      let same : k ≡ i = omega arith in
+      ap (λ (j : ℕ). getD (set (padded 8 l) j n) i 0) same
+      ∙ getD-set-same (padded 8 l) i n 0 (omega arith) ∙ sym (getD-at l n [] 0 i (sym e)))
+      (λ t.
+      let d : i ≡ length l → ⊥ = eqb-false i (length l) t in
+      getD-set-other (padded 8 l) k i n 0 (λ q. d (omega arith))
+      ∙ getD-tab (λ j. getD l j 0) 8 i 0 h
+      ∙ by-test (ltb i (length l)) (λ u. sym (List·getD-append l (n ∷ []) 0 i (ltb-true i (length l) u)))
+      (λ u.
+      let past : length l ≤ i = ltb-false i (length l) u in
+      let end : length (l ++ n ∷ []) ≤ i = simp length-append (let f : length l ≡ i → ⊥ = (λ q. d (sym q)) in omega arith) in
+      List·getD-eq-default l 0 past ∙ sym (List·getD-eq-default (l ++ n ∷ []) 0 end)))
+
+  padded-more : set (padded 8 l) (min (length l) 9) n ≡ padded 8 (l ++ n ∷ [])
+  padded-more =
+      tab-is (λ i. getD (l ++ n ∷ []) i 0) 0 8 (set (padded 8 l) (min (length l) 9) n)
+      (length-set (padded 8 l) (min (length l) 9) n ∙ length-tab (λ j. getD l j 0) 8) more-at
+
+-- ---- the texts that are left, behind the numbers that were read
+abbrev ReadFrom : List (List ℕ) → List ℕ → Type 0
+ReadFrom texts l =
+    sequencesFrom (min (length l) 9) (padded 8 l) texts
+    ≡ (if areNumbers texts then
+    record { fits = true; count = min (length l + length texts) 9; next = padded 8 (l ++ map (λ text. valueOf (numberOf text)) texts) } else
+    noSequences)
+
+read-step :
+    (a : Number) (texts : List (List ℕ)) (l : List ℕ) → ((m : List ℕ) → ReadFrom texts m)
+    → withNumber a (λ n. sequencesFrom (counted 8 (min (length l) 9)) (set (padded 8 l) (min (length l) 9) n) texts)
+    ≡ (if isNumber a && areNumbers texts then
+    record { fits = true; count = min (length l + suc (length texts)) 9; next = padded 8 (l ++ valueOf a ∷ map (λ text. valueOf (numberOf text)) texts) } else
+    noSequences)
+read-step NotHex texts l p = refl
+read-step (Value n) texts l p =
+    let rest = map (λ text. valueOf (numberOf text)) texts in
+    let long : length (l ++ n ∷ []) ≡ length l + 1 = length-append l (n ∷ []) in
+    let one : counted 8 (min (length l) 9) ≡ min (length (l ++ n ∷ [])) 9 = counted-nine (length l) ∙ ap (λ (k : ℕ). min k 9) (sym long) in
+    let many : length (l ++ n ∷ []) + length texts ≡ length l + suc (length texts) = omega arith in
+    ap₂ (λ (k : ℕ) (m : List ℕ). sequencesFrom k m texts) one (padded-more l n)
+    ∙ p (l ++ n ∷ [])
+    ∙ ap₂ (λ (k : ℕ) (m : List ℕ). if areNumbers texts then record { fits = true; count = min k 9; next = padded 8 m } else noSequences) many
+    (append-assoc l (n ∷ []) rest)
+
+read-from : (texts : List (List ℕ)) (l : List ℕ) → ReadFrom texts l
+unfolding sequencesFrom
+read-from [] l =
+    ap₂ (λ (k : ℕ) (m : List ℕ). record { fits = true; count = min k 9; next = padded 8 m }) (sym (add-zero (length l))) (sym (append-nil l))
+read-from (text ∷ texts) l = read-step (numberOf text) texts l (read-from texts)
+
+-- at the start none was read
+pub read-start : (texts : List (List ℕ)) → sequencesOf texts ≡ sequencesFrom 0 (replicate 8 0) texts
+unfolding sequencesOf
+read-start texts =
+    sym
+    (read-from texts []
+    ∙ ap
+    (λ (k : ℕ).
+    if areNumbers texts then record { fits = true; count = min k 9; next = padded 8 (map (λ text. valueOf (numberOf text)) texts) } else
+    noSequences)
+    (zero-add (length texts)))
+
+-- ---- the text behind a space at `at` is a number, or is none; or the line ends
+module _
+    (line : List ℕ) (at end : ℕ) (h : at < length line) (space : getD line at 0 ≡ 32) (e : end ≡ (at + 1) + first (is 32) (drop (at + 1) line))
+    (text : List ℕ) (t : text ≡ take (end - (at + 1)) (take (length line - (at + 1)) (drop (at + 1) line))) (a : Number) (r : a ≡ numberOf text)
+    (count : ℕ) (next : List ℕ) where
+  left : drop 1 (fields (drop at line)) ≡ text ∷ drop 1 (fields (drop end line))
+  left =
+      fields-on line at end h space e
+      ∙ ap (λ (m : List ℕ). m ∷ drop 1 (fields (drop end line)))
+      (sym
+      (t ∙ ap (take (end - (at + 1))) (take-all (length line - (at + 1)) (drop (at + 1) line) (simp length-drop (omega arith)))))
+
+  pub read-on :
+      (n : ℕ) → a ≡ Value n
+      → sequencesFrom count next (drop 1 (fields (drop at line))) ≡ sequencesFrom (counted 8 count) (set next count n) (drop 1 (fields (drop end line)))
+  unfolding sequencesFrom
+  read-on n k = rw (left, ← r, k)
+
+  pub read-wrong : a ≡ NotHex → noSequences ≡ sequencesFrom count next (drop 1 (fields (drop at line)))
+  unfolding sequencesFrom
+  read-wrong k = rw (left, ← r, k)
+
+pub read-end :
+    (line : List ℕ) (at count : ℕ) (next : List ℕ) → length line ≤ at
+    → record { fits = true; count = count; next = next } ≡ sequencesFrom count next (drop 1 (fields (drop at line)))
+unfolding sequencesFrom
+read-end line at count next h = rw (fields-past line at h)
+
+-- ---- what a line gives
+-- a field was read as something
+pub field-read : {A : Type 0} (f : List ℕ → A) (text field : List ℕ) (a is : A) → a ≡ f text → text ≡ field → a ≡ is → is ≡ f field
+field-read f text field a is e t k = sym k ∙ e ∙ ap f t
+
+-- as a key, or as none
+pub key-read :
+    (b is : Bool) (key text field : List ℕ) → lent b key ≡ keyOf text → text ≡ field → b ≡ is → lent is key ≡ keyOf field
+key-read b is key text field e t k = field-read keyOf text field (lent b key) (lent is key) e t (ap (λ (x : Bool). lent x key) k)
+
+-- the SEQs stand in the fields from number 2 on
+pub sequences-of :
+    (line rest : List ℕ) (q : Sequences) → rest ≡ behind 1 line → q ≡ sequencesOf (drop 1 (fields rest)) → q ≡ sequencesOf (drop 2 (fields line))
+sequences-of line rest q e k =
+    k ∙ ap (λ (l : List ℕ). sequencesOf (drop 1 (fields l))) e ∙ ap sequencesOf (sym (fields-from-two line))
+
+module _ (s : Setup) (first : ℕ) (q : Sequences) where
+  pub elements-fit : q .fits ≡ true → fit (withElements s first q) ≡ givenElements s (short.Value first) q
+  elements-fit h = rw h
+
+  pub elements-unfit : q .fits ≡ false → unfit s ≡ givenElements s (short.Value first) q
+  elements-unfit h = rw h

@@ -1,0 +1,51 @@
+-- What stands beside the receiver: whether there is one, what was given since the last `setup`, and the lengths of the two buffers lent.
+--   atStart              the desk at the start
+--   afterSetup d ready   after a `setup`, ready or refused
+--   noting d said text   what a line leaves that needs no receiver, and what it is answered
+use mathlib.Core.Bool.{Bool, false, _||_}
+use mathlib.Core.List.{List}
+use Prim.Native.Nat.{ℕ}
+use Rattle.common.specs.Choice.{if_then_else_}
+use Rattle.commands.specs.declared.desk.Desk.{Desk}
+use Rattle.commands.specs.declared.desk.Noted.{Noted}
+use Rattle.commands.specs.declared.desk.Room.{Room}
+use Rattle.commands.specs.declared.desk.Reply.{Reply}
+use Rattle.commands.specs.declared.desk.Reply.the-variants as reply
+use Rattle.commands.specs.declared.line.Line.{Line}
+use Rattle.commands.specs.declared.line.Line.the-variants as line
+use Rattle.commands.specs.declared.setting.Given.{Given}
+use Rattle.commands.specs.Setting.{nothing, giving}
+
+-- no receiver, nothing given, and buffers of 1d and 180 octets, in hex
+abbrev pub atStart : Desk
+atStart = record { ready = false; given = nothing; room = record { forward = 0x1d; message = 0x180 } }
+
+-- a refused `setup` leaves the receiver that was there; both forget the lines that led to it, and leave the room
+abbrev pub afterSetup : Desk → Bool → Desk
+afterSetup d ready = record { ready = d .ready || ready; given = nothing; room = d .room }
+
+-- what a line is answered, and the desk then
+abbrev pub noted : Desk → Reply → Noted
+noted d answer = record { desk = d; reply = answer }
+
+-- a line that leads to `setup`: unread where its fields do not fit
+abbrev pub notingGiven : Desk → Given → Noted
+notingGiven d g =
+    if g .fits then noted (record { ready = d .ready; given = g .setup; room = d .room }) reply.Ok else
+    noted d reply.Unread
+
+-- `room FORWARD MESSAGE`: the lengths of the two buffers lent from then on
+abbrev pub notingRoom : Desk → Room → Noted
+notingRoom d room = noted (record { ready = d .ready; given = d .given; room = room }) reply.Ok
+
+-- a line that is skipped writes nothing; `setup` and what needs a receiver are not noted here
+unfoldable pub noting : Desk → Line → List ℕ → Noted
+noting d (line.Give item) text = notingGiven d (giving (d .given) item text)
+noting d (line.Room room) text = notingRoom d room
+noting d line.Skipped text = noted d reply.Silence
+noting d line.Unread text = noted d reply.Unread
+noting d line.SetUp text = noted d reply.Unread
+noting d (line.Hear len) text = noted d reply.Unread
+noting d (line.Send what) text = noted d reply.Unread
+noting d (line.GiveUp what) text = noted d reply.Unread
+noting d line.Show text = noted d reply.Unread

@@ -1,0 +1,45 @@
+-- The fields of a line: numbers, and those of a line that sends. Each definition hands what it reads on to f, and is x where it does not fit.
+--   upTo most text x f     a number of at most so much
+--   withTtl text x f       a TTL
+--   withKey text x f       the key of an access message
+--   withMic text x f       the size of its MIC
+--   withRequest line x f   element, destination, TTL and network key
+use mathlib.Core.Bool.{Bool, true, false}
+use mathlib.Core.List.{List}
+use Prim.Native.Nat.{ℕ}
+use lib.Dec.{eqb}
+use Rattle.common.specs.Choice.{if_then_else_}
+use Rattle.common.specs.Lists.{same}
+use Rattle.transport.specs.declared.securing.MessageKey.{MessageKey}
+use Rattle.transport.specs.declared.securing.MessageKey.the-variants.{Application, Device}
+use Rattle.sending.specs.declared.request.Request.{Request}
+use Rattle.sending.specs.declared.request.Ttl.{Ttl}
+use Rattle.sending.specs.declared.request.Ttl.the-variants.{Unnamed, Named}
+use Rattle.text.specs.Field.{fieldOf}
+use Rattle.text.specs.Number.{numberOf, atMost}
+use Rattle.text.specs.Octets.{octets}
+
+-- a number of at most so much
+abbrev pub upTo : {A : Type 0} → ℕ → List ℕ → A → (ℕ → A) → A
+upTo most text x f = atMost most f x (numberOf text)
+
+-- a TTL: a number, or - where it is left unnamed
+unfoldable pub withTtl : {A : Type 0} → List ℕ → A → (Ttl → A) → A
+withTtl text x f = if same text (octets "-") then f Unnamed else upTo 0xFF text x λ n. f (Named n)
+
+-- the key of an access message: an application key's number, or `dev`
+unfoldable pub withKey : {A : Type 0} → List ℕ → A → (MessageKey → A) → A
+withKey text x f = if same text (octets "dev") then f Device else upTo 0xFF text x λ n. f (Application n)
+
+-- the size of the MIC, 4 or 8: whether it is 8
+unfoldable pub withMic : {A : Type 0} → List ℕ → A → (Bool → A) → A
+withMic text x f = upTo 0xFF text x λ n. if eqb n 4 then f false else if eqb n 8 then f true else x
+
+-- `E DST TTL K`, from field 1 on
+unfoldable pub withRequest : {A : Type 0} → List ℕ → A → (Request → A) → A
+withRequest line x f =
+    upTo 0xFF (fieldOf 1 line) x λ e.
+    upTo 0xFFFF (fieldOf 2 line) x λ dst.
+    withTtl (fieldOf 3 line) x λ ttl.
+    upTo 0xFF (fieldOf 4 line) x λ k.
+    f (record { element = e; dst = dst; ttl = ttl; network = k })

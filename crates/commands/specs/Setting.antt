@@ -1,0 +1,213 @@
+-- What is given before a setup, line by line: more keys, elements or groups than a receiver holds are counted, so that the setup refuses them.
+--   nothing              nothing is given
+--   counted most n       how keys and groups are counted
+--   keyOf text           whether a text is a key, and the key
+--   sequencesOf texts    each element's next SEQ
+--   giving s item line   whether the line's fields fit, and the setup with what it gives
+use mathlib.Core.Bool.{Bool, true, false, _&&_}
+use mathlib.Core.List.{List, [], _∷_, map}
+use Prim.Native.Nat.{ℕ, _+_, min}
+use lib.Dec.{ltb}
+use lib.ListN.{length, drop, replicate, set}
+use Rattle.common.specs.Choice.{if_then_else_}
+use Rattle.common.specs.Lent.{Lent}
+use Rattle.common.specs.Lists.{padded}
+use Rattle.node.specs.Setup.{zeroKey}
+use Rattle.node.specs.declared.addresses.Key.{Key}
+use Rattle.node.specs.declared.setup.BoundKey.{BoundKey}
+use Rattle.node.specs.declared.setup.Setup.{Setup}
+use Rattle.text.specs.declared.number.Number.{Number}
+use Rattle.text.specs.declared.number.Number.the-variants as number
+use Rattle.text.specs.declared.number.Short.{Short}
+use Rattle.text.specs.declared.number.Short.the-variants as short
+use Rattle.text.specs.declared.number.Octet.{Octet}
+use Rattle.text.specs.declared.number.Octet.the-variants as octet
+use Rattle.text.specs.declared.number.Bit.{Bit}
+use Rattle.text.specs.declared.number.Bit.the-variants as bit
+use Rattle.text.specs.Field.{behind, fieldOf, fields}
+use Rattle.text.specs.Hex.{filling}
+use Rattle.text.specs.Number.{numberOf, shortOf, octetOf, bitOf}
+use Rattle.commands.specs.declared.setting.Given.{Given}
+use Rattle.commands.specs.declared.setting.Item.{Item}
+use Rattle.commands.specs.declared.setting.Item.the-variants.{NetKey, AppKey, DevKey, Elements, Group, IvIndex, Relay}
+use Rattle.commands.specs.declared.setting.Sequences.{Sequences}
+
+-- nothing is given: zeros, index 0 with flag 0, and relay off
+abbrev pub nothing : Setup
+nothing =
+    record {
+      networks = 0;
+      keys = replicate 4 zeroKey;
+      applications = 0;
+      secrets = replicate 4 (record { key = replicate 16 0; network = 0 });
+      device = replicate 16 0;
+      first = 0;
+      elements = 0;
+      next = replicate 8 0;
+      listened = 0;
+      groups = replicate 8 0;
+      iv = 0;
+      flag = false;
+      relay = false;
+    }
+
+-- one more than a count, which stops once it is above `most`
+abbrev pub counted : ℕ → ℕ → ℕ
+counted most n = if ltb most n then n else n + 1
+
+-- whether a text is the 16 octets of a key, and the key
+abbrev pub keyOf : List ℕ → Lent Bool
+keyOf text = filling text (replicate 16 0)
+
+-- whether it is a number
+abbrev pub isNumber : Number → Bool
+isNumber (number.Value n) = true
+isNumber number.NotHex = false
+
+-- the number
+abbrev pub valueOf : Number → ℕ
+valueOf (number.Value n) = n
+valueOf number.NotHex = 0
+
+-- whether each text is a number
+abbrev pub areNumbers : List (List ℕ) → Bool
+areNumbers [] = true
+areNumbers (text ∷ texts) = isNumber (numberOf text) && areNumbers texts
+
+-- a text is no number
+abbrev pub noSequences : Sequences
+noSequences = record { fits = false; count = 0; next = replicate 8 0 }
+
+-- each element's next SEQ: how many there are, counted up to nine, and the first eight with zeros behind them
+unfoldable pub sequencesOf : List (List ℕ) → Sequences
+sequencesOf texts =
+    if areNumbers texts then
+    record { fits = true; count = min (length texts) 9; next = padded 8 (map (λ text. valueOf (numberOf text)) texts) } else
+    noSequences
+
+-- the setup with other keys
+abbrev pub withKeys : Setup → ℕ → List Key → ℕ → List BoundKey → List ℕ → Setup
+withKeys s networks keys applications secrets device =
+    record {
+      networks = networks;
+      keys = keys;
+      applications = applications;
+      secrets = secrets;
+      device = device;
+      first = s .first;
+      elements = s .elements;
+      next = s .next;
+      listened = s .listened;
+      groups = s .groups;
+      iv = s .iv;
+      flag = s .flag;
+      relay = s .relay;
+    }
+
+-- with other elements and groups
+abbrev pub withAddresses : Setup → ℕ → ℕ → List ℕ → ℕ → List ℕ → Setup
+withAddresses s first elements next listened groups =
+    record {
+      networks = s .networks;
+      keys = s .keys;
+      applications = s .applications;
+      secrets = s .secrets;
+      device = s .device;
+      first = first;
+      elements = elements;
+      next = next;
+      listened = listened;
+      groups = groups;
+      iv = s .iv;
+      flag = s .flag;
+      relay = s .relay;
+    }
+
+-- with another IV Index, update flag and relay
+abbrev pub withIndex : Setup → ℕ → Bool → Bool → Setup
+withIndex s iv flag relay =
+    record {
+      networks = s .networks;
+      keys = s .keys;
+      applications = s .applications;
+      secrets = s .secrets;
+      device = s .device;
+      first = s .first;
+      elements = s .elements;
+      next = s .next;
+      listened = s .listened;
+      groups = s .groups;
+      iv = iv;
+      flag = flag;
+      relay = relay;
+    }
+
+-- with the next network key: past the last place it is only counted
+abbrev pub withNetworkKey : Setup → List ℕ → Setup
+withNetworkKey s key =
+    withKeys s (counted 4 (s .networks)) (set (s .keys) (s .networks) (record { octets = key })) (s .applications) (s .secrets) (s .device)
+
+-- with the next application key, bound to a network key
+abbrev pub withApplicationKey : Setup → ℕ → List ℕ → Setup
+withApplicationKey s network key =
+    withKeys s (s .networks) (s .keys) (counted 4 (s .applications)) (set (s .secrets) (s .applications) (record { key = key; network = network })) (s .device)
+
+-- with elements from this address on
+abbrev pub withElements : Setup → ℕ → Sequences → Setup
+withElements s first q = withAddresses s first (q .count) (q .next) (s .listened) (s .groups)
+
+-- with one more group address
+abbrev pub withGroup : Setup → ℕ → Setup
+withGroup s address = withAddresses s (s .first) (s .elements) (s .next) (counted 8 (s .listened)) (set (s .groups) (s .listened) address)
+
+-- every field fits
+abbrev pub fit : Setup → Given
+fit s = record { fits = true; setup = s }
+
+-- a field does not fit: the setup is what it was
+abbrev pub unfit : Setup → Given
+unfit s = record { fits = false; setup = s }
+
+-- `netkey KEY`: the next network key, in order
+abbrev pub givenNetworkKey : Setup → Lent Bool → Given
+givenNetworkKey s key = if key .answer then fit (withNetworkKey s (key .buffer)) else unfit s
+
+-- `appkey N KEY`: the next application key, bound to network key N, from 0
+abbrev pub givenApplicationKey : Setup → Octet → Lent Bool → Given
+givenApplicationKey s (octet.Value network) key = if key .answer then fit (withApplicationKey s network (key .buffer)) else unfit s
+givenApplicationKey s octet.Unfit key = unfit s
+
+-- `devkey KEY`: the device key
+abbrev pub givenDeviceKey : Setup → Lent Bool → Given
+givenDeviceKey s key = if key .answer then fit (withKeys s (s .networks) (s .keys) (s .applications) (s .secrets) (key .buffer)) else unfit s
+
+-- `elements FIRST SEQ..`: the first element's address, then each element's next SEQ, none or more
+abbrev pub givenElements : Setup → Short → Sequences → Given
+givenElements s (short.Value first) q = if q .fits then fit (withElements s first q) else unfit s
+givenElements s short.Unfit q = unfit s
+
+-- `group ADDRESS`: one more group address listened to
+abbrev pub givenGroup : Setup → Short → Given
+givenGroup s (short.Value address) = fit (withGroup s address)
+givenGroup s short.Unfit = unfit s
+
+-- `ivindex INDEX FLAG`: IV Index and update flag
+abbrev pub givenIndex : Setup → Number → Bit → Given
+givenIndex s (number.Value iv) (bit.Value flag) = fit (withIndex s iv flag (s .relay))
+givenIndex s (number.Value iv) bit.Unfit = unfit s
+givenIndex s number.NotHex flag = unfit s
+
+-- `relay 0` or `relay 1`: relay off or on
+abbrev pub givenRelay : Setup → Bit → Given
+givenRelay s (bit.Value on) = fit (withIndex s (s .iv) (s .flag) on)
+givenRelay s bit.Unfit = unfit s
+
+-- what a line gives, by its fields: the last is all that follows, so that with a space too many it fits nothing
+unfoldable pub giving : Setup → Item → List ℕ → Given
+giving s NetKey line = givenNetworkKey s (keyOf (behind 1 line))
+giving s AppKey line = givenApplicationKey s (octetOf (numberOf (fieldOf 1 line))) (keyOf (behind 2 line))
+giving s DevKey line = givenDeviceKey s (keyOf (behind 1 line))
+giving s Elements line = givenElements s (shortOf (numberOf (fieldOf 1 line))) (sequencesOf (drop 2 (fields line)))
+giving s Group line = givenGroup s (shortOf (numberOf (behind 1 line)))
+giving s IvIndex line = givenIndex s (numberOf (fieldOf 1 line)) (bitOf (numberOf (behind 2 line)))
+giving s Relay line = givenRelay s (bitOf (numberOf (behind 1 line)))
