@@ -1,35 +1,35 @@
--- Every arrival keeps the scene as it is to be seen, and hands up what is due. A PDU of a speech opens to its header; where the cache has it, its segment had come before; else it is placed, and
--- its place is filled. A PDU that no key opens and a request to acknowledge leave all that the scene is seen by. Assumes nothing.
---   Next           what an arrival is to do
---   arrival-next   it does
-use mathlib.Core.Bool.{Bool, true, false, _&&_, not, false≢true, true≢false}
+-- Every arrival keeps the scene as it is to be seen, and hands up what is due. A PDU of a speech opens to its header; where the cache has it, its segment had come
+-- before; else it is placed, and its place is filled. A PDU that no key opens and a request to acknowledge leave all that the scene is seen by. Assumes nothing.
+--   dueOf        what is due at an event
+--   StoresAt     a segment is stored
+--   CountsAt     how many keys are tried for it
+--   Next         what an event is to do
+--   event-next   each does
+use mathlib.Core.Bool.{Bool, true, false, false≢true, true≢false}
 use mathlib.Core.List.{List, [], _∷_}
-use mathlib.Core.Logic.{_⊎_, inl, inr, ⊎-elim}
+use mathlib.Core.Logic.{⊎-elim}
 use mathlib.Core.Path.{_≡_, refl, sym, ap, _∙_, subst}
-use Prim.Native.Nat.{ℕ, _+_, _≤_, _<_, min}
+use Prim.Native.Nat.{ℕ, _≤_, _<_}
 use native.Mathlib.Omega.{arith}
-use borrow.Author.Tests.{eq-eqb, ne-eqb, eqb-true, eqb-false, le-ltb}
-use lib.Dec.{eqb, leb, ltb}
+use borrow.Author.Tests.{eq-eqb, eqb-true, eqb-false}
+use lib.Dec.{eqb}
 use lib.ListN.{length}
 use Rattle.common.specs.Bits.{hasBit, withBit, allBits}
 use Rattle.common.specs.Choice.{if_then_else_}
-use Rattle.common.specs.Lent.{Lent, lent}
+use Rattle.common.specs.Lent.{Lent}
 use Rattle.common.proofs.BitLaws.{has-with-own, has-with-other, with-of-set}
-use Rattle.common.proofs.Tests.{by-test, by-choice, and-second}
+use Rattle.common.proofs.Tests.{by-test, and-second}
 use Rattle.network.specs.declared.header.Header.{Header}
-use Rattle.network.specs.declared.opening.Answer as network-answer
 use Rattle.network.specs.declared.opening.Answer.the-variants as network
-use Rattle.network.specs.declared.sealing.Answer as sealing-answer
-use Rattle.network.specs.declared.sealing.Answer.the-variants.{Sealed, OutsideRules, ShortBuffer}
 use Rattle.network.specs.Address.{kindOf, isUnicast, destinationKind, addressesAllowed}
 use Rattle.network.specs.Candidates.{keyAt}
 use Rattle.network.specs.Opening.{opening}
-use Rattle.network.specs.Sealing.{sealable, sealing}
+use Rattle.network.specs.Sealing.{sealable}
 use Rattle.network.proofs.Sealed.{within}
 use Rattle.network.proofs.SealOpen.{open-seal}
 use Rattle.transport.specs.Form.{formOf}
 use Rattle.memory.specs.Cache.{seen, remembered}
-use Rattle.memory.proofs.CacheLaws.{length-remembered}
+use Rattle.memory.proofs.CacheLaws.{length-remembered, seen-or-new}
 use Rattle.node.specs.declared.addresses.Node.{Node}
 use Rattle.node.specs.Addresses.{forNode}
 use Rattle.node.specs.Made.{WellMade}
@@ -37,33 +37,27 @@ use Rattle.receiver.specs.declared.answer.Answer.{Answer}
 use Rattle.receiver.specs.declared.answer.Refusal.the-variants as refusal
 use Rattle.receiver.specs.declared.answer.Taken.{Taken}
 use Rattle.receiver.specs.declared.state.Receiver.{Receiver}
-use Rattle.receiver.specs.Good.{Good}
 use Rattle.receiver.specs.Hearing as hear
-use Rattle.receiver.specs.Hearing.{outcome, refusedHeard, takenAs, taken, passed, uncached, openedAs, hearing}
+use Rattle.receiver.specs.Hearing.{outcome, refusedHeard, takenAs, hearing}
 use Rattle.receiver.specs.Segmented as segments
 use Rattle.receiver.specs.State.{withCache}
 use Rattle.receiver.proofs.Good.{good-hear}
 use Rattle.receiver.proofs.GoodState.{good-cache}
-use Rattle.receiver.proofs.Laws.{fixed-heard, heard-again, Leaves, heard-new}
-use Rattle.sending.specs.declared.answer.Spoken.{Spoken}
-use Rattle.sending.specs.declared.transmission.Transmission.{Transmission}
-use Rattle.sending.specs.declared.transmission.Transmission.the-variants.{Sent, NoSeqLeft, Unsealed}
-use Rattle.sending.specs.declared.transmission.Transmitted.{Transmitted}
-use Rattle.sending.specs.Answer.{spokenAs, spoken}
-use Rattle.sending.specs.Acknowledge.{acknowledging}
-use Rattle.sending.specs.Transmission.{nextSeq, withNext, stamped, noTransmission, sentAs, transmitted}
+use Rattle.receiver.proofs.Laws.Fixed.{fixed-heard}
+use Rattle.receiver.proofs.Laws.Heard.{heard-unopened, heard-again, Leaves, heard-new}
 use Rattle.demands.specs.Call.{Call, Hear, Acknowledge, Outcome, Heard, step, left}
 use Rattle.demands.specs.Interleaved as scene
-use Rattle.demands.specs.Interleaved.{Event, Segment, Foreign, Ask, Arrival, speechAt, callAs, callOf, comeWith, isLastMissing, Spent, Comes, Arrives, storedAs, isStored, tried, handedAs, handed}
+use Rattle.demands.specs.Interleaved.{Event, Segment, Foreign, Ask, speechAt, callAs, comeWith, isLastMissing, Spent, Comes, storedAs, isStored, tried, handedAs, handed}
 use Rattle.demands.specs.Refusal.{noKeyOpens}
-use Rattle.demands.specs.Speech.{Speech, lastOf, headerOf, segmentPdu, Speakable, Handed, handUp, Tried, networkPlace, applicationPlace}
+use Rattle.demands.specs.Speech.{Speech, lastOf, headerOf, segmentPdu, Speakable, Handed, handUp, networkPlace, applicationPlace}
 use Rattle.demands.proofs.Invariant.{good-step}
-use Rattle.demands.proofs.Refusal.{unopened-leaves}
-use Rattle.demands.proofs.SceneLaws.{seen-or-new, speakerOf, Scenery, unicast-some, entry-room, session-room}
-use Rattle.demands.proofs.SpeechLaws.{last-low, formed, segment-sealable, segment-taken, segment-placed}
+use Rattle.demands.proofs.KeptLaws.{kept-acknowledging, kept-scene, refilled}
+use Rattle.demands.proofs.Refusal.{unopened, unopened-leaves}
+use Rattle.demands.proofs.SceneLaws.{speakerOf, Scenery, unicast-some, entry-room, session-room}
+use Rattle.demands.proofs.SpeechCut.{last-low}
+use Rattle.demands.proofs.SpeechSegment.{formed, segment-sealable, segment-taken, segment-placed}
 use Rattle.demands.proofs.StageLaws.{segmentAt, Stage}
-use Rattle.demands.proofs.StepLaws.{Step, placed-steps, SessionsOwned, EntriesOwned}
-use Rattle.demands.proofs.Walks.{saying, walk-acknowledge}
+use Rattle.demands.proofs.StepLaws.{Step, placed-steps}
 
 -- what was set stays set
 has-with : (x i j : ℕ) → i < 32 → hasBit x j ≡ true → hasBit (withBit x i) j ≡ true
@@ -78,90 +72,15 @@ unfolding addressesAllowed kindOf
 allowed-some ctl src dst a e = false≢true (rw e at (and-second (isUnicast src) (destinationKind ctl (kindOf dst)) a))
 
 -- a PDU that no key opens hands up nothing
-refused-none :
-    (r : Receiver) (a : network-answer.Answer) (h : Header) (trials : ℕ) (fwd msg : List ℕ) → noKeyOpens a ≡ true
-    → (let o = openedAs a r h trials fwd msg in handedAs (o .heard .answer) (o .message) ≡ [])
-unfolding openedAs
-refused-none r network.WrongLength h trials fwd msg t = refl
-refused-none r network.NoCandidate h trials fwd msg t = refl
-refused-none r network.NotAuthentic h trials fwd msg t = refl
-refused-none r network.WrongAddress h trials fwd msg t = absurd (false≢true t)
-refused-none r network.Opened h trials fwd msg t = absurd (false≢true t)
-
 foreign-none : (r : Receiver) (pdu fwd msg : List ℕ) → noKeyOpens (opening (r .node .keys) (r .node .networks) (r .node .iv) pdu .answer) ≡ true
     → handedAs (hearing r pdu fwd msg .heard .answer) (hearing r pdu fwd msg .message) ≡ []
-unfolding hearing
 foreign-none r pdu fwd msg t =
-    let o = opening (r .node .keys) (r .node .networks) (r .node .iv) pdu in
-    let P : hear.Outcome → Type 0 = λ o. handedAs (o .heard .answer) (o .message) ≡ [] in
-    by-choice P (ltb (length fwd) 29) (λ _. refl) (λ _. by-choice P (ltb (length msg) 384) (λ _. refl) (λ _. refused-none r (o .answer) (o .header) (o .trials) fwd msg t))
-
--- ---- the parts of the receiver that a scene is seen by
-pub record Kept (r q : Receiver) : Type 0 where
-  pub node-stays : q .node ≡ r .node
-  pub cache-stays : q .cache ≡ r .cache
-  pub replay-stays : q .replay ≡ r .replay
-  pub sessions-stay : q .sessions ≡ r .sessions
-
-kept-itself : (r : Receiver) → Kept r r
-kept-itself r = record { node-stays = refl; cache-stays = refl; replay-stays = refl; sessions-stay = refl }
-
-kept-sent : (r : Receiver) (element : ℕ) (a : sealing-answer.Answer) → Kept r (sentAs a r element .receiver)
-unfolding sentAs withNext
-kept-sent r element (Sealed n) = record { node-stays = refl; cache-stays = refl; replay-stays = refl; sessions-stay = refl }
-kept-sent r element OutsideRules = kept-itself r
-kept-sent r element ShortBuffer = kept-itself r
-
-kept-transmitted : (r : Receiver) (element : ℕ) (h : Header) (buf : List ℕ) → Kept r (transmitted r element h buf .answer .receiver)
-unfolding transmitted
-kept-transmitted r element h buf =
-    let P : Lent Transmitted → Type 0 = λ t. Kept r (t .answer .receiver) in
-    by-choice P (ltb 0xFFFFFF (nextSeq r element)) (λ _. kept-itself r)
-    (λ _. by-choice P (ltb (h .key) 4) (λ _. kept-sent r element _) (λ _. kept-itself r))
-
-kept-spoken : (r q : Receiver) (a : Transmission) → Kept r q → Kept r (spokenAs a q .receiver)
-kept-spoken r q (Sent len) k = k
-kept-spoken r q NoSeqLeft k = k
-kept-spoken r q Unsealed k = k
-
-kept-saying : (r : Receiver) (element : ℕ) (h : Header) (buf : List ℕ) → Kept r (saying r element h buf .answer .receiver)
-unfolding spoken
-kept-saying r element h buf =
-    let t = transmitted r element h buf in
-    kept-spoken r (t .answer .receiver) (t .answer .answer) (kept-transmitted r element h buf)
-
-pub kept-acknowledging : (r : Receiver) (net src : ℕ) (buf : List ℕ) → Kept r (acknowledging r net src buf .answer .receiver)
-kept-acknowledging r net src buf =
-    walk-acknowledge r buf (λ (s : Lent Spoken). Kept r (s .answer .receiver)) (λ _. kept-itself r) net src
-    (λ _. kept-saying r _ _ buf)
+    let y = heard-unopened r fwd msg pdu (unopened (opening (r .node .keys) (r .node .networks) (r .node .iv) pdu .answer) t) in
+    ap (λ (o : hear.Outcome). handedAs (o .heard .answer) (o .message)) (y .1 .leaves)
 
 module _ (node : Node) (speeches : List Speech) (spent : Spent) where
   abbrev Seen : Receiver → (ℕ → ℕ) → Type 0
   Seen r filled = Scenery node speeches spent r filled
-
-  -- so the scene stays
-  kept-scene : (r q : Receiver) (filled : ℕ → ℕ) → Kept r q → Good q → Seen r filled → Seen q filled
-  kept-scene r q filled k g s =
-      record {
-        good = g;
-        same = k .node-stays ∙ s .same;
-        stages = λ j h. rw (k .replay-stays, k .sessions-stay) (s .stages j h);
-        sessions-owned = rw (k .sessions-stay) (s .sessions-owned);
-        entries-owned = rw (k .replay-stays) (s .entries-owned);
-        seen-come = λ j seq h e. s .seen-come j seq h (rw (sym (k .cache-stays)) e);
-      }
-
-  -- and with it the places filled
-  refilled : (r : Receiver) (filled more : ℕ → ℕ) → ((k : ℕ) → more k ≡ filled k) → Seen r filled → Seen r more
-  refilled r filled more e s =
-      record {
-        good = s .good;
-        same = s .same;
-        stages = λ k h. rw (e k) (s .stages k h);
-        sessions-owned = s .sessions-owned;
-        entries-owned = s .entries-owned;
-        seen-come = λ k seq h t. rw (e k) (s .seen-come k seq h t);
-      }
 
   -- what is due at an event
   abbrev pub dueOf : (ℕ → ℕ) → Event → List Handed
@@ -253,7 +172,7 @@ module _ (node : Node) (speeches : List Speech) (spent : Spent) where
             hands = ap handed o ∙ rw there refl;
             stores = λ f _. absurd (true≢false (sym there ∙ f));
             counts = ap tried o ∙ rw there refl;
-            scenery = rw (ap left o) (refilled r filled _ more sc);
+            scenery = rw (ap left o) (refilled node speeches spent r filled _ more sc);
           }
 
       -- it is new: it is placed
@@ -355,5 +274,5 @@ module _ (node : Node) (speeches : List Speech) (spent : Spent) where
           hands = refl;
           stores = tt {0};
           counts = tt {0};
-          scenery = kept-scene r _ filled (kept-acknowledging r net src fwd) (good-step r (Acknowledge net src fwd) (sc .good)) sc;
+          scenery = kept-scene node speeches spent r _ filled (kept-acknowledging r net src fwd) (good-step r (Acknowledge net src fwd) (sc .good)) sc;
         }

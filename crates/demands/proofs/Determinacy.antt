@@ -1,5 +1,9 @@
--- Both outcomes are what is defined, so they are equal by way of it. Assumes nothing.
-use mathlib.Core.Path.{_≡_, sym, _∙_}
+-- A contract is one equation: what a call gave is what a definition gives of what the call got. Take two outcomes that
+-- both satisfy it. Each is equal to the same defined value, the first by its own equation and the second by its own
+-- turned round; so they are equal to each other by way of it. Nothing of the operation is used but that its outcome,
+-- answer, new state and lent buffers together, stands alone on one side. So one law serves for every operation, and a
+-- line for each says only which definition stands on the other side. Assumes nothing.
+use mathlib.Core.Path.{sym, _∙_}
 use Rattle.demands.specs.Determinacy.{Determined, Determinate}
 
 -- one law for all
@@ -123,4 +127,17 @@ determinate =
       handed-up = λ _. determined _;
       put-said = λ _ _ _ _ _. determined _;
       put-answer = λ _ _ _. determined _;
+      nothing = determined _;
+      desk-start = determined _;
+      desk-after-setup = λ _ _. determined _;
+      desk-note = λ _ _ _. determined _;
+      read-line = λ _ _ _. determined _;
+      put-heard = λ _ _ _ _ _. determined _;
+      put-forward = λ _ _ _. determined _;
+      put-spoken = λ _ _ _ _. determined _;
+      put-given-up = λ _ _ _. determined _;
+      put-set-up = λ _ _ _. determined _;
+      put-noted = λ _ _ _. determined _;
+      put-unread = λ _ _. determined _;
+      put-receiver = λ _ _ _. determined _;
     }

@@ -1,8 +1,10 @@
--- `Forwards`. What passes refusals 1 to 5 is cached, forwarded as `relayed` says, and taken. Where it is to be forwarded, the key that opened it seals it again: the receiver was set
--- up, so its keys are derived by k2, which gives octets whatever it is given; the octets that were heard and those of the cipher make a header within all limits of sealing, and
--- its length is the one that was heard (`Resealed`). So `relayed` never meets a refusal, and its octets are as many as were heard. Assumes nothing.
+-- `Forwards`. What passes refusals 1 to 5 is cached, perhaps forwarded, and taken. Where it is to be forwarded, the key
+-- that opened it seals it again: the receiver was set up, so its keys are derived by k2, which gives octets whatever it
+-- is given; the octets that were heard and those of the cipher make a header within all limits of sealing, and its
+-- length is the one that was heard (`Resealed`). So forwarding never meets a refusal, and its octets are as many as
+-- were heard. Assumes nothing.
 use mathlib.Core.List.{[]}
-use mathlib.Core.Path.{refl, sym, ap, _∙_, subst}
+use mathlib.Core.Path.{sym, ap, _∙_, subst}
 use Prim.Native.Nat.{ℕ, _<_, min}
 use native.Mathlib.Omega.{arith}
 use lib.ListN.{getD}
@@ -17,8 +19,7 @@ use Rattle.network.proofs.Resealed.{resealed}
 use Rattle.node.specs.declared.addresses.Node.{Node}
 use Rattle.node.specs.Addresses.{isLocal}
 use Rattle.node.specs.Made.{WellMade}
-use Rattle.receiver.specs.Hearing.{relayed}
-use Rattle.receiver.proofs.Laws.{heard-forwarded}
+use Rattle.receiver.proofs.Laws.Heard.{heard-forwarded, heard-kept}
 use Rattle.demands.specs.Forwarding.{Forwards}
 
 -- the keys of a node that setup made are of octets
@@ -29,11 +30,11 @@ octet-keys node w i h =
     (record { encryption-octets = octets-encryption given; privacy-octets = octets-privacy given })
 
 pub forwards-exactly : Forwards
-unfolding relayed
 forwards-exactly r pdu fwd msg trials h g p x =
     let node = r .node in
     let again = resealed (node .keys) (node .networks) (node .iv) pdu trials h fwd (octet-keys node (g .node-made)) p (x .wide) (x .opens) in
-    heard-forwarded r pdu fwd msg (x .wide) (x .big) h trials (x .opens) (x .new)
-    ∙ by-test (forwards (node .relay) (isLocal node (h .dst)) h)
-    (λ t. rw t (ap (λ (f : Lent Answer). lent (sealedLength (f .answer)) (f .buffer)) again))
-    (λ t. rw t refl)
+    by-test (forwards (node .relay) (isLocal node (h .dst)) h)
+    (λ t. rw t
+    (heard-forwarded r pdu fwd msg (x .wide) (x .big) h trials (x .opens) (x .new) t
+    ∙ ap (λ (f : Lent Answer). lent (sealedLength (f .answer)) (f .buffer)) again))
+    (λ t. rw t (heard-kept r pdu fwd msg (x .wide) (x .big) h trials (x .opens) (x .new) t))

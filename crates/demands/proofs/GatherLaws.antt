@@ -4,27 +4,29 @@
 --   holds-begun  one with none
 --   holds-more   one with a segment more
 --   holds-all    one with all of them
-use mathlib.Core.Bool.{Bool, true, false, false≢true}
+use mathlib.Core.Bool.{true, false≢true}
 use mathlib.Core.List.{List}
-use mathlib.Core.Path.{_≡_, refl, sym, ap, _∙_, subst}
-use Prim.Native.Nat.{ℕ, _+_, _-_, _*_, _/_, _%_, _≤_, _<_, min}
+use mathlib.Core.Path.{_≡_, sym, ap, _∙_, subst}
+use Prim.Native.Nat.{ℕ, _+_, _-_, _*_, _/_, _≤_, _<_, min}
 use native.Mathlib.Nat.{mul-comm, suc-mul, mul-le-mul-right}
 use native.Mathlib.Omega.{arith}
-use borrow.Author.Tests.{eqb-true, eqb-false, eq-eqb, ne-eqb, ltb-true, ltb-false}
+use borrow.Author.Tests.{eqb-true, eqb-false, ltb-true, ltb-false}
 use lib.Dec.{eqb, ltb}
 use lib.ListN.{length, getD, take, drop, replicate, length-take, length-drop, length-replicate}
 use lib.Seq.{getD-take, getD-drop, ext-getD}
 use Rattle.common.specs.Bits.{hasBit, withBit, allBits}
-use Rattle.common.specs.Choice.{if_then_else_}
-use Rattle.common.specs.Chunks.{chunk, chunkCount}
-use Rattle.common.proofs.BitLaws.{has-none, has-all, has-with-own, has-with-other}
+use Rattle.common.specs.Chunks.{chunk}
+use Rattle.common.proofs.BitLaws.{has-none, has-all, has-with-other}
 use Rattle.common.proofs.Tests.{by-test}
 use Rattle.network.specs.declared.header.Header.{Header}
 use Rattle.memory.specs.Session.{octetPlace, segmentOctets, lengthWith, stored}
-use Rattle.memory.proofs.Stored.{length-stored, stored-read, stored-before, stored-behind}
+use Rattle.memory.proofs.SessionLaws.{length-last, length-kept}
+use Rattle.memory.proofs.Stored.{place-is, stored-is, length-stored, stored-read, stored-before, stored-behind}
 use Rattle.node.specs.declared.addresses.Node.{Node}
 use Rattle.demands.specs.Speech.{Speech, isControl, octetsOf, sizeOf, lastOf, headerOf, Speakable}
-use Rattle.demands.proofs.SpeechLaws.{Cut, cut, size-bounds, last-count, last-low, part-bounds, transport-long, segment-octets, sessionOf}
+use Rattle.demands.proofs.SpeechCut.{cut, last-count, last-low, part-bounds}
+use Rattle.demands.proofs.SpeechSegment.{transport-long, segment-octets}
+use Rattle.demands.proofs.SpeechSession.{sessionOf}
 
 -- a place ends before a later one begins
 ends-before : (size j i : ℕ) → j < i → size * j + size ≤ size * i
@@ -82,16 +84,11 @@ module _ (node : Node) (s : Speech) (w : Speakable node s) where
     abbrev pub newLen : ℕ
     newLen = lengthWith (sessionOf node s bits len bytes) h i
 
-    pub stored-is : stored (sessionOf node s bits len bytes) h i ≡ sessionOf node s (withBit bits i) newLen newBytes
-    unfolding stored
-    stored-is = refl
+    pub segment-stored : stored (sessionOf node s bits len bytes) h i ≡ sessionOf node s (withBit bits i) newLen newBytes
+    segment-stored = stored-is (sessionOf node s bits len bytes) h i
 
-    place-is : octetPlace (isControl (s .words)) i ≡ size * i
-    unfolding octetPlace
-    place-is =
-        let l = last-low node s w in
-        let e : i % 32 ≡ i = omega arith in
-        ap (λ (n : ℕ). n * size) e ∙ mul-comm i size
+    placed-at : octetPlace (isControl (s .words)) i ≡ size * i
+    placed-at = let l = last-low node s w in place-is (isControl (s .words)) i (omega arith)
 
     read-here : segmentOctets h ≡ part
     read-here = segment-octets node s w i there seq ttl
@@ -104,7 +101,7 @@ module _ (node : Node) (s : Speech) (w : Speakable node s) where
     laid =
         let e = stored-read (sessionOf node s bits len bytes) h i (k .long) sixteen in
         subst (λ (l : List ℕ). take (length l) (drop (size * i) newBytes) ≡ l) read-here
-        (subst (λ (a : ℕ). take (length (segmentOctets h)) (drop a newBytes) ≡ segmentOctets h) place-is e)
+        (subst (λ (a : ℕ). take (length (segmentOctets h)) (drop a newBytes) ≡ segmentOctets h) placed-at e)
 
     own-part : (p : ℕ) → size * i ≤ p → p < size * i + size → p < length whole → getD newBytes p 0 ≡ getD whole p 0
     own-part p lo hi end =
@@ -120,24 +117,19 @@ module _ (node : Node) (s : Speech) (w : Speakable node s) where
     other-part j p n lo hi =
         by-test (ltb j i)
         (λ t. let b = ends-before size j i (ltb-true j i t) in
-        stored-before (sessionOf node s bits len bytes) h i (k .long) sixteen p (rw place-is (omega arith)))
+        stored-before (sessionOf node s bits len bytes) h i (k .long) sixteen p (rw placed-at (omega arith)))
         (λ t. let g = ltb-false j i t in
         let b = ends-before size i j (omega arith) in
         let l = part-length i in
-        stored-behind (sessionOf node s bits len bytes) h i (k .long) sixteen p (rw (place-is, read-here) (omega arith)))
+        stored-behind (sessionOf node s bits len bytes) h i (k .long) sixteen p (rw (placed-at, read-here) (omega arith)))
 
     told-last : i ≡ lastOf node s → newLen ≡ length whole
-    unfolding lengthWith
     told-last e =
         let l = part-length i in
         let z = ends-last in
         let b = part-bounds node s w i there .0 in
         let g : size * i ≡ size * lastOf node s = ap (λ (n : ℕ). size * n) e in
-        rw (eq-eqb i (lastOf node s) e, place-is, read-here) (omega arith)
-
-    told-before : (i ≡ lastOf node s → ⊥) → newLen ≡ len
-    unfolding lengthWith
-    told-before n = rw (ne-eqb i (lastOf node s) n) refl
+        length-last (sessionOf node s bits len bytes) h i e ∙ rw (placed-at, read-here) (omega arith)
 
     pub holds-more : Holds node s (withBit bits i) newLen newBytes
     holds-more =
@@ -152,7 +144,7 @@ module _ (node : Node) (s : Speech) (w : Speakable node s) where
               by-test (eqb i (lastOf node s))
               (λ t. told-last (eqb-true i (lastOf node s) t))
               (λ t. let n = eqb-false i (lastOf node s) t in
-              told-before n ∙ k .told (sym (has-with-other bits i (lastOf node s) (λ e. n (sym e))) ∙ b));
+              sym (length-kept (sessionOf node s bits len bytes) h i n) ∙ k .told (sym (has-with-other bits i (lastOf node s) (λ e. n (sym e))) ∙ b));
         }
 
   -- ---- all of them

@@ -1,28 +1,25 @@
--- What sending accepts goes out in full. A request that is allowed names an element, whose address is unicast since setup made it; a network key that is
--- held, whose NID has 7 bits since it was derived; a TTL of 7 bits; a DST that may be sent to; and a message whose transport PDUs have their length.
--- That is all that sealing asks for, so it refuses none, and with an SEQ left and a buffer the call makes its PDU. A message in segments is then kept:
--- each later call finds it, none of its segments heard yet, and its number well within 8,191 of the first. Assumes nothing.
-use mathlib.Core.Bool.{Bool, true, false, _&&_, _||_, not, false≢true}
-use mathlib.Core.List.{List, [], _∷_, map}
+-- What sending accepts goes out in full. A request that is allowed names an element, whose address is unicast since
+-- setup made it; a network key that is held, whose NID has 7 bits since it was derived; a TTL of 7 bits; a DST that may
+-- be sent to; and a message whose transport PDUs have their length. That is all that sealing asks for, so it refuses
+-- none, and with an SEQ left and a buffer the call makes its PDU. A message in segments is then kept: each later call
+-- finds it, none of its segments heard yet, and its number well within 8,191 of the first. Assumes nothing.
+use mathlib.Core.Bool.{Bool, true, false, not, false≢true}
+use mathlib.Core.List.{List, _∷_}
 use mathlib.Core.Path.{_≡_, refl, sym, ap, _∙_, subst}
-use Prim.Native.Nat.{ℕ, zero, suc, _+_, _-_, _%_, _≤_, _<_, min}
+use Prim.Native.Nat.{ℕ, zero, suc, _+_, _≤_, _<_, min}
 use native.Mathlib.Omega.{arith}
-use borrow.Author.Tests.{ne-eqb, le-leb, leb-true, lt-ltb, le-ltb}
-use lib.Dec.{eqb, leb, ltb}
+use borrow.Author.Tests.{le-leb, leb-true}
+use lib.Dec.{eqb, leb}
 use lib.ListN.{length, length-set}
 use lib.Seq.{getD-set-same}
-use Rattle.common.specs.Bits.{hasBit}
-use Rattle.common.specs.Choice.{if_then_else_}
-use Rattle.common.specs.Lent.{Lent, lent}
+use Rattle.common.specs.Lent.{Lent}
 use Rattle.common.specs.Lists.{tabFrom}
 use Rattle.common.proofs.BitLaws.{has-none}
-use Rattle.common.proofs.Tests.{by-test, and-first, and-second}
+use Rattle.common.proofs.Tests.{by-test, and-second}
 use Rattle.network.specs.declared.header.Header.{Header}
-use Rattle.network.specs.declared.sealing.Answer as sealing-answer
-use Rattle.network.specs.Address.{kindOf, isUnicast, addressesAllowed}
+use Rattle.network.specs.Address.{isUnicast, addressesAllowed}
 use Rattle.network.specs.Candidates.{keyAt}
-use Rattle.network.specs.Pdu.{pduOf}
-use Rattle.network.specs.Sealing.{mostTransport, sealable, sealing}
+use Rattle.network.specs.Sealing.{mostTransport, sealable}
 use Rattle.network.proofs.AddressLaws.{unicast-range}
 use Rattle.transport.specs.declared.securing.MessageKey.{MessageKey}
 use Rattle.transport.specs.Segment.{accessOctet, controlOctet}
@@ -36,45 +33,40 @@ use Rattle.node.specs.declared.setup.Setup.{Setup}
 use Rattle.node.specs.Made.{WellMade}
 use Rattle.receiver.specs.declared.state.Receiver.{Receiver}
 use Rattle.receiver.proofs.Good.{good-fresh}
-use Rattle.sending.specs.declared.answer.Answer.{Answer}
 use Rattle.sending.specs.declared.answer.Spoken.{Spoken}
 use Rattle.sending.specs.declared.request.Request.{Request}
 use Rattle.sending.specs.declared.request.Ttl.{Ttl}
 use Rattle.sending.specs.declared.request.Ttl.the-variants.{Unnamed, Named}
-use Rattle.sending.specs.declared.transmission.Transmission.{Transmission}
-use Rattle.sending.specs.declared.transmission.Transmission.the-variants.{Sent}
 use Rattle.sending.specs.Access as access
-use Rattle.sending.specs.Answer.{spokenAs, spoken}
 use Rattle.sending.specs.Control as control
-use Rattle.sending.specs.Request.{ttlOf, ttlAllowed, sendableKind, requestAllowed}
-use Rattle.sending.specs.Segment.{segmentHeader, startedAs, starting, elementOf, segmentAllowed, sendingSegment}
-use Rattle.sending.specs.Transmission.{addressOf, nextSeq, withNext, stamped, sentAs, transmitted}
-use Rattle.demands.specs.Call.{Call, SendSegment, Outcome, Said, step, left, run}
+use Rattle.sending.specs.Request.{ttlOf, ttlAllowed}
+use Rattle.sending.specs.Segment.{segmentHeader, starting, elementOf, segmentAllowed, sendingSegment}
+use Rattle.sending.specs.Transmission.{addressOf, nextSeq, stamped}
+use Rattle.sending.proofs.Laws.Allowed.{segment-allowed}
+use Rattle.sending.proofs.Laws.Calls.{access-whole, access-begun, control-whole, control-begun, segment-sent}
+use Rattle.sending.proofs.Laws.Transmitted.{saying, Sends, saying-is, starting-is}
+use Rattle.demands.specs.Call.{SendSegment, Outcome, Said, step, left, run}
 use Rattle.demands.specs.Interleaved.{nodeOf, Each}
 use Rattle.demands.specs.NeverTwice.{madeBy, made}
-use Rattle.demands.specs.ReadBack.{sayCall, restOf, outcomes, saidBy, Shared, Between, accepted, GoesOut}
-use Rattle.demands.specs.Speech.{Words, Access, Control, Speech, keyOf, envelopeOf, akfOf, aidOf, octetsOf, lastOf, headerOf, Speakable}
-use Rattle.demands.proofs.SaidLaws.{access-stamped, control-stamped, Kept, kept, header-said, request-of, words-of, near, held, element-there, parameters-most}
+use Rattle.demands.specs.ReadBack.{restOf, saidBy, Between, accepted, GoesOut}
+use Rattle.demands.specs.Speech.{Words, Access, Control, Speech, keyOf, envelopeOf, akfOf, aidOf, octetsOf, lastOf, Speakable}
+use Rattle.demands.proofs.SaidLaws.{access-stamped, control-stamped, Kept, kept, header-said, request-of, words-of, near, held}
 use Rattle.demands.proofs.SceneLaws.{unicast-some}
 use Rattle.demands.proofs.SegmentsSent.{element-back, Keeps, said-at}
-use Rattle.demands.proofs.SentLaws.{allowedAs, wholeAs, headerAs, keptAs, sendingAs, SaidBy, said-by, StartedBy, started-by}
-use Rattle.demands.proofs.SpeechLaws.{nid-low, for-allowed, last-low, segment-sealable, cut-is}
-use Rattle.demands.proofs.Walks.{saying}
+use Rattle.demands.proofs.SentLaws.{allowedAs, wholeAs, headerAs, keptAs, sendingAs, said-by, StartedBy, started-by}
+use Rattle.demands.proofs.SpeechAddress.{for-allowed}
+use Rattle.demands.proofs.SpeechCut.{last-low, cut-is}
+use Rattle.demands.proofs.SpeechSegment.{nid-low, segment-sealable}
 use Rattle.demands.proofs.WholeSent.{wholeHeader}
 
 -- ---- a transmission that sealing does not refuse is sent
 module _ (r : Receiver) (element : ℕ) (h : Header) (buf : List ℕ) (left-seq : nextSeq r element ≤ 0xFFFFFF) (key : h .key < 4) (wide : 29 ≤ length buf)
     (can : sealable (keyAt (r .node .keys) (h .key)) (stamped r element h) ≡ true) where
-  sent : transmitted r element h buf .answer .answer ≡ Sent (length (pduOf (keyAt (r .node .keys) (h .key)) (stamped r element h)))
-  unfolding transmitted sealing sentAs
-  sent = rw (le-ltb 0xFFFFFF (nextSeq r element) left-seq, lt-ltb (h .key) 4 key, le-ltb (length buf) 29 wide, can) refl
+  sends : Sends r element h buf
+  sends = record { seq-left = left-seq; key-there = key; wide = wide; can = can }
 
   saying-made : madeBy (saying r element h buf .answer .answer) ≡ true
-  unfolding spoken
-  saying-made = rw sent refl
-
-  started-made : (o : Outgoing) → madeBy (startedAs (transmitted r element h buf .answer .answer) (transmitted r element h buf .answer .receiver) o .answer) ≡ true
-  started-made o = rw sent refl
+  saying-made = ap (λ (s : Lent Spoken). madeBy (s .answer .answer)) (saying-is r element h buf sends)
 
 -- a message that is kept is not heard yet
 kept-unheard : (sender : Receiver) (q : Request) (words : Words) → keptAs sender q words .heard ≡ 0
@@ -105,13 +97,10 @@ module _ (sender : Receiver) (setup : Setup) (q : Request) (words : Words) (buf 
   well = good-fresh setup (b .ready) .node-made
 
   there : q .element < min (sender .node .elements) 8
-  there = element-there sender node (b .shared) q words a
+  there = request-of sender node (b .shared) q words a .element-there
 
   ttl-fits : ttl ≤ 127
-  unfolding requestAllowed
-  ttl-fits =
-      let c = request-of sender node (b .shared) q words a in
-      ttl-low (q .ttl) (and-second (sendableKind (kindOf (q .dst))) _ (and-second (ltb (q .network) (min (sender .node .networks) 4)) _ (and-second (ltb (q .element) (min (sender .node .elements) 8)) _ c)))
+  ttl-fits = ttl-low (q .ttl) (request-of sender node (b .shared) q words a .ttl-allowed)
 
   -- the element's address is unicast
   from-unicast : isUnicast (s .src) ≡ true
@@ -199,15 +188,14 @@ module _ (sender : Receiver) (setup : Setup) (q : Request) (words : Words) (buf 
     heard-none = kept-unheard sender q words
 
     start-made : madeBy (starting sender (q .element) o buf .answer .answer) ≡ true
-    unfolding starting
     start-made =
-        started-made sender (q .element) (segmentHeader o 0) buf (omega arith) (segment-key 0) wide (segment-can sender 0 refl (omega arith) (omega arith)) o
+        let c = sends sender (q .element) (segmentHeader o 0) buf (omega arith) (segment-key 0) wide (segment-can sender 0 refl (omega arith) (omega arith)) in
+        ap (λ (s : Lent Spoken). madeBy (s .answer .answer)) (starting-is sender (q .element) o buf c)
 
     abbrev At : Receiver → ℕ → Type 0
     At r n = Keeps sender own node (b .shared) q there s refl o keeping first r n
 
     segment-fine : (r : Receiver) (n : ℕ) → At r n → n ≤ lastOf node s → segmentAllowed r (q .element) n ≡ true
-    unfolding segmentAllowed
     segment-fine r n k h =
         let low = last-low node s speaks in
         let z : r .out .src ≡ 0 → ⊥ =
@@ -216,17 +204,9 @@ module _ (sender : Receiver) (setup : Setup) (q : Request) (words : Words) (buf 
         let heard : r .out .heard ≡ 0 = ap (λ (x : Outgoing). x .heard) (k .out-is) ∙ heard-none in
         let auth : r .out .auth .seq ≡ first = ap (λ (x : Outgoing). x .auth .seq) (k .out-is) ∙ ap (λ (x : Pair). x .seq) (keeping .auth-is) in
         let next = k .next-is in
-        rw (
-          ne-eqb (r .out .src) 0 z,
-          le-leb n (r .out .terms .segn) (omega arith),
-          le-leb n 31 (omega arith),
-          heard,
-          has-none n,
-          le-leb (nextSeq r (q .element)) (r .out .auth .seq + 8191) (omega arith),
-        ) refl
+        segment-allowed r (q .element) n z (omega arith) (omega arith) (rw heard (has-none n)) (omega arith)
 
     segment-made : (r : Receiver) (n : ℕ) → At r n → n ≤ lastOf node s → madeBy (sendingSegment r n buf .answer .answer) ≡ true
-    unfolding sendingSegment
     segment-made r n k h =
         let low = last-low node s speaks in
         let src : r .out .src ≡ addressOf (sender .node) (q .element) = ap (λ (x : Outgoing). x .src) (k .out-is) ∙ keeping .src-is in
@@ -235,7 +215,7 @@ module _ (sender : Receiver) (setup : Setup) (q : Request) (words : Words) (buf 
         let t = there in
         let next = k .next-is in
         let said = saying-made r (q .element) (segmentHeader o n) buf (omega arith) (segment-key n) wide (segment-can r n (k .node-is) next h) in
-        rw (e, le-ltb (length buf) 29 wide, lt-ltb (q .element) 8 (omega arith), segment-fine r n k h)
+        rw (segment-sent r buf wide n (q .element) e (omega arith) (segment-fine r n k h))
         (subst (λ (x : Outgoing). madeBy (saying r (q .element) (segmentHeader x n) buf .answer .answer) ≡ true) (sym (k .out-is)) said)
 
     -- segment n and those behind it
@@ -249,7 +229,6 @@ module _ (sender : Receiver) (setup : Setup) (q : Request) (words : Words) (buf 
     begun-all :
         (x : Lent Spoken) → StartedBy sender (q .element) o x → madeBy (x .answer .answer) ≡ true
         → Each (λ y. made y ≡ true) (Said x ∷ run (x .answer .receiver) (restOf (Said x) buf))
-    unfolding withNext
     begun-all x g m =
         let places = b .good .next-well .places in
         let t = there in
@@ -294,25 +273,24 @@ module _ (sender : Receiver) (setup : Setup) (q : Request) (buf : List ℕ) (wid
       (access-stamped sender node (b .shared) q key payload a) (omega arith) (omega arith)
 
   goes : (words : Words) → Between sender setup q words → accepted sender q words ≡ true → All (Said (sendingAs sender q words buf))
-  unfolding access.sendingAccess access.sayingAccess control.sendingControl control.sayingControl
   goes (Access key szmic payload) b a =
       by-test (access.isWhole szmic (length payload))
-      (λ w. rw (le-ltb (length buf) 29 wide, a, w) (said-all sender (q .element) (headerAs sender q (Access key szmic payload)) (access-goes key szmic payload b a w)))
+      (λ w. rw (access-whole sender buf wide q key szmic payload a w) (said-all sender (q .element) (headerAs sender q (Access key szmic payload)) (access-goes key szmic payload b a w)))
       (λ w.
       let m = start-made sender setup q (Access key szmic payload) buf b a wide enough w in
-      rw (le-ltb (length buf) 29 wide, a, w)
+      rw (access-begun sender buf wide q key szmic payload a w)
       (begun-all sender setup q (Access key szmic payload) buf b a wide enough w _ (started-by sender (q .element) buf _ m) m))
   goes (Control code parameters) b a =
       by-test (leb (length parameters) 11)
       (λ w.
       let short = leb-true (length parameters) 11 w in
-      rw (le-ltb (length buf) 29 wide, a, w)
+      rw (control-whole sender buf wide q code parameters a w)
       (said-all sender (q .element) (headerAs sender q (Control code parameters))
       (whole-made sender setup q (Control code parameters) buf b a wide enough (headerAs sender q (Control code parameters)) true
       (controlOctet false code ∷ parameters) (control-key code parameters) (control-stamped sender (nodeOf setup) (b .shared) q code parameters) (omega arith) (omega arith))))
       (λ w.
       let m = start-made sender setup q (Control code parameters) buf b a wide enough w in
-      rw (le-ltb (length buf) 29 wide, a, w)
+      rw (control-begun sender buf wide q code parameters a w)
       (begun-all sender setup q (Control code parameters) buf b a wide enough w _ (started-by sender (q .element) buf _ m) m))
 
 pub goes-out : GoesOut

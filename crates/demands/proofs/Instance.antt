@@ -1,20 +1,22 @@
--- The premises hold of the instance: numbers are compared, and where a key is derived a law says how many bits it has. With one key of each kind no key is tried earlier. Assumes nothing.
-use mathlib.Core.Bool.{Bool, true, false, _&&_, _||_}
+-- The premises hold of the instance, so that the theorems speak of something. Most of them compare numbers and are
+-- computed: the setup is allowed, addresses are unicast, lengths fit, each SEQ is within 8,191 of SeqAuth, each segment
+-- has come. Where a key is derived, its octets are not computed: a law says how many bits NID and AID have, whatever
+-- the cipher gives. The receiver holds one key of each kind, so no key is tried before the message's own, and that
+-- premise holds by itself. The PDU that no key opens is one that is too short. Assumes nothing.
+use mathlib.Core.Bool.{true, false, _||_}
 use mathlib.Core.List.{List, [], _∷_}
 use mathlib.Core.Logic.{inl, inr}
-use mathlib.Core.Path.{_≡_, refl, sym, ap, _∙_}
-use Prim.Native.Nat.{ℕ, zero, suc, _+_, _-_, _≤_, _<_, min}
+use mathlib.Core.Path.{_≡_, refl, sym}
+use Prim.Native.Nat.{ℕ, zero, suc, _+_, _-_, _≤_, _<_}
 use native.Mathlib.Omega.{arith}
 use borrow.Author.Tests.{eq-eqb}
 use lib.Dec.{eqb}
 use lib.ListN.{length, replicate}
 use Rattle.common.specs.Bits.{hasBit, withBit}
-use Rattle.common.specs.Chunks.{chunkCount}
 use Rattle.common.specs.Choice.{if_then_else_}
 use Rattle.common.specs.Search.{first}
 use Rattle.network.specs.Address.{kindOf, isUnicast}
 use Rattle.network.specs.Opening.{opening}
-use Rattle.network.specs.SealOpen as network
 use Rattle.transport.specs.declared.securing.MessageKey.the-variants.{Application}
 use Rattle.transport.specs.LeadsBack.{SegmentOf}
 use Rattle.transport.specs.Securing.{applicationKeyAt}
@@ -30,12 +32,12 @@ use Rattle.sending.specs.Access.{isWhole, sizeAllowed, accessAllowed}
 use Rattle.sending.specs.Request.{requestAllowed}
 use Rattle.sending.specs.Transmission.{nextSeq}
 use Rattle.demands.specs.Interleaved as scene
-use Rattle.demands.specs.Interleaved.{Event, Segment, Foreign, Ask, start, Each, Spent, speechAt, Sent, Comes, Arrives, Scene, AllCome}
+use Rattle.demands.specs.Interleaved.{Event, Segment, Foreign, Ask, start, Each, Spent, speechAt, Sent, Comes, Arrives, AllCome}
 use Rattle.demands.specs.ReadBack.{pdus, saidBy, Shared, OwnKeyFirst, Between, accepted}
 use Rattle.demands.specs.Refusal.{noKeyOpens}
-use Rattle.demands.specs.Speech.{Access, Control, Speech, keyOf, envelopeOf, octetsOf, sizeOf, lastOf, headerOf, Fits, Speakable}
+use Rattle.demands.specs.Speech.{Access, keyOf, envelopeOf, octetsOf, lastOf, headerOf, Speakable}
 use Rattle.demands.proofs.GoesOut.{goes-out}
-use Rattle.demands.proofs.SpeechLaws.{cut-is}
+use Rattle.demands.proofs.SpeechCut.{cut-is}
 
 ready : settingUp shed .answer ≡ Ready
 unfolding settingUp making valid keysValid boundWithin elementsValid nextWithin groupsValid indexValid first kindOf

@@ -1,5 +1,4 @@
 -- A file proves the statements of the file of the same name in specs/, or holds the laws that those proofs rest on.
-pub mod Walks
 pub mod Examples
 pub mod Refusal
 pub mod Speaking
@@ -7,20 +6,27 @@ pub mod Determinacy
 pub mod Invariant
 pub mod NeverTwice
 pub mod Pigeonhole
-pub mod SpeechLaws
+pub mod SpeechAddress
+pub mod SpeechCut
+pub mod SpeechMessage
+pub mod SpeechSegment
+pub mod SpeechSession
 pub mod GatherLaws
 pub mod StageLaws
 pub mod RoomLaws
 pub mod StepLaws
 pub mod SceneLaws
+pub mod KeptLaws
 pub mod ArrivalLaws
+pub mod ComeLaws
+pub mod DueLaws
 pub mod Interleaved
 pub mod SentLaws
+pub mod WholeHeard
+pub mod WholeSent
 pub mod SaidLaws
 pub mod SegmentsSent
 pub mod SegmentsHeard
-pub mod WholeHeard
-pub mod WholeSent
 pub mod ReadBack
 pub mod GoesOut
 pub mod Instance

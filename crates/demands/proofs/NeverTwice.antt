@@ -1,57 +1,47 @@
--- Sequence numbers rise. A call that makes a PDU stamped it with its element's next SEQ and left that one greater by one; every other call, and every
--- other element, leaves a next SEQ that has not fallen: hearing and giving up do not touch it. So whatever a list of calls uses of an element begins at
--- the next SEQ that the list finds. Take the first call away: what it used lies one below where the rest begins, so below all that the rest uses of that
--- element. Two equal uses would then lie below each other. What was used is also what was sent, since the header that was sealed carries it. Assumes
--- nothing.
-use mathlib.Core.Bool.{Bool, true, false, _&&_, false≢true, true≢false}
+-- Sequence numbers rise. A call that makes a PDU stamped it with its element's next SEQ and left that one greater by
+-- one; every other call, and every other element, leaves a next SEQ that has not fallen: hearing and giving up do not
+-- touch it. So whatever a list of calls uses of an element begins at the next SEQ that the list finds. Take the first
+-- call away: what it used lies one below where the rest begins, so below all that the rest uses of that element. Two
+-- equal uses would then lie below each other. What was used is also what was sent, since the header that was sealed
+-- carries it. Assumes nothing.
+use mathlib.Core.Bool.{true, false≢true}
 use mathlib.Core.List.{List, [], _∷_, _++_}
 use mathlib.Core.Path.{_≡_, refl, sym, ap, _∙_, subst}
-use Prim.Native.Nat.{ℕ, _+_, _≤_, _<_, min}
+use Prim.Native.Nat.{ℕ, _+_, _≤_, _<_}
 use native.Mathlib.Omega.{arith}
-use borrow.Author.Tests.{ltb-true}
-use lib.Dec.{eqb, leb, ltb}
 use lib.ListN.{length, getD}
-use Rattle.common.specs.Choice.{if_then_else_}
 use Rattle.common.specs.Lent.{Lent, lent}
-use Rattle.common.proofs.Tests.{by-test, by-choice, and-first}
+use Rattle.common.specs.Lists.{onto}
+use Rattle.common.proofs.Tests.{by-choice}
 use Rattle.network.specs.declared.header.Header.{Header}
 use Rattle.network.specs.declared.sealing.Answer.the-variants.{Sealed}
 use Rattle.network.specs.Candidates.{keyAt}
 use Rattle.network.specs.Sealing.{sealing}
-use Rattle.transport.specs.declared.securing.MessageKey.{MessageKey}
 use Rattle.memory.specs.declared.outgoing.Outgoing.{Outgoing}
-use Rattle.memory.specs.Outgoing.{noOutgoing}
-use Rattle.memory.specs.Session.{noSession, sessionPlace}
-use Rattle.receiver.specs.declared.give_up.Answer.the-variants as give-up
 use Rattle.receiver.specs.declared.give_up.GivenUp.{GivenUp}
 use Rattle.receiver.specs.declared.answer.Refusal.{Refusal}
-use Rattle.receiver.specs.declared.answer.Refusal.the-variants as refusal
 use Rattle.receiver.specs.declared.state.Receiver.{Receiver}
 use Rattle.receiver.specs.GiveUp.{givingUp}
 use Rattle.receiver.specs.Good.{Good}
-use Rattle.receiver.specs.State.{withSession, withOutgoing}
-use Rattle.receiver.proofs.Laws.{fixed-heard}
+use Rattle.receiver.specs.State.{withOutgoing}
+use Rattle.receiver.proofs.Laws.Fixed.{fixed-heard}
+use Rattle.receiver.proofs.Laws.GiveUp.{by-giving-up}
 use Rattle.sending.specs.declared.answer.Answer.{Answer}
-use Rattle.sending.specs.declared.answer.Answer.the-variants as answer
 use Rattle.sending.specs.declared.answer.Spoken.{Spoken}
 use Rattle.sending.specs.declared.request.Request.{Request}
-use Rattle.sending.specs.declared.transmission.Transmission.{Transmission}
-use Rattle.sending.specs.declared.transmission.Transmission.the-variants.{Sent, NoSeqLeft, Unsealed}
-use Rattle.sending.specs.declared.transmission.Transmitted.{Transmitted}
 use Rattle.sending.specs.Access.{accessAllowed}
 use Rattle.sending.specs.Acknowledge.{chosen}
-use Rattle.sending.specs.Answer.{refusedAt, spokenAs, spoken}
+use Rattle.sending.specs.Answer.{refusedAt}
 use Rattle.sending.specs.Control as control
-use Rattle.sending.specs.NewSeq.{isSent}
-use Rattle.sending.specs.Request.{requestAllowed}
-use Rattle.sending.specs.Segment.{segmentHeader, startedAs, starting, elementOf}
+use Rattle.sending.specs.Segment.{segmentHeader, starting, elementOf}
 use Rattle.sending.specs.Stop.{stopping}
-use Rattle.sending.specs.Transmission.{addressOf, nextSeq, stamped, transmitted}
-use Rattle.sending.proofs.NewSeq.{uses-next, raises-next, never-falls}
+use Rattle.sending.specs.Transmission.{addressOf, nextSeq, stamped}
+use Rattle.sending.proofs.Laws.Allowed.{Asked, access-allows, control-allows}
+use Rattle.sending.proofs.Laws.Calls.{walk-access, walk-control, walk-segment, walk-acknowledge}
+use Rattle.sending.proofs.Laws.Transmitted.{used, used-own, used-rises, saying, pduBy, Sends, sealing-is, by-saying, by-starting, by-stopping}
 use Rattle.demands.specs.Call.{Call, Hear, GiveUp, SendAccess, SendControl, SendSegment, Acknowledge, Stop, Outcome, Heard, Said, Ended, step, left}
-use Rattle.demands.specs.NeverTwice.{Use, speaker, madeBy, made, used, uses, lentFor, lengthBy, Carries, Carried, AllAbove, Rising, NoneEqual, Distinct, Rise, NeverTwice}
+use Rattle.demands.specs.NeverTwice.{Use, speaker, madeBy, made, uses, lentFor, lengthBy, Carries, Carried, AllAbove, Rising, NoneEqual, Distinct, Rise, NeverTwice}
 use Rattle.demands.proofs.Invariant.{good-step}
-use Rattle.demands.proofs.Walks.{saying, walk-access, walk-control, walk-segment, walk-acknowledge}
 
 -- ---- a call that sends
 module _ (r : Receiver) (element : ℕ) (buf : List ℕ) where
@@ -71,56 +61,34 @@ module _ (r : Receiver) (element : ℕ) (buf : List ℕ) where
   refused : (n : Refusal) → Speaks (lent (refusedAt r n) buf)
   refused n = record { rises = λ any. omega arith; takes = λ e. absurd (false≢true e); within = λ e. absurd (false≢true e) }
 
-  module _ (low : element < 8) (h : Header) where
-    abbrev t : Lent Transmitted
-    t = transmitted r element h buf
-
-    -- the answer a tells of the PDU of this transmission, which left q
-    takes-sent : (a : Answer) (q : Receiver) (len : ℕ) → t .answer .answer ≡ Sent len → lengthBy a ≡ len → q .next ≡ t .answer .receiver .next
-        → Takes (lent (record { answer = a; receiver = q }) (t .buffer))
+  -- the PDU of this header was sent, and q is left
+  module _ (low : element < 8) (h : Header) (c : Sends r element h buf) (a : Answer) (q : Receiver) (next : q .next ≡ used r element .next)
+      (long : lengthBy a ≡ length (pduBy r element h)) where
+    takes-sent : Takes (lent (record { answer = a; receiver = q }) (onto (pduBy r element h) buf))
     unfolding stamped
-    takes-sent a q len e el en =
-        let u = uses-next r element h buf len e in
+    takes-sent =
         record {
           header = stamped r element h;
           from-element = refl;
-          with-next = u .stamp;
-          made-of = rw el (u .made);
-          raised = λ k. ap (λ (l : List ℕ). getD l element 0) en ∙ raises-next r element h buf k (rw e refl);
+          with-next = refl;
+          made-of = rw long (sealing-is r element h buf c);
+          raised = λ k. ap (λ (l : List ℕ). getD l element 0) next ∙ used-own r element k;
         }
 
-    falls-not : (any : ℕ) → nextSeq r any ≤ nextSeq (t .answer .receiver) any
-    falls-not = never-falls r element h buf
+    speaks-sent : Speaks (lent (record { answer = a; receiver = q }) (onto (pduBy r element h) buf))
+    speaks-sent =
+        record { rises = λ any. rw next (used-rises r element any); takes = λ _. takes-sent; within = λ _. low }
 
-    spoken-as : (a : Transmission) → t .answer .answer ≡ a → Speaks (lent (spokenAs a (t .answer .receiver)) (t .buffer))
-    spoken-as (Sent len) e = record { rises = falls-not; takes = λ _. takes-sent _ (t .answer .receiver) len e refl refl; within = λ _. low }
-    spoken-as NoSeqLeft e = record { rises = falls-not; takes = λ f. absurd (false≢true f); within = λ _. low }
-    spoken-as Unsealed e = record { rises = falls-not; takes = λ f. absurd (false≢true f); within = λ _. low }
-
-    said : Speaks (saying r element h buf)
-    unfolding spoken
-    said = spoken-as (t .answer .answer) refl
-
-  started-as : (low : element < 8) (o : Outgoing) (a : Transmission) → (let t = transmitted r element (segmentHeader o 0) buf in
-      t .answer .answer ≡ a → Speaks (lent (startedAs a (t .answer .receiver) o) (t .buffer)))
-  started-as low o (Sent len) e =
-      let h = segmentHeader o 0 in
-      record { rises = falls-not low h; takes = λ _. takes-sent low h _ (withOutgoing (transmitted r element h buf .answer .receiver) o) len e refl refl; within = λ _. low }
-  started-as low o NoSeqLeft e = record { rises = falls-not low (segmentHeader o 0); takes = λ f. absurd (false≢true f); within = λ _. low }
-  started-as low o Unsealed e = record { rises = falls-not low (segmentHeader o 0); takes = λ f. absurd (false≢true f); within = λ _. low }
+  said : (low : element < 8) (h : Header) → Speaks (saying r element h buf)
+  said low h = by-saying r element h buf Speaks refused (λ c. speaks-sent low h c _ (used r element) refl refl)
 
   started : (low : element < 8) (o : Outgoing) → Speaks (starting r element o buf)
-  unfolding starting
-  started low o = started-as low o _ refl
+  started low o = by-starting r element o buf Speaks refused (λ c. speaks-sent low (segmentHeader o 0) c _ (withOutgoing (used r element) o) refl refl)
 
 -- ---- the calls
 -- the element of a request that is allowed is one of eight
-element-low : (r : Receiver) (q : Request) (rest : Bool) → requestAllowed (r .node) q && rest ≡ true → q .element < 8
-unfolding requestAllowed
-element-low r q rest e =
-    let a = and-first (requestAllowed (r .node) q) rest e in
-    let l = ltb-true (q .element) (min (r .node .elements) 8) (and-first (ltb (q .element) (min (r .node .elements) 8)) _ a) in
-    omega arith
+element-low : (r : Receiver) (q : Request) → Asked (r .node) q → q .element < 8
+element-low r q a = omega arith
 
 abbrev SpeaksBy : Receiver → Call → Outcome → Type 0
 SpeaksBy r c (Heard o) = (any : ℕ) → nextSeq r any ≤ nextSeq (o .heard .receiver) any
@@ -131,27 +99,22 @@ same-next : (l m : List ℕ) → m ≡ l → (any : ℕ) → getD l any 0 ≤ ge
 same-next l m e any = let f = ap (λ (k : List ℕ). getD k any 0) e in omega arith
 
 given-next : (r : Receiver) (src : ℕ) → givingUp r src .receiver .next ≡ r .next
-unfolding givingUp
-given-next r src =
-    by-choice (λ (g : GivenUp). g .receiver .next ≡ r .next) (eqb src 0) (λ _. refl)
-    (λ _. by-choice (λ (g : GivenUp). g .receiver .next ≡ r .next) (ltb (sessionPlace (r .sessions) src) 8) (λ _. refl) (λ _. refl))
+given-next r src = by-giving-up (λ (g : GivenUp). g .receiver .next ≡ r .next) r src refl (λ _. refl)
 
 stopped-next : (r : Receiver) → stopping r .receiver .next ≡ r .next
-unfolding stopping
-stopped-next r = by-choice (λ (g : GivenUp). g .receiver .next ≡ r .next) (eqb (r .out .src) 0) (λ _. refl) (λ _. refl)
+stopped-next r = by-stopping (λ (g : GivenUp). g .receiver .next ≡ r .next) r refl refl
 
 speaks : (r : Receiver) (c : Call) → SpeaksBy r c (step r c)
-unfolding accessAllowed control.controlAllowed
 speaks r (Hear pdu fwd msg) = same-next (r .next) _ (fixed-heard r fwd msg _ .next-stays)
 speaks r (GiveUp src) = same-next (r .next) _ (given-next r src)
 speaks r (SendAccess q key szmic payload buf) =
     let e = q .element in
-    walk-access r buf (Speaks r e buf) (refused r e buf) q key szmic payload (λ a _. said r e buf (element-low r q _ a) _)
-    (λ a _. started r e buf (element-low r q _ a) _)
+    let low : accessAllowed r q key szmic (length payload) ≡ true → e < 8 = λ a. element-low r q (access-allows r q key szmic (length payload) a .asks) in
+    walk-access r buf (Speaks r e buf) (refused r e buf) q key szmic payload (λ a _. said r e buf (low a) _) (λ a _. started r e buf (low a) _)
 speaks r (SendControl q opcode parameters buf) =
     let e = q .element in
-    walk-control r buf (Speaks r e buf) (refused r e buf) q opcode parameters (λ a _. said r e buf (element-low r q _ a) _)
-    (λ a _. started r e buf (element-low r q _ a) _)
+    let low : control.controlAllowed r q opcode (length parameters) ≡ true → e < 8 = λ a. element-low r q (control-allows r q opcode (length parameters) a .asks) in
+    walk-control r buf (Speaks r e buf) (refused r e buf) q opcode parameters (λ a _. said r e buf (low a) _) (λ a _. started r e buf (low a) _)
 speaks r (SendSegment n buf) =
     let e = elementOf (r .node) (r .out .src) in
     walk-segment r buf (Speaks r e buf) (refused r e buf) n (λ low _. said r e buf low _)

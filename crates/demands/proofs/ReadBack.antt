@@ -1,76 +1,57 @@
--- Demand 2. A call that made a PDU went one of two ways. Whole: the PDU opens to the header that was sealed; a fresh receiver has nothing in its cache
--- or its replay list against it; the transport PDU reads back as it was written; and the message's key, which both hold, opens what it secured. In
--- segments: the sender keeps the secured octets, and each later call seals their next chunk under the next SEQ. So the PDUs are those of one speech,
--- each segment once and in order: a scene of demand 3 with one speaker, where segment n finds the places below it filled. Then SegN is the one that was
--- missing last, and all before it are stored. That both sides agree on keys, nonce and lengths follows from the request's being allowed. Assumes
--- nothing.
-use mathlib.Core.Bool.{Bool, true, false, _&&_, _||_, not, false≢true, true≢false}
-use mathlib.Core.List.{List, [], _∷_, _++_, map}
+-- Demand 2. A call that made a PDU went one of two ways. Whole: the PDU opens to the header that was sealed; a fresh
+-- receiver has nothing in its cache or its replay list against it; the transport PDU reads back as it was written; and
+-- the message's key, which both hold, opens what it secured. In segments: the sender keeps the secured octets, and each
+-- later call seals their next chunk under the next SEQ. So the PDUs are those of one speech, each segment once and in
+-- order: a scene of demand 3 with one speaker, where segment n finds the places below it filled. Then SegN is the one
+-- that was missing last, and all before it are stored. That both sides agree on keys, nonce and lengths follows from
+-- the request's being allowed. Assumes nothing.
+use mathlib.Core.Bool.{Bool, true, false, false≢true}
+use mathlib.Core.List.{List, [], _∷_, map}
 use mathlib.Core.Path.{_≡_, refl, sym, ap, _∙_, subst}
 use Prim.Native.Nat.{ℕ, zero, suc, _+_, _-_, _≤_, _<_, min}
 use native.Mathlib.Omega.{arith}
 use borrow.Author.Tests.{eqb-true, eqb-false, leb-true}
-use lib.Dec.{eqb, leb}
-use lib.ListN.{length, take, drop, replicate, length-set}
+use lib.Dec.{eqb}
+use lib.ListN.{length, length-set}
 use lib.Seq.{getD-set-same}
-use Rattle.common.specs.Choice.{if_then_else_}
-use Rattle.common.specs.Lent.{Lent, lent}
-use Rattle.common.specs.Lists.{tabFrom, onto, padded}
-use Rattle.common.proofs.Tests.{by-test, and-first, and-second}
-use Rattle.modes.specs.Ccm.{micOctets}
+use Rattle.common.specs.Lent.{Lent}
+use Rattle.common.specs.Lists.{tabFrom}
+use Rattle.common.proofs.Tests.{by-test, and-first}
 use Rattle.keys.specs.declared.NetworkKeys.{NetworkKeys}
 use Rattle.network.specs.declared.header.Header.{Header}
-use Rattle.network.specs.Address.{isUnicast, destinationKind, addressesAllowed, kindOf}
+use Rattle.network.specs.Address.{isUnicast, addressesAllowed}
 use Rattle.network.specs.Candidates.{keyAt}
-use Rattle.network.specs.Header.{transportOf}
 use Rattle.network.specs.Pdu.{pduOf}
 use Rattle.network.specs.Sealing.{sealable}
-use Rattle.network.specs.SealOpen.{Formed, Receives}
+use Rattle.network.specs.SealOpen.{Receives}
 use Rattle.network.proofs.Sealed.{within}
-use Rattle.transport.specs.declared.form.Form.the-variants as form
-use Rattle.transport.specs.declared.securing.Envelope.{Envelope}
-use Rattle.transport.specs.declared.securing.MessageKey.{MessageKey}
-use Rattle.transport.specs.declared.securing.MessageKey.the-variants.{Application, Device}
-use Rattle.transport.specs.declared.securing.Opened.the-variants.{Message}
-use Rattle.transport.specs.Form.{keyFits, formOf}
-use Rattle.transport.specs.Ranges.{KeyInRange}
-use Rattle.transport.specs.ReadsBack.{Carries}
-use Rattle.transport.specs.SecureOpen as message
-use Rattle.transport.specs.Securing.{transMic, secured, applicationKeyAt, applicationCandidates, unsecuring}
-use Rattle.transport.specs.Segment.{accessOctet, controlOctet}
-use Rattle.transport.proofs.ReadsBack.{access-reads-back, control-reads-back}
-use Rattle.transport.proofs.SecureOpen.{secured-length, unsecure-secure, unsecure-secure-device}
 use Rattle.memory.specs.declared.outgoing.Outgoing.{Outgoing}
 use Rattle.memory.specs.declared.session.Terms.{Terms}
 use Rattle.node.specs.declared.addresses.Node.{Node}
 use Rattle.node.specs.declared.setup.Setup.{Setup}
 use Rattle.node.specs.Made.{WellMade}
 use Rattle.receiver.specs.declared.state.Receiver.{Receiver}
-use Rattle.receiver.specs.Good.{Good}
-use Rattle.receiver.specs.Whole.{wholeEnvelope}
 use Rattle.receiver.proofs.Good.{good-fresh}
-use Rattle.sending.specs.declared.access.KeyUsed.{KeyUsed}
 use Rattle.sending.specs.declared.answer.Spoken.{Spoken}
 use Rattle.sending.specs.declared.request.Request.{Request}
 use Rattle.sending.specs.Access as access
 use Rattle.sending.specs.Control as control
 use Rattle.sending.specs.Request.{ttlOf}
-use Rattle.sending.specs.Segment.{segmentHeader}
-use Rattle.sending.specs.Transmission.{sendingIv, addressOf, nextSeq, withNext, stamped}
-use Rattle.demands.specs.Call.{Call, Hear, Outcome, Said, step, left, run}
+use Rattle.sending.specs.Transmission.{sendingIv, nextSeq, stamped}
+use Rattle.demands.specs.Call.{Outcome, Said, step, left, run}
 use Rattle.demands.specs.Interleaved as scene
-use Rattle.demands.specs.Interleaved.{Spent, start, nodeOf, speechAt, Each, handed}
+use Rattle.demands.specs.Interleaved.{Spent, start, nodeOf, speechAt, Each}
 use Rattle.demands.specs.NeverTwice.{made}
-use Rattle.demands.specs.ReadBack.{sayCall, restOf, pduMade, pdus, outcomes, saidBy, Shared, OwnKeyFirst, OwnMessageFirst, Sending, Heard, ReadBack}
-use Rattle.demands.specs.Speech.{Words, Access, Control, Speech, keyOf, aidOf, akfOf, envelopeOf, octetsOf, lastOf, headerOf, segmentPdu, Speakable, Handed, handUp, Tried, networkPlace, applicationPlace}
-use Rattle.demands.proofs.SaidLaws.{KeySame, key-same, keys-allowed, envelope-same, octets-same, access-fits, access-read, opcode-range, words-of, near, held, element-there, Kept, kept, access-stamped}
+use Rattle.demands.specs.ReadBack.{sayCall, restOf, pduMade, saidBy, OwnKeyFirst, Sending, Heard, ReadBack}
+use Rattle.demands.specs.Speech.{Words, Access, Control, Speech, lastOf, headerOf, segmentPdu, Speakable, Handed, handUp, Tried, networkPlace, applicationPlace}
+use Rattle.demands.proofs.SaidLaws.{access-read, opcode-range, request-of, words-of, near, held, Kept, kept, access-stamped}
 use Rattle.demands.proofs.SceneLaws.{begins, unicast-some}
 use Rattle.demands.proofs.SegmentsHeard.{heard-in-order}
-use Rattle.demands.proofs.SegmentsSent.{Can, pduAt, Keeps, keeps-next, can-said, pdu-said, Rest, rest-sent}
-use Rattle.demands.proofs.SentLaws.{Transmits, SaidBy, StartedBy, allowedAs, wholeAs, headerAs, keptAs, sendingAs, Way, Whole, Begun, way}
-use Rattle.demands.proofs.SpeechLaws.{padded-behind, taken-back, aid-low, last-low, formed}
+use Rattle.demands.proofs.SegmentsSent.{Can, Keeps, can-said, pdu-said, Rest, rest-sent}
+use Rattle.demands.proofs.SentLaws.{SaidBy, StartedBy, allowedAs, wholeAs, headerAs, keptAs, sendingAs, Way, Whole, Begun, way}
+use Rattle.demands.proofs.SpeechCut.{last-low}
 use Rattle.demands.proofs.WholeHeard.{Reads}
-use Rattle.demands.proofs.WholeSent.{wholeHeader, Passes, access-whole, control-whole}
+use Rattle.demands.proofs.WholeSent.{Passes, access-whole, control-whole}
 
 -- each of a table is one of its places
 each-place : {A : Type 0} (P : A → Type 0) (f : ℕ → A) (n m : ℕ) → Each P (tabFrom f n m) → (j : ℕ) → n ≤ j → j < n + m → P (f j)
@@ -138,7 +119,7 @@ module _ (sender : Receiver) (setup : Setup) (q : Request) (words : Words) (buf 
     first = nextSeq sender (q .element)
 
     there : q .element < min (sender .node .elements) 8
-    there = element-there sender node (p .between .shared) q words a
+    there = request-of sender node (p .between .shared) q words a .element-there
 
     keeping : Kept sender node (p .between .shared) q s o
     keeping = kept sender node (p .between .shared) q words a
@@ -165,7 +146,6 @@ module _ (sender : Receiver) (setup : Setup) (q : Request) (words : Words) (buf 
         (pdu-said sender (p .between .good .node-made) node (p .between .shared) q there s refl o keeping first sender 0 refl zero-next (b .len) _ (b .transmitted-is))
 
     keeps-one : Keeps sender (p .between .good .node-made) node (p .between .shared) q there s refl o keeping first (said .answer .receiver) 1
-    unfolding withNext
     keeps-one =
         let places = p .between .good .next-well .places in
         let low = there in

@@ -3,48 +3,41 @@
 --   speakable    the speech is one that the receiver is to read
 --   Kept         the message that is kept is the speech's
 --   header-said  a segment's header, stamped
-use mathlib.Core.Bool.{Bool, true, false, _&&_, _||_, not, false≢true}
-use mathlib.Core.List.{List, [], _∷_, _++_}
+use mathlib.Core.Bool.{Bool, true, false}
+use mathlib.Core.List.{List, _∷_}
 use mathlib.Core.Logic.{_⊎_, inl, inr}
-use mathlib.Core.Path.{_≡_, refl, sym, ap, _∙_, subst}
-use Prim.Native.Nat.{ℕ, _+_, _-_, _%_, _≤_, _<_, min}
+use mathlib.Core.Path.{_≡_, refl, sym, subst}
+use Prim.Native.Nat.{ℕ, _+_, _≤_, _<_, min}
 use native.Mathlib.Omega.{arith}
-use borrow.Author.Tests.{eq-eqb, eqb-true, leb-true, lt-ltb, le-leb, ltb-true, leb-false}
-use lib.Dec.{eqb, leb, ltb}
-use lib.ListN.{length, getD, take}
-use Rattle.common.specs.Choice.{if_then_else_}
-use Rattle.common.specs.Chunks.{chunk, chunkCount}
-use Rattle.common.specs.Lists.{padded}
+use borrow.Author.Tests.{eq-eqb, lt-ltb, ltb-true, leb-false}
+use lib.Dec.{ltb}
+use lib.ListN.{length, take}
 use Rattle.common.proofs.Tests.{by-test, and-first, and-second}
-use Rattle.modes.specs.Ccm.{micOctets}
-use Rattle.network.specs.declared.header.Header.{Header}
-use Rattle.network.specs.Address.{isUnicast}
 use Rattle.network.specs.IvIndex.{ivIndexSent}
 use Rattle.transport.specs.declared.securing.Envelope.{Envelope}
 use Rattle.transport.specs.declared.securing.MessageKey.{MessageKey}
 use Rattle.transport.specs.declared.securing.MessageKey.the-variants.{Application, Device}
 use Rattle.transport.specs.Ranges.{OpcodeInRange}
 use Rattle.transport.specs.SecureOpen as message
-use Rattle.transport.specs.Securing.{transMic, secured, applicationKeyAt, fitsKey}
-use Rattle.transport.specs.Segment.{accessOctet, controlOctet, segmentFront, fullOctets}
+use Rattle.transport.specs.Securing.{secured, applicationKeyAt}
+use Rattle.transport.specs.Segment.{accessOctet, controlOctet}
 use Rattle.transport.proofs.SecureOpen.{secured-length}
 use Rattle.memory.specs.declared.outgoing.Outgoing.{Outgoing}
 use Rattle.node.specs.declared.addresses.Node.{Node}
-use Rattle.node.specs.Addresses.{forNode}
 use Rattle.node.specs.Made.{WellMade}
 use Rattle.receiver.specs.declared.state.Receiver.{Receiver}
-use Rattle.receiver.specs.Good.{Good}
 use Rattle.sending.specs.declared.access.KeyUsed.{KeyUsed}
 use Rattle.sending.specs.declared.request.Request.{Request}
 use Rattle.sending.specs.Access as access
 use Rattle.sending.specs.Control as control
-use Rattle.sending.specs.Request.{ttlOf, requestAllowed}
+use Rattle.sending.specs.Request.{ttlOf}
 use Rattle.sending.specs.Segment as segment
 use Rattle.sending.specs.Transmission.{sendingIv, addressOf, nextSeq, stamped}
+use Rattle.sending.proofs.Laws.Allowed.{Asked, AccessAllowed, access-allows, ControlAllowed, control-allows}
 use Rattle.demands.specs.ReadBack.{saidBy, Shared, OwnMessageFirst}
-use Rattle.demands.specs.Speech.{Words, Access, Control, Speech, isControl, szmicOf, keyOf, aidOf, akfOf, firstOf, envelopeOf, cutOf, octetsOf, sizeOf, lastOf, segmentOf, headerOf, Fits, WordsRead, Speakable}
+use Rattle.demands.specs.Speech.{Words, Access, Control, Speech, keyOf, aidOf, akfOf, envelopeOf, octetsOf, lastOf, segmentOf, headerOf, Fits, WordsRead}
 use Rattle.demands.proofs.SentLaws.{allowedAs, wholeAs, headerAs, keptAs}
-use Rattle.demands.proofs.SpeechLaws.{taken-back, termsOf}
+use Rattle.demands.proofs.SpeechSegment.{taken-back, termsOf}
 use Rattle.demands.proofs.WholeSent.{wholeHeader}
 
 module _ (sender : Receiver) (node : Node) (shared : Shared (sender .node) node) (q : Request) where
@@ -76,19 +69,11 @@ module _ (sender : Receiver) (node : Node) (shared : Shared (sender .node) node)
     abbrev e : Envelope
     e = access.envelopeOf sender q k szmic
 
-    asked : requestAllowed (sender .node) q ≡ true
-    unfolding access.accessAllowed
-    asked = and-first (requestAllowed (sender .node) q) _ allowed
+    passed : AccessAllowed (sender .node) q key szmic (length payload)
+    passed = access-allows sender q key szmic (length payload) allowed
 
     pub keys-allowed : access.keyAllowed (sender .node) q key ≡ true
-    unfolding access.accessAllowed
-    keys-allowed = and-first (access.keyAllowed (sender .node) q key) _ (and-second (requestAllowed (sender .node) q) _ allowed)
-
-    sized : access.sizeAllowed szmic (length payload) ≡ true
-    unfolding access.accessAllowed
-    sized =
-        and-first (access.sizeAllowed szmic (length payload)) _
-        (and-second (access.keyAllowed (sender .node) q key) _ (and-second (requestAllowed (sender .node) q) _ allowed))
+    keys-allowed = passed .key-allowed
 
     pub envelope-same : e ≡ envelopeOf node s key szmic
     unfolding access.envelopeOf
@@ -98,24 +83,10 @@ module _ (sender : Receiver) (node : Node) (shared : Shared (sender .node) node)
     unfolding octetsOf
     octets-same = let c = key-same key keys-allowed in rw (c .key-same, envelope-same) refl
 
-    sizes : (b : Bool) → szmic ≡ b → (1 ≤ length payload) × (length payload + micOctets (transMic b) ≤ 384)
-    unfolding access.sizeAllowed
-    sizes true u =
-        let z = rw u at sized in (
-          leb-true 1 (length payload) (and-first (leb 1 (length payload)) _ z),
-          (let m = leb-true (length payload) 376 (and-second (leb 1 (length payload)) _ z) in omega arith),
-        )
-    sizes false u =
-        let z = rw u at sized in (
-          leb-true 1 (length payload) (and-first (leb 1 (length payload)) _ z),
-          (let m = leb-true (length payload) 380 (and-second (leb 1 (length payload)) _ z) in omega arith),
-        )
-
     pub access-fits : Fits payload (octetsOf node s) 384
     access-fits =
-        let z = sizes szmic refl in
         let l = secured-length (k .key) e payload in
-        record { some = z .0; enough = subst (λ (c : List ℕ). length c ≤ 384) octets-same (rw l (rw envelope-same (z .1))) }
+        record { some = passed .some-payload; enough = subst (λ (c : List ℕ). length c ≤ 384) octets-same (rw l (rw envelope-same (passed .payload-most))) }
 
     -- the receiver holds the key, and it is the first that opens the message
     application-reads :
@@ -141,29 +112,16 @@ module _ (sender : Receiver) (node : Node) (shared : Shared (sender .node) node)
 
   -- ---- a control message; one that is segmented has more than 11 parameters
   module _ (code : ℕ) (parameters : List ℕ) (allowed : control.controlAllowed sender q code (length parameters) ≡ true) where
-    asked-control : requestAllowed (sender .node) q ≡ true
-    unfolding control.controlAllowed
-    asked-control = and-first (requestAllowed (sender .node) q) _ allowed
+    passed-control : ControlAllowed (sender .node) q code (length parameters)
+    passed-control = control-allows sender q code (length parameters) allowed
 
     pub opcode-range : OpcodeInRange code
-    unfolding control.controlAllowed
-    opcode-range =
-        let b = and-second (requestAllowed (sender .node) q) _ allowed in
-        record {
-          not-zero = leb-true 1 code (and-first (leb 1 code) _ b);
-          opcode-fits = leb-true code 0x7F (and-first (leb code 0x7F) _ (and-second (leb 1 code) _ b));
-        }
-
-    pub parameters-most : length parameters ≤ 256
-    unfolding control.controlAllowed
-    parameters-most =
-        let b = and-second (leb code 0x7F) _ (and-second (leb 1 code) _ (and-second (requestAllowed (sender .node) q) _ allowed)) in
-        leb-true (length parameters) 256 (and-first (leb (length parameters) 256) _ b)
+    opcode-range = record { not-zero = passed-control .opcode-least; opcode-fits = passed-control .opcode-most }
 
   -- ---- the speech is one that the receiver is to read
-  pub request-of : (words : Words) → allowedAs sender q words ≡ true → requestAllowed (sender .node) q ≡ true
-  request-of (Access key szmic payload) a = asked key szmic payload a
-  request-of (Control code parameters) a = asked-control code parameters a
+  pub request-of : (words : Words) → allowedAs sender q words ≡ true → Asked (sender .node) q
+  request-of (Access key szmic payload) a = passed key szmic payload a .asks
+  request-of (Control code parameters) a = passed-control code parameters a .asks
 
   pub words-of :
       (words : Words) → allowedAs sender q words ≡ true → wholeAs sender q words ≡ false
@@ -171,7 +129,7 @@ module _ (sender : Receiver) (node : Node) (shared : Shared (sender .node) node)
   words-of (Access key szmic payload) a w f = access-read key szmic payload a f
   words-of (Control code parameters) a w f =
       let n = leb-false (length parameters) 11 w in
-      (record { some = omega arith; enough = parameters-most code parameters a }, opcode-range code parameters a)
+      (record { some = omega arith; enough = passed-control code parameters a .parameters-most }, opcode-range code parameters a)
 
   module _ (made : WellMade (sender .node)) where
     pub near : (sendingIv (sender .node) ≡ node .iv) ⊎ (sendingIv (sender .node) + 1 ≡ node .iv)
@@ -182,15 +140,7 @@ module _ (sender : Receiver) (node : Node) (shared : Shared (sender .node) node)
         (λ t. rw t (inl (shared .iv-same)))
 
   pub held : (words : Words) → allowedAs sender q words ≡ true → q .network < min (node .networks) 4
-  unfolding requestAllowed
-  held words a =
-      let b = and-second (ltb (q .element) (min (sender .node .elements) 8)) _ (request-of words a) in
-      let h = ltb-true (q .network) (min (sender .node .networks) 4) (and-first (ltb (q .network) (min (sender .node .networks) 4)) _ b) in
-      rw (sym (shared .networks-same)) h
-
-  pub element-there : (words : Words) → allowedAs sender q words ≡ true → q .element < min (sender .node .elements) 8
-  unfolding requestAllowed
-  element-there words a = ltb-true (q .element) (min (sender .node .elements) 8) (and-first (ltb (q .element) (min (sender .node .elements) 8)) _ (request-of words a))
+  held words a = rw (sym (shared .networks-same)) (request-of words a .network-there)
 
   -- ---- what is kept
   pub record Kept (s : Speech) (o : Outgoing) : Type 0 where
@@ -216,7 +166,7 @@ module _ (sender : Receiver) (node : Node) (shared : Shared (sender .node) node)
         ttl-is = refl;
       }
   kept (Control code parameters) a =
-      let f = parameters-most code parameters a in
+      let f = passed-control code parameters a .parameters-most in
       record { src-is = refl; auth-is = refl; terms-is = refl; octets-are = taken-back 384 parameters (omega arith); ttl-is = refl }
 
   -- ---- a segment's header is the speech's

@@ -1,30 +1,29 @@
 -- The segments of one speech heard in their order by a fresh receiver: the places filled before segment n are those below it, so segment SegN is the last that was missing, and no other is.
 -- Assumes nothing.
-use mathlib.Core.Bool.{Bool, true, false, _&&_, not, false≢true, true≢false}
+use mathlib.Core.Bool.{true, false, true≢false}
 use mathlib.Core.List.{List, [], _∷_, map}
-use mathlib.Core.Path.{_≡_, refl, sym, ap, _∙_, subst}
-use Prim.Native.Nat.{ℕ, zero, suc, _+_, _-_, _^_, _≤_, _<_, min}
+use mathlib.Core.Path.{_≡_, refl, sym, ap, _∙_}
+use Prim.Native.Nat.{ℕ, zero, suc, _+_, _-_, _≤_, _<_, min}
 use native.Mathlib.Nat.{pow-suc}
 use native.Mathlib.Omega.{arith}
-use borrow.Author.Tests.{eq-eqb, ne-eqb, eqb-true}
+use borrow.Author.Tests.{eq-eqb, ne-eqb}
 use lib.Dec.{eqb}
 use lib.ListN.{length}
 use lib.Pow.{pow-pos}
 use Rattle.common.specs.Bits.{hasBit, withBit, allBits}
-use Rattle.common.specs.Choice.{if_then_else_}
 use Rattle.common.specs.Lists.{tabFrom}
 use Rattle.common.proofs.BitLaws.{has-none, has-all, has-all-above, with-of-clear}
 use Rattle.node.specs.declared.addresses.Node.{Node}
 use Rattle.node.specs.Made.{WellMade}
 use Rattle.receiver.specs.declared.state.Receiver.{Receiver}
-use Rattle.demands.specs.Call.{Call, Hear, step, left, run}
+use Rattle.demands.specs.Call.{Hear, step, left, run}
 use Rattle.demands.specs.Interleaved as scene
 use Rattle.demands.specs.Interleaved.{Segment, speechAt, comeWith, isLastMissing, Spent, handed, tried}
 use Rattle.demands.specs.ReadBack.{lastOnly, storedFirst, countedLast, hearAll}
 use Rattle.demands.specs.Speech.{Speech, lastOf, segmentPdu, Speakable, Handed, handUp, Tried, networkPlace}
 use Rattle.demands.proofs.ArrivalLaws.{Next, event-next}
-use Rattle.demands.proofs.SceneLaws.{speakerOf, Scenery}
-use Rattle.demands.proofs.SpeechLaws.{last-low}
+use Rattle.demands.proofs.SceneLaws.{Scenery}
+use Rattle.demands.proofs.SpeechCut.{last-low}
 
 -- ---- the places below n
 abbrev pub below : ℕ → ℕ

@@ -1,43 +1,40 @@
 -- The segments that a sender makes one after another: each takes the next SEQ of the element that began the message, and its PDU is that of the speech. Assumes nothing.
 --   Keeps         the sender before segment n
 --   rest-sent     segments n and on
-use mathlib.Core.Bool.{Bool, true, false, false≢true}
-use mathlib.Core.List.{List, [], _∷_, map}
+use mathlib.Core.Bool.{true, false≢true}
+use mathlib.Core.List.{List, map}
 use mathlib.Core.Path.{_≡_, refl, sym, ap, _∙_, subst}
-use Prim.Native.Nat.{ℕ, zero, suc, _+_, _-_, _%_, _≤_, _<_, min}
+use Prim.Native.Nat.{ℕ, zero, suc, _+_, _%_, _≤_, _<_, min}
 use native.Mathlib.Omega.{arith}
 use borrow.Author.Tests.{eqb-true, eqb-false, lt-ltb, le-leb}
-use lib.Dec.{eqb, leb, ltb}
-use lib.ListN.{length, getD, set, take, length-set}
+use lib.Dec.{eqb}
+use lib.ListN.{length, take, length-set}
 use lib.Seq.{getD-set-same}
-use Rattle.common.specs.Choice.{if_then_else_}
 use Rattle.common.specs.Lent.{Lent}
 use Rattle.common.specs.Lists.{tabFrom}
 use Rattle.common.proofs.Tests.{by-test}
 use Rattle.network.specs.declared.header.Header.{Header}
 use Rattle.network.specs.Candidates.{keyAt}
-use Rattle.network.specs.Pdu.{pduOf}
 use Rattle.network.specs.Sealing.{sealable}
 use Rattle.memory.specs.declared.outgoing.Outgoing.{Outgoing}
 use Rattle.node.specs.declared.addresses.Node.{Node}
 use Rattle.node.specs.Addresses.{isLocal}
 use Rattle.node.specs.Made.{WellMade}
 use Rattle.receiver.specs.declared.state.Receiver.{Receiver}
-use Rattle.receiver.specs.State.{withOutgoing}
 use Rattle.sending.specs.declared.answer.Spoken.{Spoken}
 use Rattle.sending.specs.declared.request.Request.{Request}
 use Rattle.sending.specs.Request.{ttlOf}
 use Rattle.sending.specs.Segment.{segmentHeader, elementOf, sendingSegment}
-use Rattle.sending.specs.Transmission.{addressOf, nextSeq, withNext, stamped}
+use Rattle.sending.specs.Transmission.{addressOf, nextSeq, stamped}
+use Rattle.sending.proofs.Laws.Calls.{walk-segment}
+use Rattle.sending.proofs.Laws.Transmitted.{used, saying}
 use Rattle.demands.specs.Call.{Call, SendSegment, Outcome, step, left, run}
 use Rattle.demands.specs.Interleaved.{Each}
-use Rattle.demands.specs.NeverTwice.{madeBy, made, lengthBy}
+use Rattle.demands.specs.NeverTwice.{madeBy, made}
 use Rattle.demands.specs.ReadBack.{Shared, pduMade}
 use Rattle.demands.specs.Speech.{Speech, headerOf, segmentPdu}
 use Rattle.demands.proofs.SaidLaws.{Kept, header-said}
 use Rattle.demands.proofs.SentLaws.{Transmits, SaidBy, said-by}
-use Rattle.demands.proofs.SpeechLaws.{termsOf}
-use Rattle.demands.proofs.Walks.{saying, walk-segment}
 
 -- an element's address is its own
 pub element-back : (node : Node) → WellMade node → (element : ℕ) → element < min (node .elements) 8 → elementOf node (addressOf node element) ≡ element
@@ -74,8 +71,7 @@ module _ (sender : Receiver) (made-node : WellMade (sender .node)) (node : Node)
     pub next-is : nextSeq r element ≡ first + n
     pub places : length (r .next) ≡ 8
 
-  pub keeps-next : (r : Receiver) (n : ℕ) → Keeps r n → Keeps (withNext r element) (suc n)
-  unfolding withNext
+  pub keeps-next : (r : Receiver) (n : ℕ) → Keeps r n → Keeps (used r element) (suc n)
   keeps-next r n k =
       let p = k .places in
       let e = k .next-is in

@@ -2,32 +2,31 @@
 -- filled; what belongs to other speakers stays. Assumes nothing.
 --   Step            what a segment is to do
 --   placed-steps    it does
-use mathlib.Core.Bool.{Bool, true, false, _&&_, not, false≢true, true≢false}
+use mathlib.Core.Bool.{Bool, true, false, true≢false}
 use mathlib.Core.List.{List, [], _∷_}
 use mathlib.Core.Path.{_≡_, refl, sym, ap, _∙_, subst}
-use Prim.Native.Nat.{ℕ, _+_, _≤_, _<_}
+use Prim.Native.Nat.{ℕ, _≤_, _<_}
 use native.Mathlib.Omega.{arith}
-use borrow.Author.Tests.{eq-eqb, ne-eqb, eqb-true, eqb-false, lt-ltb, ltb-true, ltb-false}
-use lib.Dec.{eqb, ltb}
-use lib.ListN.{length, getD, set, replicate}
-use lib.Seq.{getD-set-same, take-append-seam}
+use borrow.Author.Tests.{eqb-true, eqb-false}
+use lib.Dec.{eqb}
+use lib.ListN.{length, set, replicate}
+use lib.Seq.{take-append-seam}
 use Rattle.common.specs.Bits.{hasBit, withBit, allBits}
 use Rattle.common.specs.Choice.{if_then_else_}
 use Rattle.common.specs.Lent.{Lent, lent}
 use Rattle.common.specs.Lists.{onto}
 use Rattle.common.proofs.BitLaws.{has-none, has-all, has-with-own, with-of-set}
-use Rattle.common.proofs.Search.{first-upto}
-use Rattle.common.proofs.Tests.{by-test, by-choice}
+use Rattle.common.proofs.Tests.{by-test}
 use Rattle.network.specs.declared.header.Header.{Header}
-use Rattle.memory.specs.declared.decision.Decision.{Decision}
-use Rattle.memory.specs.declared.decision.Decision.the-variants.{Repeat, Join, Open}
 use Rattle.memory.specs.declared.replay.Entry.{Entry}
 use Rattle.memory.specs.declared.session.Session.{Session}
-use Rattle.memory.specs.Decision.{sessionAt, decision}
-use Rattle.memory.specs.Replay.{noEntry, entryPlace, lookUp, hasRoom, inserted, raised, handedUp}
-use Rattle.memory.specs.Session.{noSession, sessionPlace, begun, stored, complete}
-use Rattle.memory.proofs.ReplayMap.{lookUp-handedUp-own, lookUp-handedUp-other}
-use Rattle.memory.proofs.SessionSlots.{session-source, place-set-own, session-set-own}
+use Rattle.memory.specs.Decision.{sessionAt}
+use Rattle.memory.specs.Replay.{noEntry, lookUp, hasRoom, handedUp}
+use Rattle.memory.specs.Session.{noSession, sessionPlace, begun, stored}
+use Rattle.memory.proofs.Apart.{past}
+use Rattle.memory.proofs.ReplayMap.{handedUp-sets, lookUp-handedUp-first, lookUp-handedUp-other}
+use Rattle.memory.proofs.SessionSlots.{session-source, place-upto, place-set-own, session-set-own, freed-none}
+use Rattle.memory.proofs.Stored.{begun-is}
 use Rattle.node.specs.declared.addresses.Node.{Node}
 use Rattle.node.specs.Made.{WellMade}
 use Rattle.receiver.specs.declared.answer.Answer.{Answer}
@@ -37,18 +36,16 @@ use Rattle.receiver.specs.declared.state.Receiver.{Receiver}
 use Rattle.receiver.specs.Good.{Good}
 use Rattle.receiver.specs.Segmented as segments
 use Rattle.receiver.specs.State.{withReplay, withSession}
-use Rattle.receiver.proofs.Laws.{placed-repeat, placed-join, placed-open, gathered-stored, gathered-up, upgraded-is}
+use Rattle.receiver.proofs.Laws.Segment.{placed-last, placed-repeat, placed-join, placed-open, gathered-stored, gathered-up, upgraded-is}
 use Rattle.demands.specs.Interleaved.{isLastMissing, handedAs}
-use Rattle.demands.specs.Speech.{Words, Access, Control, Speech, isControl, lastOf, headerOf, Speakable, Handed, handUpAs, handUp, applicationPlace}
-use Rattle.demands.proofs.GatherLaws.{Holds, holds-begun, stored-is, newLen, newBytes, holds-more, holds-all}
+use Rattle.demands.specs.Speech.{Words, Access, Control, Speech, lastOf, headerOf, Speakable, handUpAs, handUp, applicationPlace}
+use Rattle.demands.proofs.GatherLaws.{Holds, holds-begun, segment-stored, newLen, newBytes, holds-more, holds-all}
 use Rattle.demands.proofs.RoomLaws.{Owned, owned-set}
-use Rattle.demands.proofs.SpeechLaws.{last-low, sessionOf, session-up}
-use Rattle.demands.proofs.StageLaws.{entryOf, segmentAt, Stage, Silent, Gathers, Done, decide-done, decide-silent, decide-repeat, decide-join, stage-other, freed-none}
+use Rattle.demands.proofs.SpeechCut.{last-low}
+use Rattle.demands.proofs.SpeechSession.{sessionOf, session-up}
+use Rattle.demands.proofs.StageLaws.{segmentAt, Stage, Silent, Gathers, Done, stage-other}
 
 -- the speakers' sessions and entries
-abbrev pub past : Session
-past = sessionAt [] 0
-
 abbrev pub SessionsOwned : ℕ → (ℕ → ℕ) → List Session → Type 0
 SessionsOwned n speaker l = Owned (λ (s : Session). s .src) past 8 n speaker l
 
@@ -154,24 +151,13 @@ module _ (node : Node) (made : WellMade node) (s : Speech) (w : Speakable node s
           }
 
       -- complete
-      raised-none : raised noEntry (s .auth) ≡ s .auth
-      unfolding raised
-      raised-none = refl
-
-      entry-own : lookUp (handedUp (r .replay) (s .src) (s .auth) (lastOf node s) (s .dst)) (s .src) ≡ entryOf node s
-      entry-own =
-          lookUp-handedUp-own (r .replay) (s .src) (s .auth) (lastOf node s) (s .dst) (g .entry-places) room
-          ∙ rw (none, raised-none) refl
-
       entry-owned :
           (n : ℕ) (speaker : ℕ → ℕ) (k : ℕ) → k < n → s .src ≡ speaker k → EntriesOwned n speaker (r .replay)
           → EntriesOwned n speaker (handedUp (r .replay) (s .src) (s .auth) (lastOf node s) (s .dst))
-      unfolding handedUp inserted
       entry-owned n speaker k h q o =
-          let l = r .replay in
-          let put : (p : ℕ) (x : Entry) → x .src ≡ s .src → EntriesOwned n speaker (set l p x) =
-          λ p x e. owned-set (λ (y : Entry). y .src) noEntry 32 n speaker l o (g .entry-places) p x k h (λ _. e ∙ q) in
-          by-choice (EntriesOwned n speaker) (ltb (entryPlace l (s .src)) 32) (λ _. put _ _ refl) (λ _. put _ _ refl)
+          let u = handedUp-sets (r .replay) (s .src) (s .auth) (lastOf node s) (s .dst) in
+          subst (EntriesOwned n speaker) (sym (u .3))
+          (owned-set (λ (y : Entry). y .src) noEntry 32 n speaker (r .replay) o (g .entry-places) (u .0) (u .1) k h (λ _. u .2 ∙ q))
 
       -- the message is handed up, which leaves q
       abbrev handing : Receiver → Lent Taken
@@ -186,7 +172,8 @@ module _ (node : Node) (made : WellMade node) (s : Speech) (w : Speakable node s
             stores = λ _ f. absurd (true≢false (sym c ∙ f));
             counts = rw (last-missing bits i (lastOf node s) fresh true c) refl;
             own =
-                Done (eqb-true filled (allBits (lastOf node s)) c) (freed-none (r .sessions) slot (s .src) long spoken only) entry-own;
+                Done (eqb-true filled (allBits (lastOf node s)) c) (freed-none (r .sessions) slot (s .src) long spoken only)
+                (lookUp-handedUp-first (r .replay) (s .src) (s .auth) (lastOf node s) (s .dst) (g .entry-places) room none);
             others = λ o b n z k.
                 stage-other node o (r .replay) _ (r .sessions) b slot noSession z (stood (o .src) n z)
                 (lookUp-handedUp-other (r .replay) (s .src) (s .auth) (lastOf node s) (s .dst) (o .src) n z) k;
@@ -196,15 +183,15 @@ module _ (node : Node) (made : WellMade node) (s : Speech) (w : Speakable node s
           }
 
       pub gathered-steps : 384 ≤ length msg → Step node s r bits i (segments.gathered r slot session msg)
-      unfolding complete
       gathered-steps big =
           by-test (eqb filled (allBits (lastOf node s)))
           (λ c.
-          let all = subst (λ (b : ℕ). Holds node s b len bytes) (eqb-true filled (allBits (lastOf node s)) c) holds in
+          let full = eqb-true filled (allBits (lastOf node s)) c in
+          let all = subst (λ (b : ℕ). Holds node s b len bytes) full holds in
           let u = session-up node made s w (withSession r slot noSession) same filled len bytes msg big (holds-all node s w len bytes all) in
-          let is = gathered-up r slot session msg c ∙ u ∙ ap handing (upgraded-is (withSession r slot noSession) session msg) in
+          let is = gathered-up r slot session msg full ∙ u ∙ ap handing (upgraded-is (withSession r slot noSession) session msg) in
           subst (Step node s r bits i) (sym is) (up-step c))
-          (λ c. subst (Step node s r bits i) (sym (gathered-stored r slot session msg c)) (stored-step c))
+          (λ c. subst (Step node s r bits i) (sym (gathered-stored r slot session msg (eqb-false filled (allBits (lastOf node s)) c))) (stored-step c))
 
     -- ---- at each stage
     module _ (sent : s .dst ≡ 0 → ⊥) (big : 384 ≤ length msg) (seq ttl : ℕ) (room : hasRoom (r .replay) (s .src) ≡ true)
@@ -216,10 +203,9 @@ module _ (node : Node) (made : WellMade node) (s : Speech) (w : Speakable node s
       t = segments.placed r h (segmentAt node s i) msg
 
       repeated :
-          (b : ℕ) → decision (r .replay) (r .sessions) (s .src) (segmentAt node s i) ≡ Repeat b → hasBit bits i ≡ true
+          (b : ℕ) → t ≡ lent (record { answer = Repeated (s .src) (s .auth) b; trials = 0; receiver = r }) msg → hasBit bits i ≡ true
           → Stage node s (r .replay) (r .sessions) bits → Step node s r bits i t
-      unfolding headerOf
-      repeated b e has st = subst (Step node s r bits i) (sym (placed-repeat r h msg (segmentAt node s i) b e)) (again has st (Repeated (h .src) (s .auth) b) refl)
+      repeated b e has st = subst (Step node s r bits i) (sym e) (again has st (Repeated (s .src) (s .auth) b) refl)
 
       -- the session that stands in a slot is its source's alone
       own-only : (j : ℕ) → j < 8 → sessionAt (r .sessions) j .src ≡ s .src → sessionPlace (r .sessions) (s .src) < 8 → j ≡ sessionPlace (r .sessions) (s .src)
@@ -234,23 +220,14 @@ module _ (node : Node) (made : WellMade node) (s : Speech) (w : Speakable node s
       unfolding headerOf
       joined len bytes has none own held holds =
           let slot = sessionPlace (r .sessions) (s .src) in
-          let e = decide-join node s (r .replay) (r .sessions) i none room bits len bytes own held has in
+          let e = placed-join r h msg (segmentAt node s i) none room (sessionOf node s bits len bytes) own held refl refl has in
           let more = holds-more node s w bits len bytes holds i there seq ttl in
           let new = newLen node s w bits len bytes holds i there seq ttl in
           let laid = newBytes node s w bits len bytes holds i there seq ttl in
-          subst (Step node s r bits i) (sym (placed-join r h msg (segmentAt node s i) slot e))
-          (rw (held, stored-is node s w bits len bytes holds i there seq ttl)
+          subst (Step node s r bits i) (sym e)
+          (rw (segment-stored node s w bits len bytes holds i there seq ttl)
           (gathered-steps has none room slot own (omega arith) (λ j hj q. own-only j hj q own)
           (λ a n z q. n (q ∙ ap (λ (x : Session). x .src) held)) new laid more big))
-
-      -- a source that has no slot stands in none
-      none-own : (j : ℕ) → sessionAt (r .sessions) j .src ≡ s .src → sessionPlace (r .sessions) (s .src) ≤ j
-      unfolding sessionPlace
-      none-own j e = first-upto (λ (x : Session). eqb (x .src) (s .src)) (r .sessions) j past (eq-eqb (sessionAt (r .sessions) j .src) (s .src) e)
-
-      begun-is : begun (s .src) (segmentAt node s i) ≡ sessionOf node s 0 0 (replicate 384 0)
-      unfolding begun
-      begun-is = refl
 
       opened :
           bits ≡ 0 → lookUp (r .replay) (s .src) ≡ noEntry → 8 ≤ sessionPlace (r .sessions) (s .src) → Step node s r bits i t
@@ -259,26 +236,28 @@ module _ (node : Node) (made : WellMade node) (s : Speech) (w : Speakable node s
           let slot = sessionPlace (r .sessions) 0 in
           let within = free out in
           let long = g .session-places in
-          let e = decide-silent node s (r .replay) (r .sessions) i none room out within in
+          let e = placed-open r h msg (segmentAt node s i) none room out within in
           let holds = subst (λ (b : ℕ). Holds node s b 0 (replicate 384 0)) (sym zero) (holds-begun node s) in
           let more = holds-more node s w bits 0 (replicate 384 0) holds i there seq ttl in
           let new = newLen node s w bits 0 (replicate 384 0) holds i there seq ttl in
           let laid = newBytes node s w bits 0 (replicate 384 0) holds i there seq ttl in
           let begins : stored (begun (s .src) (segmentAt node s i)) h i ≡ sessionOf node s (withBit bits i) new laid =
-          ap (λ (x : Session). stored x h i) (begun-is ∙ ap (λ (b : ℕ). sessionOf node s b 0 (replicate 384 0)) (sym zero))
-          ∙ stored-is node s w bits 0 (replicate 384 0) holds i there seq ttl in
-          subst (Step node s r bits i) (sym (placed-open r h msg (segmentAt node s i) slot e))
+          ap (λ (x : Session). stored x h i) (begun-is (s .src) (segmentAt node s i) ∙ ap (λ (b : ℕ). sessionOf node s b 0 (replicate 384 0)) (sym zero))
+          ∙ segment-stored node s w bits 0 (replicate 384 0) holds i there seq ttl in
+          subst (Step node s r bits i) (sym e)
           (rw begins
           (gathered-steps (rw zero (has-none i)) none room slot within (omega arith)
-          (λ j hj q. let u = none-own j q in absurd (omega arith))
+          (λ j hj q. let u = place-upto (r .sessions) (s .src) j q in absurd (omega arith))
           (λ a n z q. z (q ∙ session-source (r .sessions) 0 (omega arith))) new laid more big))
 
       pub placed-steps : Stage node s (r .replay) (r .sessions) bits → Step node s r bits i t
+      unfolding headerOf
       placed-steps (Silent b p e) = opened b e p
       placed-steps (Gathers len bytes z m p held k e) =
           by-test (hasBit bits i)
-          (λ has. repeated bits (decide-repeat node s (r .replay) (r .sessions) i e room bits len bytes p held has) has (Gathers len bytes z m p held k e))
+          (λ has.
+          repeated bits (placed-repeat r h msg (segmentAt node s i) e room (sessionOf node s bits len bytes) p held refl refl has) has (Gathers len bytes z m p held k e))
           (λ has. joined len bytes has e p held k)
       placed-steps (Done b p e) =
           let has = ap (λ (x : ℕ). hasBit x i) b ∙ has-all (lastOf node s) i there low in
-          repeated (allBits (lastOf node s)) (decide-done node s (r .replay) (r .sessions) i sent e) has (Done b p e)
+          repeated (allBits (lastOf node s)) (placed-last r h msg (segmentAt node s i) sent (ap (λ (x : Entry). x .last) e)) has (Done b p e)

@@ -1,76 +1,46 @@
 -- A message that went whole, heard by a fresh receiver: its PDU opens to the header that was sealed, nothing is in the cache or the replay list, and the form is the one that was written.
 -- Assumes nothing.
 --   access-heard, control-heard   what is handed up
-use mathlib.Core.Bool.{Bool, true, false, _&&_, _||_, not, false≢true, true≢false}
-use mathlib.Core.List.{List, [], _∷_, _++_}
-use mathlib.Core.Logic.{_⊎_}
-use mathlib.Core.Path.{_≡_, refl, sym, ap, _∙_, subst}
-use Prim.Native.Nat.{ℕ, _+_, _≤_, _<_, min}
-use native.Mathlib.Omega.{arith}
-use borrow.Author.Tests.{le-ltb, leb-true}
-use lib.Dec.{eqb, leb, ltb}
-use lib.ListN.{length, take, drop, replicate}
+use mathlib.Core.Bool.{Bool, true}
+use mathlib.Core.List.{List, [], _∷_}
+use mathlib.Core.Path.{_≡_, refl, ap, _∙_}
+use Prim.Native.Nat.{ℕ, _+_, _≤_}
+use lib.ListN.{length, drop}
 use lib.Seq.{take-append-seam}
-use Rattle.common.specs.Choice.{if_then_else_}
 use Rattle.common.specs.Lent.{Lent, lent}
-use Rattle.common.specs.Lists.{onto, padded}
-use Rattle.common.specs.Search.{first}
-use Rattle.common.proofs.Tests.{by-test, and-first, and-second}
-use Rattle.modes.specs.Ccm.{micOctets}
+use Rattle.common.specs.Lists.{onto}
 use Rattle.network.specs.declared.header.Header.{Header}
-use Rattle.network.specs.declared.opening.Answer.the-variants as network
-use Rattle.network.specs.Address.{isUnicast}
 use Rattle.network.specs.Candidates.{keyAt, candidates}
 use Rattle.network.specs.Header.{transportOf}
-use Rattle.network.specs.Opening.{opening}
 use Rattle.network.specs.Pdu.{pduOf}
 use Rattle.network.specs.Sealing.{sealable}
 use Rattle.network.specs.SealOpen.{Formed, Receives}
-use Rattle.network.proofs.Sealed.{within}
 use Rattle.network.proofs.SealOpen.{open-seal}
-use Rattle.transport.specs.declared.form.Form.{Form}
 use Rattle.transport.specs.declared.form.Form.the-variants as form
 use Rattle.transport.specs.declared.securing.MessageKey.{MessageKey}
-use Rattle.transport.specs.declared.securing.MessageKey.the-variants.{Application, Device}
-use Rattle.transport.specs.declared.securing.Opened.{Opened}
 use Rattle.transport.specs.declared.securing.Opened.the-variants.{Message}
-use Rattle.transport.specs.Form.{keyFits, formOf}
-use Rattle.transport.specs.Ranges.{KeyInRange, OpcodeInRange}
-use Rattle.transport.specs.ReadsBack.{Carries}
-use Rattle.transport.specs.SecureOpen as message
-use Rattle.transport.specs.Securing.{transMic, secured, unsecuring}
-use Rattle.transport.specs.Segment.{accessOctet, controlOctet}
-use Rattle.transport.proofs.ReadsBack.{access-reads-back, control-reads-back}
-use Rattle.memory.specs.Cache.{noCache, seen, remembered}
-use Rattle.memory.specs.Replay.{noEntry, noEntries, entryPlace, lookUp, stale, hasRoom}
-use Rattle.memory.proofs.ReplayMap.{lookUp-none}
+use Rattle.transport.specs.Form.{formOf}
+use Rattle.transport.specs.Securing.{unsecuring}
+use Rattle.memory.specs.Cache.{remembered}
 use Rattle.node.specs.declared.setup.Setup.{Setup}
 use Rattle.node.specs.Addresses.{forNode}
 use Rattle.receiver.specs.declared.answer.Answer.the-variants as answer
 use Rattle.receiver.specs.declared.answer.Taken.{Taken}
 use Rattle.receiver.specs.declared.state.Receiver.{Receiver}
-use Rattle.receiver.specs.declared.whole.Admission.the-variants.{Admitted}
-use Rattle.receiver.specs.Fresh.{settingUp}
 use Rattle.receiver.specs.Hearing.{takenAs}
 use Rattle.receiver.specs.State.{withCache}
 use Rattle.receiver.specs.Whole as whole
-use Rattle.receiver.proofs.Laws.{heard-new, taken-access, taken-control}
+use Rattle.receiver.proofs.Laws.Form.{taken-access, taken-control}
+use Rattle.receiver.proofs.Laws.Fresh.{fresh-unseen, fresh-admits}
+use Rattle.receiver.proofs.Laws.Heard.{heard-new}
 use Rattle.demands.specs.Call.{Hear, step}
 use Rattle.demands.specs.Interleaved.{start, nodeOf, handedAs, handed, tried}
 use Rattle.demands.specs.Speech.{Handed, Tried}
-use Rattle.demands.proofs.SceneLaws.{seen-none}
 
 -- what a fresh receiver hands up of one PDU, and the keys that it counts
 pub record Reads (setup : Setup) (pdu fwd msg : List ℕ) (m : Handed) (n : Tried) : Type 0 where
   pub hands : handed (step (start setup) (Hear pdu fwd msg)) ≡ m ∷ []
   pub counts : tried (step (start setup) (Hear pdu fwd msg)) ≡ n
-
--- a fresh receiver admits every message
-admits : (h : Header) → whole.admission noEntries h ≡ Admitted
-unfolding whole.admission stale hasRoom entryPlace first
-admits h =
-    rw (lookUp-none (h .src))
-    (by-test (ltb (entryPlace noEntries (h .src)) 32) (λ t. rw t refl) (λ t. rw t refl))
 
 module _ (setup : Setup) (h : Header) (sealed : sealable (keyAt (nodeOf setup .keys) (h .key)) h ≡ true) (formed : Formed h)
     (receives : Receives (nodeOf setup .keys) (nodeOf setup .networks) (nodeOf setup .iv) h (pduOf (keyAt (nodeOf setup .keys) (h .key)) h))
@@ -81,10 +51,6 @@ module _ (setup : Setup) (h : Header) (sealed : sealable (keyAt (nodeOf setup .k
   -- the receiver with the PDU in its cache
   abbrev q : Receiver
   q = withCache (start setup) (remembered (start setup .cache) (h .src) (h .seq))
-
-  unseen : seen (start setup .cache) (h .src) (h .seq) ≡ false
-  unfolding settingUp
-  unseen = by-test (seen noCache (h .src) (h .seq)) (λ t. absurd (seen-none (h .src) (h .seq) spoken t)) (λ t. t)
 
   -- the place of its network key
   abbrev place : ℕ
@@ -97,13 +63,10 @@ module _ (setup : Setup) (h : Header) (sealed : sealable (keyAt (nodeOf setup .k
 
   heard-whole : (t : Lent Taken) → takenAs (formOf h) q h msg ≡ t → Whole t
   heard-whole t e =
-      let l = heard-new (start setup) pdu fwd msg wide big h place (open-seal (nodeOf setup .keys) (nodeOf setup .networks) (nodeOf setup .iv) h sealed formed receives) unseen here
+      let l = heard-new (start setup) pdu fwd msg wide big h place (open-seal (nodeOf setup .keys) (nodeOf setup .networks) (nodeOf setup .iv) h sealed formed receives)
+      (fresh-unseen setup (h .src) (h .seq) spoken) here
       t e in
       record { hands-as = rw (l .answers, l .message-is) refl; tried-as = rw (l .network-is, l .application-is) refl }
-
-  admitted-here : whole.admission (q .replay) h ≡ Admitted
-  unfolding settingUp
-  admitted-here = admits h
 
   -- ---- an access message
   pub access-heard :
@@ -114,7 +77,7 @@ module _ (setup : Setup) (h : Header) (sealed : sealable (keyAt (nodeOf setup .k
       → Reads setup pdu fwd msg (record { answer = answer.Access (h .src) (h .dst) (h .key) key (whole.pairOf h) (length payload); octets = payload })
       (record { network = place; application = trials })
   access-heard akf aid trials key payload f u =
-      let x = heard-whole _ (taken-access q h msg akf aid trials (length payload) key (onto payload msg) f admitted-here u) in
+      let x = heard-whole _ (taken-access q h msg akf aid trials (length payload) key (onto payload msg) f (fresh-admits setup h) u) in
       record {
         hands =
             x .hands-as
@@ -128,7 +91,7 @@ module _ (setup : Setup) (h : Header) (sealed : sealable (keyAt (nodeOf setup .k
       → Reads setup pdu fwd msg (record { answer = answer.Control (h .src) (h .dst) (h .key) code (whole.pairOf h) (length parameters); octets = parameters })
       (record { network = place; application = 0 })
   control-heard code parameters f m =
-      let x = heard-whole _ (taken-control q h msg code parameters f admitted-here m) in
+      let x = heard-whole _ (taken-control q h msg code parameters f (fresh-admits setup h) m) in
       record {
         hands =
             x .hands-as

@@ -3,16 +3,13 @@
 --   access-whole, control-whole   what is handed up
 use mathlib.Core.Bool.{Bool, true, false, true≢false}
 use mathlib.Core.List.{List, [], _∷_, _++_}
-use mathlib.Core.Path.{_≡_, refl, sym, ap, _∙_, subst}
-use Prim.Native.Nat.{ℕ, _+_, _≤_, _<_, min}
+use mathlib.Core.Path.{_≡_, refl, sym, ap, _∙_}
+use Prim.Native.Nat.{ℕ, _+_, _≤_, _<_}
 use native.Mathlib.Omega.{arith}
 use borrow.Author.Tests.{eq-eqb}
-use lib.ListN.{length, take, drop, replicate}
-use Rattle.common.specs.Choice.{if_then_else_}
-use Rattle.common.specs.Lent.{Lent, lent}
-use Rattle.common.specs.Lists.{onto, padded}
+use lib.ListN.{length, drop, replicate}
+use Rattle.common.specs.Lists.{padded}
 use Rattle.common.proofs.Tests.{by-test}
-use Rattle.modes.specs.Ccm.{micOctets}
 use Rattle.network.specs.declared.header.Header.{Header}
 use Rattle.network.specs.Address.{isUnicast}
 use Rattle.network.specs.Candidates.{keyAt}
@@ -20,28 +17,23 @@ use Rattle.network.specs.Header.{transportOf}
 use Rattle.network.specs.Pdu.{pduOf}
 use Rattle.network.specs.Sealing.{sealable}
 use Rattle.network.specs.SealOpen.{Formed, Receives}
-use Rattle.transport.specs.declared.form.Form.the-variants as form
-use Rattle.transport.specs.declared.securing.Envelope.{Envelope}
 use Rattle.transport.specs.declared.securing.MessageKey.{MessageKey}
 use Rattle.transport.specs.declared.securing.MessageKey.the-variants.{Application, Device}
-use Rattle.transport.specs.declared.securing.Opened.the-variants.{Message}
-use Rattle.transport.specs.Form.{keyFits, formOf}
+use Rattle.transport.specs.Form.{keyFits}
 use Rattle.transport.specs.Ranges.{KeyInRange, OpcodeInRange}
 use Rattle.transport.specs.ReadsBack.{Carries}
-use Rattle.transport.specs.SecureOpen as message
-use Rattle.transport.specs.Securing.{secured, applicationKeyAt, applicationCandidates, unsecuring}
 use Rattle.transport.specs.Segment.{accessOctet, controlOctet}
 use Rattle.transport.proofs.ReadsBack.{access-reads-back, control-reads-back}
-use Rattle.transport.proofs.SecureOpen.{secured-length, unsecure-secure, unsecure-secure-device}
+use Rattle.transport.proofs.SecureOpen.{secured-length}
 use Rattle.node.specs.declared.addresses.Node.{Node}
 use Rattle.node.specs.declared.setup.Setup.{Setup}
 use Rattle.node.specs.Addresses.{forNode}
 use Rattle.node.specs.Made.{WellMade}
-use Rattle.receiver.specs.Whole.{wholeEnvelope}
-use Rattle.demands.specs.Call.{Hear, step}
-use Rattle.demands.specs.Interleaved.{start, nodeOf}
-use Rattle.demands.specs.Speech.{Words, Access, Control, Speech, keyOf, aidOf, akfOf, envelopeOf, octetsOf, Fits, WordsRead, handUp, networkPlace, applicationPlace}
-use Rattle.demands.proofs.SpeechLaws.{padded-behind, taken-back, cut-is, message-opens}
+use Rattle.demands.specs.Interleaved.{nodeOf}
+use Rattle.demands.specs.Speech.{Words, Access, Control, Speech, keyOf, aidOf, akfOf, envelopeOf, octetsOf, WordsRead, handUp, networkPlace, applicationPlace}
+use Rattle.demands.proofs.SpeechCut.{cut-is}
+use Rattle.demands.proofs.SpeechMessage.{message-opens}
+use Rattle.demands.proofs.SpeechSegment.{padded-behind, taken-back}
 use Rattle.demands.proofs.WholeHeard.{Reads, access-heard, control-heard}
 
 -- the header of a speech that goes in one PDU: its pair is the PDU's own

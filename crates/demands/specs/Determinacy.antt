@@ -1,4 +1,4 @@
--- Determinacy: for each public operation, but those by which programs read and write text, two outcomes that satisfy its contract are equal. A contract is one equation between the outcome
+-- Determinacy: for each public operation of every crate two outcomes that satisfy its contract are equal. A contract is one equation between the outcome
 -- (answer, new state and each lent buffer) and the definition named here, so one line an operation says which definition that is.
 use mathlib.Core.Bool.{Bool}
 use mathlib.Core.List.{List, _++_}
@@ -7,6 +7,15 @@ use Prim.Native.Nat.{ℕ, _+_, min}
 use lib.ListN.{length, take, drop}
 use Rattle.aes.specs.Cipher.{cipher}
 use Rattle.aes.specs.KeyExpansion.{keySchedule}
+use Rattle.answers.specs.Answer.{heardText, forwardText, spokenText, givenUpText, setUpText, notedText}
+use Rattle.answers.specs.Looking.{receiverText}
+use Rattle.answers.specs.declared.answer.Trials.{Trials}
+use Rattle.commands.specs.Desk.{atStart, afterSetup, noting}
+use Rattle.commands.specs.Line.{lineOf}
+use Rattle.commands.specs.Setting.{nothing}
+use Rattle.commands.specs.declared.desk.Desk.{Desk}
+use Rattle.commands.specs.declared.desk.Reply.{Reply}
+use Rattle.commands.specs.declared.line.Line.{Line}
 use Rattle.common.specs.Bits.{hasBit, withBit, allBits}
 use Rattle.common.specs.Lists.{onto, same}
 use Rattle.common.specs.Search.{first as placeOf}
@@ -78,6 +87,7 @@ use Rattle.speed.specs.Open as speed
 use Rattle.text.specs.Field.{is, behind, fieldOf}
 use Rattle.text.specs.Hex.{hexValue, reading, filling, hexText}
 use Rattle.text.specs.Number.{numberOf, shortOf, octetOf, bitOf, numberText, decimalText}
+use Rattle.text.specs.Octets.{octets as text-octets}
 use Rattle.text.specs.Written.{putting}
 use Rattle.transport.specs.Form.{formOf}
 use Rattle.transport.specs.Opcode.{opcodeKind}
@@ -222,3 +232,18 @@ pub record Determinate : Type 0 where
   pub handed-up : (a : heard-answer.Answer) → Determined (words.handedUp a)
   pub put-said : (seq : ℕ) (a : spoken-answer.Answer) (pdu out : List ℕ) (at : ℕ) → Determined (putting (words.saidText seq a pdu) out at)
   pub put-answer : (a : heard-answer.Answer) (out : List ℕ) (at : ℕ) → Determined (putting (words.answerText a) out at)
+  -- commands
+  pub nothing : Determined (nothing)
+  pub desk-start : Determined (atStart)
+  pub desk-after-setup : (d : Desk) (ready : Bool) → Determined (afterSetup d ready)
+  pub desk-note : (d : Desk) (said : Line) (line : List ℕ) → Determined (noting d said line)
+  pub read-line : (line : List ℕ) (ready : Bool) (out : List ℕ) → Determined (lineOf line ready out)
+  -- answers
+  pub put-heard : (a : heard-answer.Answer) (t : Trials) (message out : List ℕ) (at : ℕ) → Determined (putting (heardText a t message) out at)
+  pub put-forward : (pdu out : List ℕ) (at : ℕ) → Determined (putting (forwardText pdu) out at)
+  pub put-spoken : (a : spoken-answer.Answer) (pdu out : List ℕ) (at : ℕ) → Determined (putting (spokenText a pdu) out at)
+  pub put-given-up : (a : give-up-answer.Answer) (out : List ℕ) (at : ℕ) → Determined (putting (givenUpText a) out at)
+  pub put-set-up : (a : fresh-answer.Answer) (out : List ℕ) (at : ℕ) → Determined (putting (setUpText a) out at)
+  pub put-noted : (r : Reply) (out : List ℕ) (at : ℕ) → Determined (putting (notedText r) out at)
+  pub put-unread : (out : List ℕ) (at : ℕ) → Determined (putting (text-octets "unread\n") out at)
+  pub put-receiver : (r : Receiver) (out : List ℕ) (at : ℕ) → Determined (putting (receiverText r) out at)

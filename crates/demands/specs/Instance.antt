@@ -3,7 +3,7 @@
 --   boxes, traffic      two boxes' messages, their segments interleaved, with repeats, a PDU that no key opens and a request to acknowledge
 --   SceneMet            all premises of demand 3 hold of it
 --   SendingMet          all premises of demand 2 hold of a box's report to the shed
-use mathlib.Core.Bool.{Bool, true, false}
+use mathlib.Core.Bool.{true, false}
 use mathlib.Core.List.{List, [], _∷_}
 use Prim.Native.Nat.{ℕ}
 use lib.ListN.{replicate}

@@ -1,5 +1,5 @@
 -- Demand 1, of sending and giving up: every refusal, 14, 15 or 16, leaves the receiver and the lent buffer as they were.
-use mathlib.Core.Bool.{Bool, true, false}
+use mathlib.Core.Bool.{Bool}
 use mathlib.Core.List.{List}
 use mathlib.Core.Path.{_≡_}
 use Prim.Native.Nat.{ℕ}

@@ -1,5 +1,5 @@
 -- A source has at most one replay entry and at most one session: an entry, and a session, is put where its source's stands, or where its source has none.
--- Assumes nothing.
+-- The place of a source is found by search, in either. Assumes nothing.
 use mathlib.Core.List.{List, []}
 use mathlib.Core.Path.{_≡_, refl, sym, ap, _∙_}
 use Prim.Native.Nat.{ℕ, _≤_, _<_}
@@ -67,6 +67,10 @@ module _ {A : Type 0} (source : A → ℕ) (d : A) where
         absurd (omega arith))
 
 -- ---- the replay list
+pub entryPlace-is : (l : List Entry) (src : ℕ) → entryPlace l src ≡ first (λ (e : Entry). eqb (e .src) src) l
+unfolding entryPlace
+entryPlace-is l src = refl
+
 abbrev pub EntriesApart : List Entry → Type 0
 EntriesApart l = Apart (λ (e : Entry). e .src) noEntry 32 l
 
@@ -88,7 +92,12 @@ module _ (l : List Entry) (long : length l ≡ 32) (a : EntriesApart l) where
   apart-handedUp src auth segN dst = apart-inserted _
 
 -- ---- the sessions
-abbrev past : Session
+pub sessionPlace-is : (l : List Session) (src : ℕ) → sessionPlace l src ≡ first (λ (s : Session). eqb (s .src) src) l
+unfolding sessionPlace
+sessionPlace-is l src = refl
+
+-- what is read past the last slot
+abbrev pub past : Session
 past = sessionAt [] 0
 
 abbrev pub SessionsApart : List Session → Type 0

@@ -9,4 +9,5 @@ pub mod ReplayMap
 pub mod SessionSlots
 pub mod Stored
 pub mod Within
+pub mod Decided
 pub mod Apart

@@ -10,6 +10,7 @@ use lib.Dec.{eqb, ltb}
 use lib.ListN.{length, getD, set, length-set, length-replicate, getD-replicate, List·getD-eq-default}
 use lib.Seq.{getD-set-same}
 use Rattle.common.specs.Choice.{if_then_else_}
+use Rattle.common.specs.Search.{first}
 use Rattle.common.proofs.Search.{first-passes, first-set-here, found-set-other}
 use Rattle.common.proofs.Tests.{by-test}
 use Rattle.memory.specs.declared.pair.Pair.{Pair}
@@ -50,7 +51,16 @@ module _ (l : List Entry) (src : ℕ) (room : hasRoom l src ≡ true) where
       let w = new-within in
       by-test (ltb (entryPlace l src) 32) (λ t. rw t (omega arith)) (λ t. let n = ltb-false (entryPlace l src) 32 t in omega arith)
 
+-- an empty place is room for any source
+pub hasRoom-free : (l : List Entry) (src : ℕ) → entryPlace l 0 < 32 → hasRoom l src ≡ true
+unfolding hasRoom
+hasRoom-free l src f = by-test (ltb (entryPlace l src) 32) (λ t. rw t refl) (λ t. rw (t, lt-ltb (entryPlace l 0) 32 f) refl)
+
 -- ---- a list with no entry
+pub hasRoom-none : (src : ℕ) → hasRoom noEntries src ≡ true
+unfolding entryPlace first
+hasRoom-none src = hasRoom-free noEntries src (omega arith)
+
 pub lookUp-none : (a : ℕ) → lookUp noEntries a ≡ noEntry
 unfolding lookUp
 lookUp-none a =
@@ -108,6 +118,11 @@ module _ (l : List Entry) (src : ℕ) (pair : Pair) where
     hasRoom-accepted = hasRoom-inserted l (record { src = src; pair = raised (lookUp l src) pair; last = lookUp l src .last }) long room
 
 module _ (l : List Entry) (src : ℕ) (auth : Pair) (segN dst : ℕ) where
+  -- one place is set, to an entry of the source
+  pub handedUp-sets : (p : ℕ) × (e : Entry) × (e .src ≡ src) × (handedUp l src auth segN dst ≡ set l p e)
+  unfolding handedUp
+  handedUp-sets = (newPlace l src, _, refl, inserted-is l _)
+
   pub length-handedUp : length (handedUp l src auth segN dst) ≡ length l
   unfolding handedUp
   length-handedUp = length-inserted l _
@@ -122,6 +137,13 @@ module _ (l : List Entry) (src : ℕ) (auth : Pair) (segN dst : ℕ) where
         ≡ record { src = src; pair = raised (lookUp l src) auth; last = record { auth = auth; segn = segN; dst = dst } }
     unfolding handedUp
     lookUp-handedUp-own = lookUp-inserted-own l _ long room
+
+    -- of a source that had no entry
+    pub lookUp-handedUp-first :
+        lookUp l src ≡ noEntry
+        → lookUp (handedUp l src auth segN dst) src ≡ record { src = src; pair = auth; last = record { auth = auth; segn = segN; dst = dst } }
+    unfolding raised
+    lookUp-handedUp-first none = lookUp-handedUp-own ∙ rw none refl
 
     pub hasRoom-handedUp : hasRoom (handedUp l src auth segN dst) src ≡ true
     unfolding handedUp

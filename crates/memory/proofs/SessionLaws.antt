@@ -114,11 +114,16 @@ module _ (t : List ℕ) (len : ℕ) where
 
 -- ---- the message's length
 module _ (s : Session) (h : Header) (segO : ℕ) where
+  -- its last segment tells it
+  pub length-last : segO ≡ s .terms .segn → lengthWith s h segO ≡ octetPlace (s .terms .ctl) segO + length (segmentOctets h)
+  unfolding lengthWith
+  length-last e = rw (eq-eqb segO (s .terms .segn) e)
+
   pub length-told :
       {at end : ℕ} → segO ≡ s .terms .segn → at ≡ octetPlace (s .terms .ctl) segO → end ≡ 4 + length (drop 4 (transportOf h))
       → at + (end - 4) ≡ lengthWith s h segO
-  unfolding lengthWith segmentOctets
-  length-told {at} {end} e ea ee = rw (eq-eqb segO (s .terms .segn) e) (omega (arith, ea, ee))
+  unfolding segmentOctets
+  length-told {at} {end} e ea ee = rw (length-last e) (omega (arith, ea, ee))
 
   pub length-kept : (segO ≡ s .terms .segn → ⊥) → s .len ≡ lengthWith s h segO
   unfolding lengthWith

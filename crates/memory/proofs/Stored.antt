@@ -1,15 +1,45 @@
--- A stored segment is read back at its place, and the octets before and behind it stay: it fits, since a segment has 12 octets at most.
--- Assumes nothing.
-use mathlib.Core.Path.{_≡_, _∙_}
-use Prim.Native.Nat.{ℕ, _+_, _≤_, _<_}
+-- A stored segment is read back at its place, and the octets before and behind it stay: it fits, since a segment has 12 octets at most. The rest of the session
+-- is read off the definitions. Assumes nothing.
+--   begun-is, stored-is, octets-are, place-is   a session's parts, as the definitions tell them
+--   length-stored, stored-read, stored-before, stored-behind   its octets
+use mathlib.Core.Bool.{Bool}
+use mathlib.Core.Path.{_≡_, refl, ap, _∙_}
+use Prim.Native.Nat.{ℕ, _+_, _*_, _%_, _≤_, _<_}
+use native.Mathlib.Nat.{mul-comm}
 use native.Mathlib.Omega.{arith}
-use lib.ListN.{length, getD, take, drop}
+use lib.ListN.{length, getD, take, drop, replicate}
+use Rattle.common.specs.Bits.{withBit}
 use Rattle.common.proofs.Onto.{length-laid, laid-read, laid-before, laid-behind}
 use Rattle.network.specs.declared.header.Header.{Header}
+use Rattle.network.specs.Header.{transportOf}
+use Rattle.transport.specs.Segment.{fullOctets}
+use Rattle.memory.specs.declared.session.Segment.{Segment}
 use Rattle.memory.specs.declared.session.Session.{Session}
-use Rattle.memory.specs.Session.{octetPlace, segmentOctets, stored}
+use Rattle.memory.specs.Session.{begun, octetPlace, segmentOctets, lengthWith, stored}
 use Rattle.memory.proofs.SessionLaws.{place-most, octets-length}
 
+-- ---- the parts
+pub begun-is : (src : ℕ) (seg : Segment) → begun src seg ≡ record { src = src; auth = seg .auth; terms = seg .terms; filled = 0; len = 0; bytes = replicate 384 0 }
+unfolding begun
+begun-is src seg = refl
+
+pub octets-are : (h : Header) → segmentOctets h ≡ drop 4 (transportOf h)
+unfolding segmentOctets
+octets-are h = refl
+
+-- the segments before it are full
+pub place-is : (ctl : Bool) (segO : ℕ) → segO < 32 → octetPlace ctl segO ≡ fullOctets ctl * segO
+unfolding octetPlace
+place-is ctl segO low = let e : segO % 32 ≡ segO = omega arith in ap (λ (n : ℕ). n * fullOctets ctl) e ∙ mul-comm segO (fullOctets ctl)
+
+module _ (s : Session) (h : Header) (segO : ℕ) where
+  pub stored-is :
+      stored s h segO
+      ≡ record { src = s .src; auth = s .auth; terms = s .terms; filled = withBit (s .filled) segO; len = lengthWith s h segO; bytes = stored s h segO .bytes }
+  unfolding stored
+  stored-is = refl
+
+-- ---- the octets
 -- a segment has 12 octets at most
 pub octets-most : (h : Header) → length (h .transport) ≡ 16 → length (segmentOctets h) ≤ 12
 unfolding segmentOctets

@@ -1,16 +1,14 @@
 -- `Forwarded`, `OpenForwarded`: a header stays sealable with TTL less 1, and neither the length of its PDU nor its form knows TTL; the rest is `OpenSeal`.
 -- Assumes nothing.
 use mathlib.Core.Bool.{true}
-use mathlib.Core.List.{List}
 use mathlib.Core.Path.{_≡_, refl, sym, _∙_}
-use Prim.Native.Nat.{ℕ, _-_, _≤_}
+use Prim.Native.Nat.{_-_, _≤_}
 use native.Mathlib.Omega.{arith}
 use borrow.Author.Tests.{lt-ltb, le-ltb, le-leb}
 use lib.ListN.{length}
 use Rattle.keys.specs.declared.NetworkKeys.{NetworkKeys}
 use Rattle.network.specs.declared.header.Header.{Header}
 use Rattle.network.specs.Candidates.{keyAt}
-use Rattle.network.specs.Pdu.{pduOf}
 use Rattle.network.specs.SealOpen.{Formed}
 use Rattle.network.specs.Sealing.{mostTransport, sealable, lowered, forwarding}
 use Rattle.network.specs.Forwarded.{Forwarded, OpenForwarded}

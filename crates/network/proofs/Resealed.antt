@@ -142,8 +142,14 @@ module _ (key : NetworkKeys) (place iv : ℕ) (pdu : List ℕ) (nid : key .nid �
         let left : length (drop 2 body) ≡ length body - 2 = length-drop 2 body in
         record {
           can =
-              simp (le-leb (key .nid) 127 nid, le-leb (ttlOf front) 127 (omega arith), le-leb (number (take 3 (drop 1 front))) 0xFFFFFF (omega arith), a,
-              le-leb 1 (length body - 2) (l .some), le-leb (length body - 2) (mostTransport (ctlOf front)) few);
+              simp (
+                le-leb (key .nid) 127 nid,
+                le-leb (ttlOf front) 127 (omega arith),
+                le-leb (number (take 3 (drop 1 front))) 0xFFFFFF (omega arith),
+                a,
+                le-leb 1 (length body - 2) (l .some),
+                le-leb (length body - 2) (mostTransport (ctlOf front)) few,
+              );
           formed = record { dst-fits = dst-fits-two; zeros-behind = padded-cut 16 (length body - 2) (drop 2 body) left (omega arith) };
           long = l .sum;
         }

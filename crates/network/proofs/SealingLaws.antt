@@ -2,14 +2,14 @@
 -- Key laws: `sealable-..`, one for each test; `body-written`, `front-written`, `pdu-written`; the answers `seal-..`.
 -- Assumes nothing.
 use mathlib.Core.Path.{_≡_, refl, sym, ap, ap₂, _∙_}
-use mathlib.Core.Bool.{Bool, true, false, _&&_}
-use mathlib.Core.List.{List, [], _∷_, _++_, append-assoc, append-nil}
+use mathlib.Core.Bool.{Bool, true, false}
+use mathlib.Core.List.{List, [], _∷_, _++_, append-nil}
 use Prim.Native.Nat.{ℕ, _+_, _-_, _<_, _≤_}
 use native.Mathlib.Omega.{arith}
-use borrow.Author.Tests.{lt-leb, le-leb, leb-true, lt-ltb, le-ltb}
+use borrow.Author.Tests.{lt-leb, le-leb, lt-ltb, le-ltb}
 use lib.Dec.{leb}
 use lib.ListN.{length, take, drop, length-append, length-drop}
-use lib.Seq.{length-take-le, take-all, take-at, take-append-le, take-append-add, drop-at, drop-drop, drop-length}
+use lib.Seq.{length-take-le, take-all, take-append-le, take-append-add, drop-at, drop-length}
 use Rattle.common.specs.Choice.{if_then_else_}
 use Rattle.common.specs.Lists.{padded, onto}
 use Rattle.common.specs.Lent.{Lent, lent}
@@ -17,7 +17,6 @@ use Rattle.common.proofs.Lists.{padded-all}
 use Rattle.common.proofs.Onto.{onto-before}
 use Rattle.aes.specs.KeyExpansion.{keySchedule}
 use Rattle.modes.specs.declared.ccm.MicSize.{MicSize}
-use Rattle.modes.specs.Ccm.{micOctets}
 use Rattle.modes.specs.Ccm as ccm
 use Rattle.modes.proofs.CcmLaws.{mic-octets-bounds, seal-done}
 use Rattle.keys.specs.declared.NetworkKeys.{NetworkKeys}

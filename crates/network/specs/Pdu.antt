@@ -2,7 +2,7 @@
 --   pduOf key h         the PDU of the header h under a key
 --   frontOf key iv pdu  octets 1-6 of a PDU, in clear
 use mathlib.Core.Bool.{Bool, true, false}
-use mathlib.Core.List.{List, [], _∷_, _++_}
+use mathlib.Core.List.{List, _∷_, _++_}
 use Prim.Native.Nat.{ℕ, _+_, _*_, _%_}
 use lib.ListN.{take, drop, replicate}
 use Rattle.common.specs.Lists.{xored}

@@ -1,5 +1,5 @@
 -- An answer is told by its number, word and values: each answer is read back from them. Assumes nothing.
-use mathlib.Core.List.{List, [], _∷_}
+use mathlib.Core.List.{List}
 use mathlib.Core.Path.{_≡_, refl, sym, ap, _∙_}
 use Prim.Native.Nat.{ℕ}
 use lib.Dec.{eqb}
@@ -14,7 +14,7 @@ use Rattle.receiver.specs.declared.answer.Refusal.{Refusal}
 use Rattle.receiver.specs.declared.answer.Refusal.the-variants.{ShortBuffer, WrongLength, NoCandidate, NotAuthentic, WrongAddress, Cached, NotForNode, WrongForm, NoSeqAuth, Replayed, Differs, NoEntryLeft, NoSlotLeft, NotOpened, OutsideRules, NoSeqLeft}
 use Rattle.receiver.specs.declared.answer.Answer.{Answer}
 use Rattle.receiver.specs.declared.answer.Answer.the-variants.{Refused, Stored, Repeated, Access, Control, Acknowledgement}
-use Rattle.receiver.specs.Answer.{refusalNumber, Word, refused, stored, repeat, access, control, acknowledgement, Paper, effectNumber, paper}
+use Rattle.receiver.specs.Answer.{refusalNumber, Word, refused, stored, repeat, access, control, acknowledgement, Paper, paper}
 
 -- the refusal of a number
 abbrev refusalOf : ℕ → Refusal

@@ -2,16 +2,16 @@
 -- message of its form leaves; giving up zeroes a slot. Assumes nothing.
 use mathlib.Core.Bool.{true, false, _&&_, _||_}
 use mathlib.Core.List.{List}
-use mathlib.Core.Path.{_≡_, ap, _∙_}
+use mathlib.Core.Logic.{⊎-elim}
+use mathlib.Core.Path.{_≡_, sym, ap, _∙_, subst}
 use Prim.Native.Nat.{ℕ, _≤_, _<_}
 use native.Mathlib.Omega.{arith}
 use borrow.Author.Tests.{leb-true}
-use lib.Dec.{eqb, leb, ltb}
-use lib.ListN.{length, length-replicate, getD-replicate}
+use lib.Dec.{eqb, leb}
+use lib.ListN.{length-replicate, getD-replicate}
 use Rattle.common.proofs.Tests.{by-test, by-choice, and-first, and-second}
 use Rattle.network.specs.declared.header.Header.{Header}
-use Rattle.network.specs.declared.opening.Answer as network-answer
-use Rattle.network.specs.declared.opening.Answer.the-variants as network
+use Rattle.network.specs.declared.opening.Answer.{Answer}
 use Rattle.transport.specs.declared.form.Form.{Form}
 use Rattle.transport.specs.declared.form.Form.the-variants as form
 use Rattle.transport.specs.Form.{segmentFits, formOf}
@@ -19,10 +19,10 @@ use Rattle.transport.specs.Ranges.{Kept}
 use Rattle.transport.proofs.Ranges.{keeps-to-ranges}
 use Rattle.memory.specs.declared.replay.Entry.{Entry}
 use Rattle.memory.specs.declared.session.Session.{Session}
-use Rattle.memory.specs.Cache.{noSeen, seen, remembered}
+use Rattle.memory.specs.Cache.{noSeen, remembered}
 use Rattle.memory.specs.Decision.{sessionAt}
 use Rattle.memory.specs.Replay.{noEntry}
-use Rattle.memory.specs.Session.{noSession, noSessions, sessionPlace}
+use Rattle.memory.specs.Session.{noSession, noSessions}
 use Rattle.memory.proofs.CacheLaws.{length-remembered}
 use Rattle.node.specs.declared.addresses.Node.{Node}
 use Rattle.node.specs.Addresses.{forNode}
@@ -32,10 +32,11 @@ use Rattle.node.proofs.SetupLaws.{makes-well}
 use Rattle.receiver.specs.declared.give_up.GivenUp.{GivenUp}
 use Rattle.receiver.specs.declared.state.Receiver.{Receiver}
 use Rattle.receiver.specs.Fresh.{paper, fresh, settingUp}
-use Rattle.receiver.specs.GiveUp.{givingUp}
 use Rattle.receiver.specs.Good.{Good, GoodFresh, GoodHear, GoodGiveUp}
-use Rattle.receiver.specs.Hearing.{Outcome, takenAs, taken, passed, uncached, openedAs, hearing}
+use Rattle.receiver.specs.Hearing.{Outcome, takenAs, taken, passed}
 use Rattle.receiver.specs.State.{withCache}
+use Rattle.receiver.proofs.Laws.GiveUp.{by-giving-up}
+use Rattle.receiver.proofs.Laws.Heard.{openingOf, heard-either}
 use Rattle.receiver.proofs.GoodState.{Left, good-cache, good-freed}
 use Rattle.receiver.proofs.Opened.{Clear, ClearIn, opening-clear}
 use Rattle.receiver.proofs.GoodWhole.{good-access, good-control, good-acknowledgement}
@@ -92,33 +93,21 @@ module _ (r : Receiver) (g : Good r) (h : Header) (c : Clear h) (msg : List ℕ)
 abbrev LeftHeard : Outcome → Type 0
 LeftHeard o = Good (o .heard .receiver)
 
-module _ (r : Receiver) (g : Good r) (h : Header) (trials : ℕ) (fwd msg : List ℕ) where
-  good-uncached : Clear h → LeftHeard (uncached r h trials fwd msg)
-  unfolding uncached passed
-  good-uncached c =
-      let cache = remembered (r .cache) (h .src) (h .seq) in
-      by-choice LeftHeard (seen (r .cache) (h .src) (h .seq)) (λ t. g)
-      (λ t. good-taken (withCache r cache) (good-cache r g cache (length-remembered (r .cache) (h .src) (h .seq) ∙ g .cache-places)) h c msg)
-
-  good-heard-as : (a : network-answer.Answer) → ClearIn a h → LeftHeard (openedAs a r h trials fwd msg)
-  unfolding openedAs
-  good-heard-as network.WrongLength c = g
-  good-heard-as network.NoCandidate c = g
-  good-heard-as network.NotAuthentic c = g
-  good-heard-as network.WrongAddress c = g
-  good-heard-as network.Opened c = good-uncached c
+good-passed : (r : Receiver) → Good r → (h : Header) → Clear h → (trials : ℕ) (fwd msg : List ℕ) → LeftHeard (passed r h trials fwd msg)
+unfolding passed
+good-passed r g h c trials fwd msg =
+    let cache = remembered (r .cache) (h .src) (h .seq) in
+    good-taken (withCache r cache) (good-cache r g cache (length-remembered (r .cache) (h .src) (h .seq) ∙ g .cache-places)) h c msg
 
 pub good-hear : GoodHear
-unfolding hearing
 good-hear r pdu fwd msg g =
-    by-choice LeftHeard (ltb (length fwd) 29) (λ t. g)
-    (λ t. by-choice LeftHeard (ltb (length msg) 384) (λ u. g)
-    (λ u. good-heard-as r g _ _ fwd msg _ (opening-clear (r .node .keys) (r .node .networks) (r .node .iv) pdu)))
+    let o = openingOf r pdu in
+    ⊎-elim (λ y. subst LeftHeard (sym (y .1 .leaves)) g)
+    (λ p.
+    let c : Clear (o .header) = subst (λ (a : Answer). ClearIn a (o .header)) (p .opens) (opening-clear (r .node .keys) (r .node .networks) (r .node .iv) pdu) in
+    subst LeftHeard (sym (p .passes)) (good-passed r g (o .header) c (o .trials) fwd msg))
+    (heard-either r fwd msg pdu)
 
 -- ---- giving up
 pub good-give-up : GoodGiveUp
-unfolding givingUp
-good-give-up r src g =
-    let P : GivenUp → Type 0 = λ t. Good (t .receiver) in
-    let slot = sessionPlace (r .sessions) src in
-    by-choice P (eqb src 0) (λ t. g) (λ t. by-choice P (ltb slot 8) (λ u. good-freed r g slot) (λ u. g))
+good-give-up r src g = by-giving-up (λ (t : GivenUp). Good (t .receiver)) r src g (λ slot. good-freed r g slot)

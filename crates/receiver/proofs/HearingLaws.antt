@@ -6,7 +6,7 @@ use mathlib.Core.Path.{_≡_, sym, ap, _∙_}
 use Prim.Native.Nat.{ℕ, _≤_, _<_}
 use borrow.Author.Tests.{not-true, not-false, lt-ltb, le-ltb}
 use lib.ListN.{length}
-use Rattle.common.specs.Lent.{Lent, lent}
+use Rattle.common.specs.Lent.{lent}
 use Rattle.network.specs.declared.header.Header.{Header}
 use Rattle.network.specs.declared.opening.Answer.{Answer}
 use Rattle.network.specs.declared.opening.Answer.the-variants as network

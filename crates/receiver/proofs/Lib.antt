@@ -6,8 +6,8 @@ pub mod SegmentedLaws
 pub mod HearingLaws
 pub mod Opened
 pub mod Gathered
+pub mod Laws
 pub mod GoodState
 pub mod GoodWhole
 pub mod GoodSegmented
 pub mod Good
-pub mod Laws

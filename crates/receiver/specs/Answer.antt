@@ -5,7 +5,6 @@ use mathlib.Core.List.{List, [], _∷_}
 use Prim.Native.Nat.{ℕ}
 use Rattle.memory.specs.declared.outgoing.Effect.{Effect}
 use Rattle.memory.specs.declared.outgoing.Effect.the-variants.{Nothing, Marked, Completed, Cancelled}
-use Rattle.memory.specs.declared.pair.Pair.{Pair}
 use Rattle.transport.specs.declared.securing.MessageKey.{MessageKey}
 use Rattle.transport.specs.declared.securing.MessageKey.the-variants.{Application, Device}
 use Rattle.receiver.specs.declared.answer.Refusal.{Refusal}

@@ -3,10 +3,9 @@
 --   gathered r slot s msg                        the session with a segment more: stored, or complete
 --   placed r h seg msg                           what a segment with a SeqAuth leaves
 --   segmented r h szmic seqZero segO segN msg    what a segment leaves
-use mathlib.Core.Bool.{Bool, true, false}
+use mathlib.Core.Bool.{Bool}
 use mathlib.Core.List.{List}
-use Prim.Native.Nat.{ℕ, _%_}
-use lib.Dec.{leb}
+use Prim.Native.Nat.{ℕ}
 use lib.ListN.{length, getD, take}
 use Rattle.common.specs.Choice.{if_then_else_}
 use Rattle.common.specs.Lent.{Lent, lent}

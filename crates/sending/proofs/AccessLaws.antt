@@ -1,15 +1,14 @@
 -- The rules of sending an access message: one for each answer, its conditions in the order of the code's tests; and what stands in the
 -- arrays that are filled. Assumes nothing.
-use mathlib.Core.Bool.{Bool, true, false, _&&_, not}
+use mathlib.Core.Bool.{Bool, true, false, not}
 use mathlib.Core.List.{List, [], _∷_, _++_, append-nil}
-use mathlib.Core.Path.{_≡_, refl, sym, ap, _∙_}
+use mathlib.Core.Path.{_≡_, sym, ap, _∙_}
 use Prim.Native.Nat.{ℕ, suc, _+_, _-_, _*_, _/_, _≤_, _<_, min}
 use native.Mathlib.Nat.{add-div-right}
 use native.Mathlib.Omega.{arith}
-use borrow.Author.Tests.{not-true, not-false, lt-ltb, le-ltb, ltb-true, le-leb, lt-leb, leb-true, eq-eqb, ne-eqb}
+use borrow.Author.Tests.{not-true, not-false, lt-ltb, le-ltb, ltb-true, le-leb, lt-leb, leb-true}
 use lib.Dec.{eqb, leb, ltb}
-use lib.ListN.{length, take, drop, set, replicate}
-use Rattle.common.specs.Choice.{if_then_else_}
+use lib.ListN.{length, replicate}
 use Rattle.common.specs.Lent.{Lent, lent}
 use Rattle.common.specs.Lists.{padded, onto}
 use Rattle.common.proofs.Tests.{by-test, and-first, and-second}
@@ -35,7 +34,7 @@ use Rattle.sending.specs.Answer.{refusedAt, spoken}
 use Rattle.sending.specs.Access.{keyed, keyAllowed, isWhole, sizeAllowed, accessAllowed, envelopeOf, wholePdu, wholeHeader, lastSegment, outgoingOf, sayingAccess, sendingAccess}
 use Rattle.sending.specs.Request.{ttlOf, requestAllowed}
 use Rattle.sending.specs.Segment.{starting}
-use Rattle.sending.specs.Transmission.{sendingIv, addressOf, transmitted}
+use Rattle.sending.specs.Transmission.{transmitted}
 
 -- ---- the key
 module _ (node : Node) (key : MessageKey) where

@@ -1,14 +1,14 @@
 -- The rules of acknowledging: what is chosen, its header, and one for each answer. Assumes nothing.
 use mathlib.Core.Bool.{Bool, true, false, not}
 use mathlib.Core.List.{List}
-use mathlib.Core.Path.{_≡_, sym, ap, _∙_}
+use mathlib.Core.Path.{_≡_, ap, _∙_}
 use Prim.Native.Nat.{ℕ, _%_, _≤_, _<_, min}
 use native.Mathlib.Omega.{arith}
 use borrow.Author.Tests.{not-true, not-false, lt-ltb, le-ltb, eq-eqb, ne-eqb}
 use lib.ListN.{length, take, replicate}
 use lib.Seq.{take-all}
 use Rattle.common.specs.Bits.{allBits}
-use Rattle.common.specs.Lent.{Lent, lent}
+use Rattle.common.specs.Lent.{lent}
 use Rattle.common.specs.Lists.{padded, onto}
 use Rattle.network.specs.declared.header.Header.{Header}
 use Rattle.network.specs.Address.{isUnicast}

@@ -3,13 +3,13 @@
 use mathlib.Core.Bool.{Bool, true, false, not}
 use mathlib.Core.List.{List, [], _∷_, _++_, append-nil}
 use mathlib.Core.Path.{_≡_, sym, ap, _∙_}
-use Prim.Native.Nat.{ℕ, suc, _+_, _*_, _≤_, _<_}
+use Prim.Native.Nat.{ℕ, suc, _+_, _≤_, _<_}
 use native.Mathlib.Omega.{arith}
 use borrow.Author.Tests.{not-true, not-false, lt-ltb, le-ltb, le-leb, lt-leb, leb-true}
 use lib.Dec.{eqb, leb}
 use lib.ListN.{length, take, replicate}
 use lib.Seq.{take-all}
-use Rattle.common.specs.Lent.{Lent, lent}
+use Rattle.common.specs.Lent.{lent}
 use Rattle.common.specs.Lists.{padded, onto}
 use Rattle.common.proofs.Tests.{and-first, and-second}
 use Rattle.network.specs.declared.header.Header.{Header}

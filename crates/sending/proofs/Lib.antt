@@ -6,3 +6,4 @@ pub mod AccessLaws
 pub mod ControlLaws
 pub mod AcknowledgeLaws
 pub mod NewSeq
+pub mod Laws

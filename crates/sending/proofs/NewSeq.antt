@@ -73,7 +73,7 @@ others-keep r element h buf other n =
     (sides r element h buf)
 
 -- a next SEQ is raised, or not there and 0
-next-rises : (r : Receiver) (element any : ℕ) → nextSeq r any ≤ nextSeq (withNext r element) any
+pub next-rises : (r : Receiver) (element any : ℕ) → nextSeq r any ≤ nextSeq (withNext r element) any
 next-rises r element any =
     by-test (eqb any element)
     (λ t.

@@ -1,14 +1,14 @@
 -- The octets of a segment, and the rules of beginning a message and of sending a segment of it: one for each answer, its conditions in the order of the
 -- code's tests. Every segment before SegO is full, so its chunk begins where the code counts. Assumes nothing.
-use mathlib.Core.Bool.{Bool, true, false, not, _&&_}
+use mathlib.Core.Bool.{Bool, true, false, not}
 use mathlib.Core.List.{List, _++_}
-use mathlib.Core.Path.{_≡_, refl, sym, ap, ap₂, _∙_}
+use mathlib.Core.Path.{_≡_, refl, sym, ap, _∙_}
 use Prim.Native.Nat.{ℕ, _+_, _-_, _*_, _%_, min, _≤_, _<_}
 use native.Mathlib.Nat.{mul-comm}
 use native.Mathlib.Omega.{arith}
 use borrow.Author.Tests.{lt-ltb, le-ltb, le-leb, lt-leb, leb-true, eq-eqb, ne-eqb, not-true, not-false}
 use lib.Dec.{leb, eqb}
-use lib.ListN.{length, getD, take, drop, replicate, length-append, length-take, length-drop}
+use lib.ListN.{length, take, drop, replicate, length-append, length-take, length-drop}
 use lib.Seq.{take-all, take-take, drop-at}
 use Rattle.common.specs.Bits.{hasBit}
 use Rattle.common.specs.Chunks.{chunk}

@@ -4,7 +4,7 @@
 --   outgoingOf e q k payload               the message that is kept of one that goes in segments
 --   sendingAccess r q key szmic payload buf   what a call leaves
 use mathlib.Core.Bool.{Bool, true, false, _&&_, _||_, not}
-use mathlib.Core.List.{List, [], _∷_}
+use mathlib.Core.List.{List, _∷_}
 use Prim.Native.Nat.{ℕ, _-_, min}
 use lib.Dec.{eqb, leb, ltb}
 use lib.ListN.{length, replicate}

@@ -4,7 +4,7 @@
 --   outgoingOf r q opcode parameters           the message that is kept of one that goes in segments
 --   sendingControl r q opcode parameters buf   what a call leaves
 use mathlib.Core.Bool.{Bool, true, false, _&&_, _||_}
-use mathlib.Core.List.{List, [], _∷_}
+use mathlib.Core.List.{List, _∷_}
 use Prim.Native.Nat.{ℕ}
 use lib.Dec.{eqb, leb, ltb}
 use lib.ListN.{length}

@@ -2,17 +2,16 @@
 -- field by field: the first, and those behind the space that ends it.
 -- Assumes nothing.
 use mathlib.Core.Path.{_≡_, refl, sym, ap, ap₂, _∙_}
-use mathlib.Core.Bool.{true, false}
 use mathlib.Core.List.{List, [], _∷_}
 use Prim.Native.Nat.{ℕ, zero, suc, _+_, _-_, _≤_, _<_}
-use native.Mathlib.Nat.{add-zero, add-suc}
+use native.Mathlib.Nat.{add-zero}
 use native.Mathlib.Numerals.{add-one}
 use native.Mathlib.Omega.{arith}
 use borrow.Author.Tests.{eq-eqb, ne-eqb, eqb-true, eqb-false}
 use lib.Dec.{eqb}
 use lib.ListN.{length, getD, take, drop, length-drop}
 use lib.Seq.{drop-cons, drop-drop, getD-drop}
-use Rattle.common.specs.Lists.{tab, tabFrom}
+use Rattle.common.specs.Lists.{tabFrom}
 use Rattle.common.specs.Search.{first, picked}
 use Rattle.common.proofs.Search.{first-passes}
 use Rattle.common.proofs.Tests.{by-test}
@@ -118,6 +117,7 @@ fields-on l i r h s e =
     ∙ fields-first rest
     ∙ ap₂ (λ (j : ℕ) (m : List ℕ). take j rest ∷ drop 1 (fields m)) many (drop-drop k (i + 1) l ∙ ap (λ (j : ℕ). drop j l) (sym e))
 
+-- the first field is left out, and the next
 fields-twice : (l : List ℕ) → drop 1 (drop 1 (fields l)) ≡ drop 1 (fields (behind 1 l))
 unfolding behind
 fields-twice [] = ap (drop 1) (fields-past [] 0 (omega arith)) ∙ sym (fields-past [] 0 (omega arith))

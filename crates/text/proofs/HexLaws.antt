@@ -1,9 +1,9 @@
 -- Hex digits and pairs: the rules of a digit's value by its range, of the pairs in front, and of what a text reads as.
 -- Assumes nothing.
 use mathlib.Core.Path.{_≡_, refl, sym, ap, ap₂, _∙_}
-use mathlib.Core.Bool.{Bool, true, false, _&&_}
+use mathlib.Core.Bool.{Bool, true, false}
 use mathlib.Core.List.{List, [], _∷_, _++_, append-nil, append-assoc}
-use Prim.Native.Nat.{ℕ, suc, _+_, _-_, _*_, _/_, _%_, _≤_, _<_}
+use Prim.Native.Nat.{ℕ, _+_, _-_, _*_, _/_, _%_, _≤_, _<_}
 use native.Mathlib.Numerals.{add-one}
 use native.Mathlib.Omega.{arith}
 use borrow.Author.Tests.{lt-ltb, le-ltb, le-leb, lt-leb, eq-eqb, ne-eqb}
@@ -11,11 +11,11 @@ use lib.Dec.{eqb}
 use lib.ListN.{length, getD, take, drop, set, take-append-drop}
 use lib.Seq.{drop-cons, drop-drop, take-suc, take-suc-set, drop-set-lt, length-take-le}
 use Rattle.io.specs.Digits.{digits}
-use Rattle.common.specs.Lent.{Lent, lent}
-use Rattle.common.specs.Lists.{onto, same}
+use Rattle.common.specs.Lent.{lent}
+use Rattle.common.specs.Lists.{same}
 use Rattle.text.specs.declared.hex.Octets.{Octets}
 use Rattle.text.specs.declared.hex.Octets.the-variants.{Count, NotHex}
-use Rattle.text.specs.Hex.{hexValue, leading, readingPairs, asCount, reading, counts, filling, pairs, hexText}
+use Rattle.text.specs.Hex.{hexValue, leading, readingPairs, reading, filling, pairs, hexText}
 use Rattle.text.proofs.FieldLaws.{drop-past}
 
 -- ---- the value of a digit, by its range

@@ -1,13 +1,13 @@
 -- Text put behind text: octets copied into the buffer from `at` on are put there, and what is put behind what was put is put together.
 -- Assumes nothing.
-use mathlib.Core.Path.{_≡_, refl, sym, ap, ap₂, _∙_}
-use mathlib.Core.List.{List, [], _∷_, _++_, append-assoc, append-nil}
-use Prim.Native.Nat.{ℕ, _+_, _-_, _≤_, _<_}
+use mathlib.Core.Path.{_≡_, sym, ap, ap₂, _∙_}
+use mathlib.Core.List.{List, [], _++_, append-assoc, append-nil}
+use Prim.Native.Nat.{ℕ, _+_, _-_, _≤_}
 use native.Mathlib.Omega.{arith}
 use borrow.Author.Tests.{ltb-true, ltb-false}
 use lib.Dec.{ltb}
 use lib.ListN.{length, take, drop, length-append, length-take, length-drop, take-append-drop}
-use lib.Seq.{length-take-le, take-all, take-append-le, take-append-add, take-append-seam, drop-append-add, drop-length, drop-drop, take-length}
+use lib.Seq.{length-take-le, take-all, take-append-le, take-append-add, take-append-seam, drop-append-add, drop-length, drop-drop}
 use Rattle.common.specs.Lent.{Lent, lent}
 use Rattle.common.specs.Lists.{onto}
 use Rattle.common.proofs.Tests.{by-test}

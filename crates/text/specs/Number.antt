@@ -3,7 +3,7 @@
 --   shortOf, octetOf, bitOf   a number that is to have at most 16 bits, 8 bits, 1 bit
 --   numberText w n   n in hex, in at least w digits
 --   decimalText n    n in decimal
-use mathlib.Core.Bool.{Bool, _&&_}
+use mathlib.Core.Bool.{_&&_}
 use mathlib.Core.List.{List, [], _∷_}
 use Prim.Native.Nat.{ℕ, _+_, _*_, _^_, min, max}
 use lib.Dec.{eqb, leb, ltb}

@@ -1,10 +1,10 @@
 -- `UnsecureSecure`: the keys that fit are those before the key, then the key itself, then others. None before it authenticates the message and it does
 -- (`open-seal` of CCM), so the search ends at it, behind as many trials as there are keys before it that fit. The bounds hold of each way of the
--- definition: a place among four keys, a search that ends among them, and a cipher that opens at most 384 octets and else keeps the buffer.
+-- definition: a place among four keys, a search that ends among them, and a cipher that opens at most 384 octets and else keeps the buffer; 16 was tested for.
 -- Assumes nothing.
 use mathlib.Core.Bool.{Bool, true}
 use mathlib.Core.List.{List, _∷_, _++_}
-use mathlib.Core.Path.{_≡_, refl, sym, ap, _∙_}
+use mathlib.Core.Path.{_≡_, refl, sym, ap, _∙_, subst}
 use Prim.Native.Nat.{ℕ, suc, _+_, _-_, _<_, _≤_, min}
 use native.Mathlib.Omega.{arith}
 use borrow.Author.Tests.{lt-ltb, ltb-true}
@@ -108,7 +108,7 @@ abbrev Says : List ℕ → List ℕ → Opened → List ℕ → Type 0
 Says c buf (Message (Application i) trials len) b = (i < 4) × (trials ≤ 4) × Stands c buf len b
 Says c buf (Message Device trials len) b = (trials ≤ 4) × Stands c buf len b
 Says c buf (NotOpened trials) b = (trials ≤ 4) × (b ≡ buf)
-Says c buf ShortBuffer b = b ≡ buf
+Says c buf ShortBuffer b = (length buf < 384) × (b ≡ buf)
 
 stands : (key : List ℕ) (e : Envelope) (c buf : List ℕ) → openedBy key e c buf .answer ≡ true → Stands c buf (length c - micOctets (transMic (e .szmic))) (openedBy key e c buf .buffer)
 unfolding openedBy
@@ -142,7 +142,7 @@ module _ (keys : List ApplicationKey) (count : ℕ) (device : List ℕ) (e : Env
   unsecuring-leaves : Leaves (unsecuring keys count device e c buf)
   unfolding unsecuring
   unsecuring-leaves =
-      by-choice Leaves (ltb (length buf) 384) (λ t. refl)
+      by-choice Leaves (ltb (length buf) 384) (λ t. (ltb-true (length buf) 384 t, refl))
       (λ t. by-choice Leaves (ltb (length c) (1 + micOctets (transMic (e .szmic)))) (λ u. (omega arith, refl))
       (λ u. by-choice Leaves (e .akf) (λ v. keys-leave) (λ v. device-leaves)))
 
@@ -159,7 +159,7 @@ says-stands c buf Device trials len b l = l .1
 says-refused : (c buf : List ℕ) (a : Opened) (b : List ℕ) → Says c buf a b → 0 < paper a → b ≡ buf
 says-refused c buf (Message k trials len) b l h = absurd (omega arith)
 says-refused c buf (NotOpened trials) b l h = l .1
-says-refused c buf ShortBuffer b l h = l
+says-refused c buf ShortBuffer b l h = l .1
 
 pub trials-most : TrialsMost
 trials-most keys count device e c buf =
@@ -179,3 +179,12 @@ pub unsecuring-refused-keeps : RefusedKeeps
 unsecuring-refused-keeps keys count device e c buf h =
     let r = unsecuring keys count device e c buf in
     says-refused c buf (r .answer) (r .buffer) (unsecuring-leaves keys count device e c buf) h
+
+-- 16 only where the buffer is short
+pub unsecuring-short :
+    (keys : List ApplicationKey) (count : ℕ) (device : List ℕ) (e : Envelope) (c buf : List ℕ) → unsecuring keys count device e c buf .answer ≡ ShortBuffer
+    → length buf < 384
+unsecuring-short keys count device e c buf q =
+    let left = unsecuring keys count device e c buf .buffer in
+    let l : Says c buf ShortBuffer left = subst (λ (a : Opened). Says c buf a left) q (unsecuring-leaves keys count device e c buf) in
+    l .0

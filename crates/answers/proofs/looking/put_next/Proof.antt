@@ -7,7 +7,6 @@ use native.Mathlib.Omega.{arith}
 use borrow.Author.Needs.{needs}
 use lib.ListN.{length, take, length-take}
 use lib.Seq.{getD-take}
-use Rattle.text.specs.Octets.{octets}
 use Rattle.text.specs.Written.{putting}
 use Rattle.text.proofs.WrittenLaws.{put-then, put-within}
 use Rattle.answers.specs.Answer.{named}

@@ -1,6 +1,6 @@
 -- `desk::give` meets its contract: the line's fields fit or not.
 -- Assumes nothing.
-use mathlib.Core.Path.{_≡_, sym, ap, _∙_}
+use mathlib.Core.Path.{ap, _∙_}
 use borrow.Author.Needs.{needs}
 use borrow.Author.Tests.{not-true, not-false}
 use Rattle.commands.specs.Desk.{noting, notingGiven}

@@ -25,25 +25,27 @@ returns c =
 returns-2 : tie.Need-returns-2
 unfolding giving
 returns-2 c =
-    let n = c .before .before .before .before .before .before .before in
+    let k = c .before .before .before in
+    let n = k .before .before .before .before in
     let read = n .before .before .read-octet in
     let field = n .before .before .before .nth in
     c .unfit2 .ensures
     ∙ ap₂ (givenApplicationKey _)
     (field-read (λ text. octetOf (numberOf text)) _ _ (read .result) (Value (n .network .given .0 .0)) (read .ensures) (field .ensures) (search needs))
-    (key-read _ false _ _ _ (c .before .before .before .fill .ensures) (c .before .before .before .before .before .last .ensures) (not-true _ (c .before .if1 .taken)))
+    (key-read _ false _ _ _ (k .fill .ensures) (k .before .before .last .ensures) (not-true _ (c .before .if1 .taken)))
 
 returns-3 : tie.Need-returns-3
 unfolding giving
 returns-3 c =
-    let n = c .before .before .before .before .before .before .before .before in
+    let k = c .before .before .before .before in
+    let n = k .before .before .before .before in
     let read = n .before .before .read-octet in
     let field = n .before .before .before .nth in
     c .fit .ensures
     ∙ ap fit (c .before .with-application-key .ensures)
     ∙ ap₂ (givenApplicationKey _)
     (field-read (λ text. octetOf (numberOf text)) _ _ (read .result) (Value (n .network .given .0 .0)) (read .ensures) (field .ensures) (search needs))
-    (key-read _ true _ _ _ (c .before .before .before .before .fill .ensures) (c .before .before .before .before .before .before .last .ensures) (not-false _ (c .before .before .if1 .left)))
+    (key-read _ true _ _ _ (k .fill .ensures) (k .before .before .last .ensures) (not-false _ (c .before .before .if1 .left)))
 
 pub application-key-spec : {M : Type 1} → statement M
 application-key-spec =

@@ -27,10 +27,11 @@ returns-2 c =
     let n = c .before .before .before .before .before .before in
     let read = n .before .before .read in
     let flag = c .before .before .before .read-bit in
+    let second = c .before .before .before .before .last in
     c .unfit2 .ensures
     ∙ ap₂ (givenIndex _)
     (field-read numberOf _ _ (read .result) (Value (n .iv .given .0 .0)) (read .ensures) (n .before .before .before .nth .ensures) (search needs))
-    (field-read (λ text. bitOf (numberOf text)) _ _ (flag .result) bit.Unfit (flag .ensures) (c .before .before .before .before .last .ensures) (search needs))
+    (field-read (λ text. bitOf (numberOf text)) _ _ (flag .result) bit.Unfit (flag .ensures) (second .ensures) (search needs))
 
 returns-3 : tie.Need-returns-3
 unfolding giving
@@ -39,10 +40,11 @@ returns-3 c =
     let read = n .before .before .read in
     let on = c .before .before .flag .given .0 .0 in
     let flag = c .before .before .before .before .read-bit in
+    let second = c .before .before .before .before .before .last in
     c .fit .ensures
     ∙ ap₂ (givenIndex _)
     (field-read numberOf _ _ (read .result) (Value (n .iv .given .0 .0)) (read .ensures) (n .before .before .before .nth .ensures) (search needs))
-    (field-read (λ text. bitOf (numberOf text)) _ _ (flag .result) (bit.Value on) (flag .ensures) (c .before .before .before .before .before .last .ensures) (search needs))
+    (field-read (λ text. bitOf (numberOf text)) _ _ (flag .result) (bit.Value on) (flag .ensures) (second .ensures) (search needs))
 
 pub iv-index-spec : {M : Type 1} → statement M
 iv-index-spec =

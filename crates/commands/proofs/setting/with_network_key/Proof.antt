@@ -1,7 +1,6 @@
 -- `setting::with_network_key` meets its contract: past its end a list has no place to set.
 -- Assumes nothing.
 use mathlib.Core.Path.{_≡_}
-use Prim.Native.Nat.{_≤_}
 use native.Mathlib.Omega.{arith}
 use borrow.Author.Needs.{needs}
 use lib.ListN.{length}

@@ -1,6 +1,5 @@
 -- `network::sealing::is_forwarded` meets its contract: each return is one test of the definition.
 -- Assumes nothing.
-use borrow.Author.Needs.{needs}
 use borrow.Author.Tests.{lt-leb, le-leb, not-true, not-false}
 use Rattle.network.specs.Sealing.{forwards}
 use Rattle.network.proofs.sealing.is_forwarded.Statement.{statement}

@@ -1,6 +1,5 @@
 -- `sending::access::is_whole` meets its contract: without SZMIC the length decides.
 -- Assumes nothing.
-use borrow.Author.Needs.{needs}
 use Rattle.sending.proofs.AccessLaws.{whole-rules}
 use Rattle.sending.proofs.access.is_whole.Statement.{statement}
 use Rattle.sending.proofs.access.is_whole.Tie as tie

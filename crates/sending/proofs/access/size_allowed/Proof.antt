@@ -1,6 +1,5 @@
 -- `sending::access::size_allowed` meets its contract: each return is one rule of `sizeAllowed`.
 -- Assumes nothing.
-use borrow.Author.Needs.{needs}
 use Rattle.sending.proofs.AccessLaws.{size-rules}
 use Rattle.sending.proofs.access.size_allowed.Statement.{statement}
 use Rattle.sending.proofs.access.size_allowed.Tie as tie

@@ -1,7 +1,7 @@
 -- `speed::hearing::open_over` meets its contract: after i turns the count is that of i openings, and a turn counts at most 1.
 -- Assumes nothing.
 use mathlib.Core.Path.{_≡_, refl, ap, _∙_}
-use Prim.Native.Nat.{ℕ, _-_, _≤_}
+use Prim.Native.Nat.{_-_, _≤_}
 use native.Mathlib.Omega.{arith}
 use borrow.Author.Needs.{needs}
 use Rattle.speed.specs.Hearing.{openedOver}

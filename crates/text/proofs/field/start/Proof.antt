@@ -1,7 +1,7 @@
 -- `field::start` meets its contract: what is to be found behind the line's `n` spaces is to be found behind `left` from `i` on, and what is left of the line falls.
 -- Assumes nothing.
 use mathlib.Core.Logic.{⊎-elim}
-use mathlib.Core.Path.{_≡_, refl, sym, _∙_, ap}
+use mathlib.Core.Path.{_≡_, sym, _∙_, ap}
 use Prim.Native.Nat.{ℕ, _+_, _-_, _≤_}
 use native.Mathlib.Omega.{arith}
 use borrow.Author.Needs.{needs}

@@ -1,33 +1,40 @@
 -- A call that sends refuses and leaves everything, or transmits a header and says so, or begins a message. What holds on each of these ways holds of the call:
 -- one walk down each call's chain of tests, with the tests that hold at its end. Assumes nothing.
+--   walk-..                        each call
+--   ..-whole, ..-begun, ..-sent    what a call says where its tests pass
+--   chosen-..                      what is acknowledged
 use mathlib.Core.Bool.{Bool, true, false}
 use mathlib.Core.List.{List}
-use mathlib.Core.Path.{_≡_}
-use Prim.Native.Nat.{ℕ, _<_, min}
-use borrow.Author.Tests.{ltb-true}
+use mathlib.Core.Path.{_≡_, refl}
+use Prim.Native.Nat.{ℕ, _≤_, _<_, min}
+use borrow.Author.Tests.{ne-eqb, lt-ltb, le-ltb, ltb-true}
 use lib.Dec.{leb, ltb}
 use lib.ListN.{length}
+use Rattle.common.specs.Bits.{allBits}
 use Rattle.common.specs.Choice.{if_then_else_}
 use Rattle.common.specs.Lent.{Lent, lent}
 use Rattle.common.proofs.Tests.{by-choice}
 use Rattle.network.specs.declared.header.Header.{Header}
 use Rattle.network.specs.Address.{isUnicast}
 use Rattle.transport.specs.declared.securing.MessageKey.{MessageKey}
+use Rattle.memory.specs.declared.replay.Entry.{Entry}
+use Rattle.memory.specs.declared.session.Session.{Session}
+use Rattle.memory.specs.Decision.{sessionAt}
+use Rattle.memory.specs.Replay.{lookUp}
+use Rattle.memory.specs.Session.{sessionPlace}
 use Rattle.receiver.specs.declared.answer.Refusal.{Refusal}
 use Rattle.receiver.specs.declared.answer.Refusal.the-variants as refusal
 use Rattle.receiver.specs.declared.state.Receiver.{Receiver}
+use Rattle.sending.specs.declared.acknowledge.Chosen.{Chosen}
 use Rattle.sending.specs.declared.answer.Spoken.{Spoken}
 use Rattle.sending.specs.declared.request.Request.{Request}
 use Rattle.sending.specs.Access.{keyed, isWhole, accessAllowed, envelopeOf, wholeHeader, outgoingOf, sayingAccess, sendingAccess}
 use Rattle.sending.specs.Acknowledge.{chosen, acknowledgementHeader, sayingAcknowledgement, acknowledging}
-use Rattle.sending.specs.Answer.{refusedAt, spoken}
+use Rattle.sending.specs.Answer.{refusedAt}
 use Rattle.sending.specs.Control as control
 use Rattle.sending.specs.Segment.{segmentHeader, starting, elementOf, segmentAllowed, sendingSegment}
-use Rattle.sending.specs.Transmission.{sendingIv, transmitted}
-
--- a transmission, as it is answered
-abbrev pub saying : Receiver → ℕ → Header → List ℕ → Lent Spoken
-saying r element h buf = let t = transmitted r element h buf in lent (spoken (t .answer)) (t .buffer)
+use Rattle.sending.specs.Transmission.{sendingIv}
+use Rattle.sending.proofs.Laws.Transmitted.{saying}
 
 -- what an access message is sent as: whole, or begun
 abbrev pub accessHeader : Receiver → Request → MessageKey → Bool → List ℕ → Header
@@ -110,3 +117,56 @@ module _ (r : Receiver) (buf : List ℕ) (P : Lent Spoken → Type 0) (refused :
       (λ _. by-choice P (ltb element 8) {x = sent} {y = outside} (λ t. said (ltb-true element 8 t)) (λ _. refused refusal.OutsideRules))
       (λ _. refused refusal.OutsideRules))
       (λ _. refused refusal.OutsideRules))
+
+-- ---- where the tests pass
+module _ (r : Receiver) (buf : List ℕ) (wide : 29 ≤ length buf) where
+  module _ (q : Request) (key : MessageKey) (szmic : Bool) (payload : List ℕ) (a : accessAllowed r q key szmic (length payload) ≡ true) where
+    pub access-whole : isWhole szmic (length payload) ≡ true → sendingAccess r q key szmic payload buf ≡ saying r (q .element) (accessHeader r q key szmic payload) buf
+    unfolding sendingAccess sayingAccess
+    access-whole w = rw (le-ltb (length buf) 29 wide, a, w) refl
+
+    pub access-begun :
+        isWhole szmic (length payload) ≡ false
+        → (let k = keyed (r .node) key in sendingAccess r q key szmic payload buf ≡ starting r (q .element) (outgoingOf (envelopeOf r q k szmic) q k payload) buf)
+    unfolding sendingAccess sayingAccess
+    access-begun w = rw (le-ltb (length buf) 29 wide, a, w) refl
+
+  module _ (q : Request) (opcode : ℕ) (parameters : List ℕ) (a : control.controlAllowed r q opcode (length parameters) ≡ true) where
+    pub control-whole :
+        leb (length parameters) 11 ≡ true
+        → control.sendingControl r q opcode parameters buf ≡ saying r (q .element) (control.wholeHeader (sendingIv (r .node)) q opcode parameters) buf
+    unfolding control.sendingControl control.sayingControl
+    control-whole w = rw (le-ltb (length buf) 29 wide, a, w) refl
+
+    pub control-begun :
+        leb (length parameters) 11 ≡ false
+        → control.sendingControl r q opcode parameters buf ≡ starting r (q .element) (control.outgoingOf r q opcode parameters) buf
+    unfolding control.sendingControl control.sayingControl
+    control-begun w = rw (le-ltb (length buf) 29 wide, a, w) refl
+
+  pub segment-sent :
+      (n element : ℕ) → elementOf (r .node) (r .out .src) ≡ element → element < 8 → segmentAllowed r element n ≡ true
+      → sendingSegment r n buf ≡ saying r element (segmentHeader (r .out) n) buf
+  unfolding sendingSegment
+  segment-sent n element e low a = rw (e, le-ltb (length buf) 29 wide, lt-ltb element 8 low, a) refl
+
+  pub acknowledgement-sent :
+      (net src : ℕ) (c : Chosen) → chosen (r .replay) (r .sessions) src ≡ c → net < min (r .node .networks) 4 → isUnicast (c .dst) ≡ true
+      → elementOf (r .node) (c .dst) < 8 → acknowledging r net src buf ≡ sayingAcknowledgement r (elementOf (r .node) (c .dst)) net src c buf
+  unfolding acknowledging
+  acknowledgement-sent net src c e there unicast low =
+      rw (e, le-ltb (length buf) 29 wide, lt-ltb net (min (r .node .networks) 4) there, unicast, lt-ltb (elementOf (r .node) (c .dst)) 8 low) refl
+
+-- ---- what is acknowledged of a source
+module _ (replay : List Entry) (sessions : List Session) (src : ℕ) (z : src ≡ 0 → ⊥) where
+  pub chosen-session :
+      (s : Session) → sessionPlace sessions src < 8 → sessionAt sessions (sessionPlace sessions src) ≡ s
+      → chosen replay sessions src ≡ record { auth = s .auth; dst = s .terms .dst; bits = s .filled }
+  unfolding chosen
+  chosen-session s p held = rw (ne-eqb src 0 z, lt-ltb (sessionPlace sessions src) 8 p, held) refl
+
+  pub chosen-last :
+      (e : Entry) → 8 ≤ sessionPlace sessions src → lookUp replay src ≡ e
+      → chosen replay sessions src ≡ record { auth = e .last .auth; dst = e .last .dst; bits = allBits (e .last .segn) }
+  unfolding chosen
+  chosen-last e p held = rw (ne-eqb src 0 z, le-ltb (sessionPlace sessions src) 8 p, held) refl

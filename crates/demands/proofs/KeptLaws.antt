@@ -1,0 +1,64 @@
+-- What a request to acknowledge leaves: said or refused, it changes neither the node nor the cache, the replay list or the sessions, and these and the
+-- places filled are all that a scene is seen by. Assumes nothing.
+--   Kept                 these parts of a receiver stay
+--   kept-acknowledging   a request to acknowledge keeps them
+--   kept-scene           where they stay the scene stays
+--   refilled             where the same places are filled the scene stays
+use mathlib.Core.List.{List}
+use mathlib.Core.Path.{_≡_, refl, sym, _∙_}
+use Prim.Native.Nat.{ℕ}
+use Rattle.common.specs.Lent.{Lent}
+use Rattle.network.specs.declared.header.Header.{Header}
+use Rattle.node.specs.declared.addresses.Node.{Node}
+use Rattle.receiver.specs.declared.state.Receiver.{Receiver}
+use Rattle.receiver.specs.Good.{Good}
+use Rattle.sending.specs.declared.answer.Spoken.{Spoken}
+use Rattle.sending.specs.Acknowledge.{acknowledging}
+use Rattle.sending.proofs.Laws.Calls.{walk-acknowledge}
+use Rattle.sending.proofs.Laws.Transmitted.{saying, by-saying}
+use Rattle.demands.specs.Interleaved.{Spent}
+use Rattle.demands.specs.Speech.{Speech}
+use Rattle.demands.proofs.SceneLaws.{Scenery}
+
+-- the parts of the receiver that a scene is seen by
+pub record Kept (r q : Receiver) : Type 0 where
+  pub node-stays : q .node ≡ r .node
+  pub cache-stays : q .cache ≡ r .cache
+  pub replay-stays : q .replay ≡ r .replay
+  pub sessions-stay : q .sessions ≡ r .sessions
+
+kept-itself : (r : Receiver) → Kept r r
+kept-itself r = record { node-stays = refl; cache-stays = refl; replay-stays = refl; sessions-stay = refl }
+
+kept-saying : (r : Receiver) (element : ℕ) (h : Header) (buf : List ℕ) → Kept r (saying r element h buf .answer .receiver)
+kept-saying r element h buf =
+    by-saying r element h buf (λ (s : Lent Spoken). Kept r (s .answer .receiver)) (λ _. kept-itself r)
+    (λ _. record { node-stays = refl; cache-stays = refl; replay-stays = refl; sessions-stay = refl })
+
+pub kept-acknowledging : (r : Receiver) (net src : ℕ) (buf : List ℕ) → Kept r (acknowledging r net src buf .answer .receiver)
+kept-acknowledging r net src buf =
+    walk-acknowledge r buf (λ (s : Lent Spoken). Kept r (s .answer .receiver)) (λ _. kept-itself r) net src
+    (λ _. kept-saying r _ _ buf)
+
+module _ (node : Node) (speeches : List Speech) (spent : Spent) where
+  pub kept-scene : (r q : Receiver) (filled : ℕ → ℕ) → Kept r q → Good q → Scenery node speeches spent r filled → Scenery node speeches spent q filled
+  kept-scene r q filled k g s =
+      record {
+        good = g;
+        same = k .node-stays ∙ s .same;
+        stages = λ j h. rw (k .replay-stays, k .sessions-stay) (s .stages j h);
+        sessions-owned = rw (k .sessions-stay) (s .sessions-owned);
+        entries-owned = rw (k .replay-stays) (s .entries-owned);
+        seen-come = λ j seq h e. s .seen-come j seq h (rw (sym (k .cache-stays)) e);
+      }
+
+  pub refilled : (r : Receiver) (filled more : ℕ → ℕ) → ((k : ℕ) → more k ≡ filled k) → Scenery node speeches spent r filled → Scenery node speeches spent r more
+  refilled r filled more e s =
+      record {
+        good = s .good;
+        same = s .same;
+        stages = λ k h. rw (e k) (s .stages k h);
+        sessions-owned = s .sessions-owned;
+        entries-owned = s .entries-owned;
+        seen-come = λ k seq h t. rw (e k) (s .seen-come k seq h t);
+      }

@@ -1,0 +1,227 @@
+-- What a segment of a speech is to a receiver. It has 5 to 16 octets, so it stands whole in its header and is read back; its chunk begins at size * i; its number
+-- leads back to SeqAuth. Each number in it has its bits and its DST may be spoken to, so it can be sealed. Assumes nothing.
+--   padded-behind, taken-back   octets in an array with room for them
+--   nid-low                     NID has 7 bits
+--   termsOf                     what the segments of a speech have in common
+--   transport-long, formed      its header is one that can be read back
+--   segment-octets              its octets are chunk i
+--   segment-sealable            it can be sealed
+--   segment-taken               a header of the speech is taken as segment i
+--   segment-placed              and placed by the speech's SeqAuth
+use mathlib.Core.Bool.{Bool, true, false}
+use mathlib.Core.List.{List, _++_, append-assoc}
+use mathlib.Core.Path.{_≡_, refl, sym, ap, _∙_, subst}
+use Prim.Native.Nat.{ℕ, _+_, _%_, _≤_, _<_}
+use native.Mathlib.Omega.{arith}
+use borrow.Author.Tests.{eq-eqb, le-leb, eqb-false}
+use lib.Dec.{eqb}
+use lib.ListN.{length, getD, take, drop, replicate, length-append}
+use lib.Seq.{take-append-seam, drop-at}
+use Rattle.common.specs.Lent.{Lent}
+use Rattle.common.specs.Lists.{padded}
+use Rattle.common.proofs.Lists.{length-tab}
+use Rattle.common.proofs.Tests.{by-test}
+use Rattle.keys.specs.Derivation.{k2}
+use Rattle.network.specs.declared.header.Header.{Header}
+use Rattle.network.specs.Address.{isUnicast, addressesAllowed}
+use Rattle.network.specs.Candidates.{keyAt}
+use Rattle.network.specs.Header.{transportOf}
+use Rattle.network.specs.Octets.{octets}
+use Rattle.network.specs.SealOpen.{Formed}
+use Rattle.network.specs.Sealing.{mostTransport, sealable}
+use Rattle.network.proofs.TrialLaws.{onto-zeros}
+use Rattle.transport.specs.declared.securing.MessageKey.{MessageKey}
+use Rattle.transport.specs.declared.securing.MessageKey.the-variants.{Application, Device}
+use Rattle.transport.specs.Form.{keyFits, segmentFits, formOf}
+use Rattle.transport.specs.LeadsBack.{SegmentOf}
+use Rattle.transport.specs.Ranges.{InRange, KeyInRange, OpcodeInRange}
+use Rattle.transport.specs.ReadsBack.{Carries}
+use Rattle.transport.specs.Segment.{fullOctets, segmentFront}
+use Rattle.transport.proofs.LeadsBack.{leads-back}
+use Rattle.transport.proofs.ReadsBack.{access-segment-reads-back, control-segment-reads-back}
+use Rattle.memory.specs.declared.session.Segment.{Segment}
+use Rattle.memory.specs.declared.session.Terms.{Terms}
+use Rattle.memory.specs.Session.{segmentOctets}
+use Rattle.memory.proofs.Stored.{octets-are}
+use Rattle.node.specs.declared.addresses.Node.{Node}
+use Rattle.node.specs.Made.{WellMade}
+use Rattle.receiver.specs.declared.answer.Taken.{Taken}
+use Rattle.receiver.specs.declared.state.Receiver.{Receiver}
+use Rattle.receiver.specs.Hearing.{takenAs}
+use Rattle.receiver.specs.Segmented as segments
+use Rattle.receiver.proofs.Laws.Form.{taken-access-segment, taken-control-segment}
+use Rattle.receiver.proofs.Laws.Segment.{segmented-placed}
+use Rattle.demands.specs.Speech.{Words, Access, Control, Speech, isControl, szmicOf, aidOf, akfOf, firstOf, sizeOf, lastOf, segmentOf, headerOf, WordsRead, Speakable}
+use Rattle.demands.proofs.SpeechAddress.{for-allowed}
+use Rattle.demands.proofs.SpeechCut.{size-bounds, last-low, part, part-bounds, part-full}
+use Rattle.demands.proofs.SpeechMessage.{message-opens}
+
+-- ---- octets in an array with room for them
+module _ (n : ℕ) (l : List ℕ) (short : length l ≤ n) where
+  pub padded-behind : padded n l ≡ l ++ drop (length l) (replicate n 0)
+  padded-behind = sym (onto-zeros n l short)
+
+  pub taken-back : take (length l) (padded n l) ≡ l
+  taken-back = rw padded-behind (take-append-seam l (drop (length l) (replicate n 0)))
+
+-- NID has 7 bits
+pub nid-low : (key : List ℕ) → k2 key .nid ≤ 127
+unfolding k2
+nid-low key = omega arith
+
+-- what the segments of a speech have in common
+abbrev pub termsOf : Node → Speech → Terms
+termsOf node s =
+    record {
+      ctl = isControl (s .words);
+      first = firstOf node (s .words);
+      szmic = szmicOf (s .words);
+      segn = lastOf node s;
+      dst = s .dst;
+      key = s .network;
+    }
+
+-- ---- the segment
+module _ (node : Node) (s : Speech) (w : Speakable node s) (i : ℕ) (there : i ≤ lastOf node s) where
+  abbrev front : List ℕ
+  front = segmentFront (firstOf node (s .words)) (szmicOf (s .words)) (s .auth .seq % 8192) i (lastOf node s)
+
+  front-long : length front ≡ 4
+  unfolding segmentFront octets
+  front-long = refl
+
+  segment-long : length (segmentOf node s i) ≡ 4 + length (part node s i)
+  unfolding segmentOf
+  segment-long = length-append front (part node s i) ∙ ap (λ (n : ℕ). n + length (part node s i)) front-long
+
+  segment-short : length (segmentOf node s i) ≤ 16
+  segment-short =
+      let l = segment-long in
+      let p = part-bounds node s w i there .1 in
+      let b = size-bounds s .1 in
+      omega arith
+
+  module _ (seq ttl : ℕ) where
+    abbrev h : Header
+    h = headerOf node s i seq ttl
+
+    pub transport-long : length (h .transport) ≡ 16
+    unfolding headerOf
+    transport-long = length-tab (λ j. getD (segmentOf node s i) j 0) 16
+
+    transport-is : transportOf h ≡ segmentOf node s i
+    unfolding headerOf
+    transport-is = taken-back 16 (segmentOf node s i) segment-short
+
+    pub segment-octets : segmentOctets h ≡ part node s i
+    unfolding segmentOf
+    segment-octets = octets-are h ∙ ap (drop 4) transport-is ∙ drop-at front (part node s i) 4 front-long
+
+    pub formed : Formed h
+    unfolding headerOf
+    formed = record { dst-fits = w .dst-fits; zeros-behind = ap (padded 16) transport-is }
+
+    -- it can be sealed: every number has its bits, and a DST that is for a node may be sent to
+    pub segment-sealable : WellMade node → seq ≤ 0xFFFFFF → ttl ≤ 127 → sealable (keyAt (node .keys) (s .network)) h ≡ true
+    unfolding sealable headerOf addressesAllowed
+    segment-sealable made eseq ettl =
+        let l = segment-long in
+        let p = part-bounds node s w i there in
+        let k : keyAt (node .keys) (s .network) .nid ≤ 127 = let n = w .held in rw (made .derived (s .network) (omega arith)) (nid-low _) in
+        let most : length (segmentOf node s i) ≤ mostTransport (isControl (s .words)) =
+        let q = p .1 in
+        by-test (isControl (s .words)) (λ t. let m : sizeOf s ≡ 8 = ap fullOctets t in rw t (omega arith)) (λ t. let m : sizeOf s ≡ 12 = ap fullOctets t in rw t (omega arith)) in
+        rw (
+          le-leb (keyAt (node .keys) (s .network) .nid) 127 k,
+          le-leb ttl 127 ettl,
+          le-leb seq 0xFFFFFF eseq,
+          w .from-unicast,
+          for-allowed (isControl (s .words)) node made (s .dst) (w .for-here),
+          le-leb 1 (length (segmentOf node s i)) (omega arith),
+          le-leb (length (segmentOf node s i)) (mostTransport (isControl (s .words))) most,
+        ) refl
+
+    carries : (ctl : Bool) → isControl (s .words) ≡ ctl → Carries h ctl front
+    unfolding headerOf segmentOf
+    carries ctl e =
+        record {
+          behind = part node s i ++ drop (length (segmentOf node s i)) (replicate 16 0);
+          ctl-is = e;
+          begins = padded-behind 16 (segmentOf node s i) segment-short ∙ append-assoc front (part node s i) (drop (length (segmentOf node s i)) (replicate 16 0));
+        }
+
+    fits : (full : ℕ) → full ≡ 4 + sizeOf s → segmentFits i (lastOf node s) (h .len) full ≡ true
+    unfolding segmentFits headerOf
+    fits full e =
+        let l = segment-long in
+        let p = part-bounds node s w i there .0 in
+        rw (le-leb 5 (length (segmentOf node s i)) (omega arith), le-leb i (lastOf node s) there)
+        (by-test (eqb i (lastOf node s)) (λ t. rw t refl)
+        (λ t.
+        let n = eqb-false i (lastOf node s) t in
+        let f = part-full node s w i there (omega arith) in
+        rw (t, eq-eqb (length (segmentOf node s i)) full (omega arith)) refl))
+
+    in-range : (full : ℕ) → full ≡ 4 + sizeOf s → InRange (s .auth .seq % 8192) i (lastOf node s) (h .len) full
+    in-range full e = record { seqZero-fits = omega arith; segN-fits = last-low node s w; fits = fits full e }
+
+    -- ---- it is read back
+    key-range : (key : MessageKey) → aidOf node key < 64 → (akfOf key ≡ false → isUnicast (s .dst) ≡ true) → KeyInRange (akfOf key) (aidOf node key) (h .dst)
+    unfolding keyFits headerOf
+    key-range (Application j) low u = record { aid-fits = low; fits = refl }
+    key-range Device low u = record { aid-fits = low; fits = rw (u refl) refl }
+
+    -- as what a header of the speech is taken: a segment of the message
+    abbrev asSegment : Receiver → List ℕ → Lent Taken
+    asSegment r msg = segments.segmented r h (szmicOf (s .words)) (s .auth .seq % 8192) i (lastOf node s) msg
+
+    taken-access :
+        (r : Receiver) (msg : List ℕ) (key : MessageKey) (szmic : Bool) (payload : List ℕ) → s .words ≡ Access key szmic payload
+        → aidOf node key < 64 → (akfOf key ≡ false → isUnicast (s .dst) ≡ true) → takenAs (formOf h) r h msg ≡ asSegment r msg
+    taken-access r msg key szmic payload e low u =
+        let z = s .auth .seq % 8192 in
+        let c = subst (λ (f : List ℕ). Carries h false f) (ap (λ (ws : Words). segmentFront (firstOf node ws) (szmicOf ws) z i (lastOf node s)) e)
+        (carries false (ap isControl e)) in
+        let m : 16 ≡ 4 + sizeOf s = rw (ap isControl e) refl in
+        taken-access-segment r h msg (akfOf key) (aidOf node key) szmic z i (lastOf node s)
+        (access-segment-reads-back h (akfOf key) (aidOf node key) szmic z i (lastOf node s) c (key-range key low u) (in-range 16 m))
+        ∙ ap (λ (b : Bool). segments.segmented r h b z i (lastOf node s) msg) (sym (ap szmicOf e))
+
+    taken-control :
+        (r : Receiver) (msg : List ℕ) (code : ℕ) (parameters : List ℕ) → s .words ≡ Control code parameters → OpcodeInRange code
+        → takenAs (formOf h) r h msg ≡ asSegment r msg
+    taken-control r msg code parameters e o =
+        let z = s .auth .seq % 8192 in
+        let c = subst (λ (f : List ℕ). Carries h true f) (ap (λ (ws : Words). segmentFront (firstOf node ws) (szmicOf ws) z i (lastOf node s)) e)
+        (carries true (ap isControl e)) in
+        let m : 12 ≡ 4 + sizeOf s = rw (ap isControl e) refl in
+        taken-control-segment r h msg code z i (lastOf node s) (control-segment-reads-back h code z i (lastOf node s) c o (in-range 12 m))
+        ∙ ap (λ (b : Bool). segments.segmented r h b z i (lastOf node s) msg) (sym (ap szmicOf e))
+
+    module _ (made : WellMade node) where
+      taken-as : (r : Receiver) (msg : List ℕ) (ws : Words) → s .words ≡ ws → WordsRead node s ws → takenAs (formOf h) r h msg ≡ asSegment r msg
+      taken-as r msg (Access key szmic payload) e q =
+          let o = message-opens node s made szmic payload (replicate 384 0) (omega arith) key e q in
+          taken-access r msg key szmic payload e (o .aid-fits) (o .unicast)
+      taken-as r msg (Control code parameters) e q = taken-control r msg code parameters e (q .1)
+
+      pub segment-taken : (r : Receiver) (msg : List ℕ) → takenAs (formOf h) r h msg ≡ asSegment r msg
+      segment-taken r msg = taken-as r msg (s .words) refl (w .words-read)
+
+    -- ---- its number leads back to SeqAuth
+    first-octet : getD (h .transport) 0 0 ≡ firstOf node (s .words)
+    unfolding headerOf segmentOf segmentFront
+    first-octet = refl
+
+    segment-is :
+        segments.segmentOf h (szmicOf (s .words)) (s .auth .seq) i (lastOf node s) ≡ record { auth = s .auth; terms = termsOf node s; sego = i }
+    unfolding headerOf
+    segment-is = rw first-octet refl
+
+    pub segment-placed :
+        (r : Receiver) (msg : List ℕ) → SegmentOf (s .auth .seq) seq
+        → asSegment r msg ≡ segments.placed r h (record { auth = s .auth; terms = termsOf node s; sego = i }) msg
+    unfolding headerOf
+    segment-placed r msg t =
+        segmented-placed r h msg (szmicOf (s .words)) (s .auth .seq % 8192) i (lastOf node s) (s .auth .seq) (leads-back (s .auth .seq) seq t)
+        ∙ ap (λ (g : Segment). segments.placed r h g msg) segment-is

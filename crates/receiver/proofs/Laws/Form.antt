@@ -1,0 +1,54 @@
+-- A message by its form: a segment is one, whatever it is a segment of; a whole message that is admitted is handed up. Assumes nothing.
+use mathlib.Core.Bool.{Bool, false}
+use mathlib.Core.List.{List}
+use mathlib.Core.Path.{_≡_, refl}
+use Prim.Native.Nat.{ℕ}
+use lib.ListN.{length, drop}
+use Rattle.common.specs.Lent.{lent}
+use Rattle.common.specs.Lists.{onto}
+use Rattle.network.specs.declared.header.Header.{Header}
+use Rattle.network.specs.Header.{transportOf}
+use Rattle.transport.specs.declared.form.Form.the-variants as form
+use Rattle.transport.specs.declared.securing.MessageKey.{MessageKey}
+use Rattle.transport.specs.declared.securing.Opened.the-variants.{Message}
+use Rattle.transport.specs.Fields.{opcode}
+use Rattle.transport.specs.Form.{formOf}
+use Rattle.transport.specs.Securing.{unsecuring}
+use Rattle.receiver.specs.declared.answer.Answer.the-variants as answer
+use Rattle.receiver.specs.declared.state.Receiver.{Receiver}
+use Rattle.receiver.specs.declared.whole.Admission.the-variants as admission
+use Rattle.receiver.specs.Hearing.{takenAs}
+use Rattle.receiver.specs.Segmented.{segmented}
+use Rattle.receiver.specs.Whole as whole
+
+module _ (r : Receiver) (h : Header) (msg : List ℕ) where
+  pub taken-access-segment :
+      (akf : Bool) (aid : ℕ) (szmic : Bool) (seqZero segO segN : ℕ) → formOf h ≡ form.AccessSegment akf aid szmic seqZero segO segN
+      → takenAs (formOf h) r h msg ≡ segmented r h szmic seqZero segO segN msg
+  unfolding takenAs
+  taken-access-segment akf aid szmic seqZero segO segN e = rw e refl
+
+  pub taken-control-segment :
+      (opcode seqZero segO segN : ℕ) → formOf h ≡ form.ControlSegment opcode seqZero segO segN
+      → takenAs (formOf h) r h msg ≡ segmented r h false seqZero segO segN msg
+  unfolding takenAs
+  taken-control-segment opcode seqZero segO segN e = rw e refl
+
+  -- a whole message that is admitted
+  pub taken-access :
+      (akf : Bool) (aid trials len : ℕ) (key : MessageKey) (left : List ℕ) → formOf h ≡ form.Access akf aid → whole.admission (r .replay) h ≡ admission.Admitted
+      → unsecuring (r .node .secrets) (r .node .applications) (r .node .device) (whole.wholeEnvelope h akf aid) (drop 1 (transportOf h)) msg
+      ≡ lent (Message key trials len) left
+      → takenAs (formOf h) r h msg
+      ≡ lent (record { answer = answer.Access (h .src) (h .dst) (h .key) key (whole.pairOf h) len; trials = trials; receiver = whole.admitted r h }) left
+  unfolding takenAs whole.wholeAccess whole.unless whole.openedWhole whole.openedAs
+  taken-access akf aid trials len key left e a u = rw (e, a, u) refl
+
+  pub taken-control :
+      (opcode : ℕ) (parameters : List ℕ) → formOf h ≡ form.Control opcode → whole.admission (r .replay) h ≡ admission.Admitted → drop 1 (transportOf h) ≡ parameters
+      → takenAs (formOf h) r h msg
+      ≡ lent
+      (record { answer = answer.Control (h .src) (h .dst) (h .key) opcode (whole.pairOf h) (length parameters); trials = 0; receiver = whole.admitted r h })
+      (onto parameters msg)
+  unfolding takenAs whole.wholeControl whole.unless whole.wholeControlUp
+  taken-control opcode parameters e a m = rw (e, a, m) refl

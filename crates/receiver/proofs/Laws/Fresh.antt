@@ -1,0 +1,30 @@
+-- What a receiver that setup made holds: nothing is in the cache, no source has an entry or a session, and so every message is new and admitted. Assumes nothing.
+--   fresh-is        it is a fresh one, of the node that setup made
+--   fresh-unseen    its cache has seen nothing of a source
+--   fresh-admits    it admits every whole message
+use mathlib.Core.Bool.{false}
+use mathlib.Core.Path.{_≡_, refl, sym}
+use Prim.Native.Nat.{ℕ}
+use Rattle.network.specs.declared.header.Header.{Header}
+use Rattle.node.specs.declared.setup.Setup.{Setup}
+use Rattle.node.specs.Setup.{making}
+use Rattle.memory.specs.Cache.{seen}
+use Rattle.memory.specs.Replay.{noEntry}
+use Rattle.memory.proofs.CacheLaws.{seen-none}
+use Rattle.memory.proofs.ReplayLaws.{stale-none}
+use Rattle.memory.proofs.ReplayMap.{lookUp-none, hasRoom-none}
+use Rattle.receiver.specs.declared.whole.Admission.the-variants.{Admitted}
+use Rattle.receiver.specs.Fresh.{fresh, settingUp}
+use Rattle.receiver.specs.Whole.{pairOf, admission}
+
+module _ (s : Setup) where
+  pub fresh-is : settingUp s .receiver ≡ fresh (making s .node) (making s .next)
+  unfolding settingUp
+  fresh-is = refl
+
+  pub fresh-unseen : (src seq : ℕ) → (src ≡ 0 → ⊥) → seen (settingUp s .receiver .cache) src seq ≡ false
+  fresh-unseen src seq z = rw fresh-is (seen-none src seq z)
+
+  pub fresh-admits : (h : Header) → admission (settingUp s .receiver .replay) h ≡ Admitted
+  unfolding admission
+  fresh-admits h = rw (fresh-is, lookUp-none (h .src), sym (stale-none noEntry (pairOf h) refl), hasRoom-none (h .src)) refl

@@ -1,0 +1,147 @@
+-- A call refuses before the cache and leaves everything, or the PDU opened and is new, and passes: the tests in front are walked once. One that opens and is in the
+-- cache leaves everything; one that is new, and for this node, leaves what the message of its form leaves. Assumes nothing.
+--   early            the refusals before the cache: 16, 1 to 5
+--   heard-either     a call refuses so, or the PDU passes
+--   heard-unopened   one that does not open is refused so
+--   heard-again, heard-new   one that opens
+--   heard-forwarded, heard-kept   what it forwards
+use mathlib.Core.Bool.{Bool, true, false, _||_}
+use mathlib.Core.List.{List}
+use mathlib.Core.Logic.{_⊎_, inl, inr, ⊎-elim}
+use mathlib.Core.Path.{_≡_, refl, sym, ap, _∙_, subst}
+use Prim.Native.Nat.{ℕ, _≤_}
+use borrow.Author.Tests.{le-ltb, ltb-false}
+use lib.Dec.{eqb, leb, ltb}
+use lib.ListN.{length}
+use Rattle.common.specs.Lent.{Lent, lent}
+use Rattle.common.proofs.Tests.{by-choice}
+use Rattle.network.specs.declared.header.Header.{Header}
+use Rattle.network.specs.declared.opening.Answer as network-answer
+use Rattle.network.specs.declared.opening.Answer.the-variants as network
+use Rattle.network.specs.declared.opening.Opening.{Opening}
+use Rattle.network.specs.Opening.{opening}
+use Rattle.network.specs.Sealing.{sealedLength, forwards, forwarding}
+use Rattle.transport.specs.Form.{formOf}
+use Rattle.memory.specs.Cache.{seen, remembered}
+use Rattle.node.specs.Addresses.{isLocal, forNode}
+use Rattle.receiver.specs.declared.answer.Refusal.{Refusal}
+use Rattle.receiver.specs.declared.answer.Refusal.the-variants as refusal
+use Rattle.receiver.specs.declared.answer.Taken.{Taken}
+use Rattle.receiver.specs.declared.state.Receiver.{Receiver}
+use Rattle.receiver.specs.Answer.{refusalNumber}
+use Rattle.receiver.specs.Hearing.{Outcome, outcome, refusedHeard, relayed, takenAs, taken, passed, uncached, openedAs, hearing}
+use Rattle.receiver.specs.State.{withCache}
+
+-- 16 and 1 to 5
+abbrev pub early : Refusal → Bool
+early n = eqb (refusalNumber n) 16 || leb (refusalNumber n) 5
+
+-- refusal n, and everything as it was
+pub record Refuses (r : Receiver) (fwd msg : List ℕ) (n : Refusal) (o : Outcome) : Type 0 where
+  pub is-early : early n ≡ true
+  pub tried : ℕ
+  pub leaves : o ≡ outcome (refusedHeard r n tried) fwd msg
+
+-- one of them
+abbrev pub Early : Receiver → List ℕ → List ℕ → Outcome → Type 0
+Early r fwd msg o = (n : Refusal) × Refuses r fwd msg n o
+
+abbrev pub openingOf : Receiver → List ℕ → Opening
+openingOf r pdu = opening (r .node .keys) (r .node .networks) (r .node .iv) pdu
+
+-- the receiver with the PDU of a header in its cache
+abbrev pub caching : Receiver → Header → Receiver
+caching r h = withCache r (remembered (r .cache) (h .src) (h .seq))
+
+-- it opened and is new: it is cached, forwarded and taken
+pub record Passes (r : Receiver) (pdu fwd msg : List ℕ) (o : Outcome) : Type 0 where
+  pub opens : openingOf r pdu .answer ≡ network.Opened
+  pub room : 384 ≤ length msg
+  pub passes : o ≡ passed r (openingOf r pdu .header) (openingOf r pdu .trials) fwd msg
+
+module _ (r : Receiver) (fwd msg : List ℕ) where
+  refuses : (n : Refusal) (trials : ℕ) → early n ≡ true → Early r fwd msg (outcome (refusedHeard r n trials) fwd msg)
+  refuses n trials e = (n, record { is-early = e; tried = trials; leaves = refl })
+
+  refused-or-opened : (a : network-answer.Answer) (h : Header) (trials : ℕ) → Early r fwd msg (openedAs a r h trials fwd msg) ⊎ (a ≡ network.Opened)
+  unfolding openedAs
+  refused-or-opened network.WrongLength h trials = inl (refuses refusal.WrongLength trials refl)
+  refused-or-opened network.NoCandidate h trials = inl (refuses refusal.NoCandidate trials refl)
+  refused-or-opened network.NotAuthentic h trials = inl (refuses refusal.NotAuthentic trials refl)
+  refused-or-opened network.WrongAddress h trials = inl (refuses refusal.WrongAddress trials refl)
+  refused-or-opened network.Opened h trials = inr refl
+
+  module _ (pdu : List ℕ) where
+    abbrev o : Opening
+    o = openingOf r pdu
+
+    abbrev Either : Outcome → Type 0
+    Either x = Early r fwd msg x ⊎ Passes r pdu fwd msg x
+
+    either-uncached : 384 ≤ length msg → o .answer ≡ network.Opened → Either (uncached r (o .header) (o .trials) fwd msg)
+    unfolding uncached
+    either-uncached room e =
+        by-choice Either (seen (r .cache) (o .header .src) (o .header .seq)) {y = passed r (o .header) (o .trials) fwd msg}
+        (λ _. inl (refuses refusal.Cached (o .trials) refl)) (λ _. inr (record { opens = e; room = room; passes = refl }))
+
+    pub heard-either : Early r fwd msg (hearing r pdu fwd msg) ⊎ Passes r pdu fwd msg (hearing r pdu fwd msg)
+    unfolding hearing openedAs
+    heard-either =
+        by-choice Either (ltb (length fwd) 29) (λ _. inl (refuses refusal.ShortBuffer 0 refl))
+        (λ _. by-choice Either (ltb (length msg) 384) (λ _. inl (refuses refusal.ShortBuffer 0 refl))
+        (λ u. ⊎-elim inl
+        (λ e. subst (λ (x : network-answer.Answer). Either (openedAs x r (o .header) (o .trials) fwd msg)) (sym e) (either-uncached (ltb-false (length msg) 384 u) e))
+        (refused-or-opened (o .answer) (o .header) (o .trials))))
+
+    pub heard-unopened : (o .answer ≡ network.Opened → ⊥) → Early r fwd msg (hearing r pdu fwd msg)
+    heard-unopened n = ⊎-elim (λ y. y) (λ p. absurd (n (p .opens))) heard-either
+
+-- ---- a PDU that opens
+module _ (r : Receiver) (pdu fwd msg : List ℕ) (wide : 29 ≤ length fwd) (big : 384 ≤ length msg) (h : Header) (trials : ℕ)
+    (opens : opening (r .node .keys) (r .node .networks) (r .node .iv) pdu ≡ record { answer = network.Opened; trials = trials; header = h }) where
+  pub heard-opened : hearing r pdu fwd msg ≡ uncached r h trials fwd msg
+  unfolding hearing openedAs
+  heard-opened = rw (le-ltb (length fwd) 29 wide, le-ltb (length msg) 384 big, opens) refl
+
+  pub heard-again : seen (r .cache) (h .src) (h .seq) ≡ true → hearing r pdu fwd msg ≡ outcome (refusedHeard r refusal.Cached trials) fwd msg
+  unfolding uncached
+  heard-again e = heard-opened ∙ rw e refl
+
+  -- ---- it is new: whatever becomes of its message, it is sealed again where it is to be forwarded, and else the forward buffer stays
+  abbrev goesOn : Bool
+  goesOn = forwards (r .node .relay) (isLocal (r .node) (h .dst)) h
+
+  abbrev forwardedIs : Lent ℕ → Type 0
+  forwardedIs f = lent (hearing r pdu fwd msg .heard .forwarded) (hearing r pdu fwd msg .forward) ≡ f
+
+  pub heard-forwarded :
+      seen (r .cache) (h .src) (h .seq) ≡ false → goesOn ≡ true
+      → (let f = forwarding (r .node .keys) h fwd in forwardedIs (lent (sealedLength (f .answer)) (f .buffer)))
+  unfolding uncached passed relayed
+  heard-forwarded e t = rw (heard-opened, e, t) refl
+
+  pub heard-kept : seen (r .cache) (h .src) (h .seq) ≡ false → goesOn ≡ false → forwardedIs (lent 0 fwd)
+  unfolding uncached passed relayed
+  heard-kept e t = rw (heard-opened, e, t) refl
+
+  -- what the call leaves is t
+  pub record Leaves (t : Lent Taken) : Type 0 where
+    pub answers : hearing r pdu fwd msg .heard .answer ≡ t .answer .answer
+    pub left-is : hearing r pdu fwd msg .heard .receiver ≡ t .answer .receiver
+    pub message-is : hearing r pdu fwd msg .message ≡ t .buffer
+    -- the trials are those of opening it, and those of its message
+    pub network-is : hearing r pdu fwd msg .heard .network ≡ trials
+    pub application-is : hearing r pdu fwd msg .heard .application ≡ t .answer .trials
+
+  -- it is new, and for this node: it is taken by its form
+  pub heard-new :
+      seen (r .cache) (h .src) (h .seq) ≡ false → forNode (r .node) (h .dst) ≡ true → (t : Lent Taken) → takenAs (formOf h) (caching r h) h msg ≡ t → Leaves t
+  unfolding uncached passed taken
+  heard-new e f t g =
+      record {
+        answers = rw (heard-opened, e, f) (ap (λ (x : Lent Taken). x .answer .answer) g);
+        left-is = rw (heard-opened, e, f) (ap (λ (x : Lent Taken). x .answer .receiver) g);
+        message-is = rw (heard-opened, e, f) (ap (λ (x : Lent Taken). x .buffer) g);
+        network-is = rw (heard-opened, e) refl;
+        application-is = rw (heard-opened, e, f) (ap (λ (x : Lent Taken). x .answer .trials) g);
+      }

@@ -1,0 +1,109 @@
+-- What a request has passed that is allowed: each test of the definitions, as a fact. Assumes nothing.
+--   Asked                           the request itself
+--   access-allows, control-allows   the message besides
+--   segment-allowed                 a segment is allowed where its tests pass
+use mathlib.Core.Bool.{Bool, true, false}
+use mathlib.Core.Path.{_≡_, refl}
+use Prim.Native.Nat.{ℕ, _+_, _≤_, _<_, min}
+use native.Mathlib.Omega.{arith}
+use borrow.Author.Tests.{ne-eqb, ltb-true, leb-true, le-leb}
+use lib.Dec.{leb, ltb}
+use Rattle.common.specs.Bits.{hasBit}
+use Rattle.common.proofs.Tests.{and-first, and-second}
+use Rattle.modes.specs.Ccm.{micOctets}
+use Rattle.network.specs.Address.{kindOf}
+use Rattle.node.specs.declared.addresses.Node.{Node}
+use Rattle.transport.specs.declared.securing.MessageKey.{MessageKey}
+use Rattle.transport.specs.Securing.{transMic}
+use Rattle.receiver.specs.declared.state.Receiver.{Receiver}
+use Rattle.sending.specs.declared.request.Request.{Request}
+use Rattle.sending.specs.Access.{keyAllowed, sizeAllowed, accessAllowed}
+use Rattle.sending.specs.Control.{controlAllowed}
+use Rattle.sending.specs.Request.{ttlAllowed, sendableKind, requestAllowed}
+use Rattle.sending.specs.Segment.{segmentAllowed}
+use Rattle.sending.specs.Transmission.{nextSeq}
+
+-- the element and the network key are there; DST and TTL may be sent to and with
+pub record Asked (node : Node) (q : Request) : Type 0 where
+  pub element-there : q .element < min (node .elements) 8
+  pub network-there : q .network < min (node .networks) 4
+  pub sendable : sendableKind (kindOf (q .dst)) ≡ true
+  pub ttl-allowed : ttlAllowed (q .ttl) ≡ true
+
+asked : (node : Node) (q : Request) → requestAllowed node q ≡ true → Asked node q
+unfolding requestAllowed
+asked node q e =
+    let element = ltb (q .element) (min (node .elements) 8) in
+    let network = ltb (q .network) (min (node .networks) 4) in
+    let e1 = and-second element _ e in
+    let e2 = and-second network _ e1 in
+    record {
+      element-there = ltb-true (q .element) (min (node .elements) 8) (and-first element _ e);
+      network-there = ltb-true (q .network) (min (node .networks) 4) (and-first network _ e1);
+      sendable = and-first (sendableKind (kindOf (q .dst))) _ e2;
+      ttl-allowed = and-second (sendableKind (kindOf (q .dst))) _ e2;
+    }
+
+-- ---- an access message: its key may be used, and its payload has an octet and leaves room for the TransMIC
+pub record AccessAllowed (node : Node) (q : Request) (key : MessageKey) (szmic : Bool) (len : ℕ) : Type 0 where
+  pub asks : Asked node q
+  pub key-allowed : keyAllowed node q key ≡ true
+  pub some-payload : 1 ≤ len
+  pub payload-most : len + micOctets (transMic szmic) ≤ 384
+
+size-some : (szmic : Bool) (len : ℕ) → sizeAllowed szmic len ≡ true → 1 ≤ len
+unfolding sizeAllowed
+size-some szmic len e = leb-true 1 len (and-first (leb 1 len) _ e)
+
+size-most : (szmic : Bool) (len : ℕ) → sizeAllowed szmic len ≡ true → len + micOctets (transMic szmic) ≤ 384
+unfolding sizeAllowed
+size-most true len e = let m = leb-true len 376 (and-second (leb 1 len) _ e) in omega arith
+size-most false len e = let m = leb-true len 380 (and-second (leb 1 len) _ e) in omega arith
+
+pub access-allows :
+    (r : Receiver) (q : Request) (key : MessageKey) (szmic : Bool) (len : ℕ) → accessAllowed r q key szmic len ≡ true → AccessAllowed (r .node) q key szmic len
+unfolding accessAllowed
+access-allows r q key szmic len e =
+    let e1 = and-second (requestAllowed (r .node) q) _ e in
+    let sized = and-first (sizeAllowed szmic len) _ (and-second (keyAllowed (r .node) q key) _ e1) in
+    record {
+      asks = asked (r .node) q (and-first (requestAllowed (r .node) q) _ e);
+      key-allowed = and-first (keyAllowed (r .node) q key) _ e1;
+      some-payload = size-some szmic len sized;
+      payload-most = size-most szmic len sized;
+    }
+
+-- ---- a control message: its opcode is 0x01-0x7F, and it has at most 256 parameters
+pub record ControlAllowed (node : Node) (q : Request) (opcode len : ℕ) : Type 0 where
+  pub asks : Asked node q
+  pub opcode-least : 1 ≤ opcode
+  pub opcode-most : opcode ≤ 0x7F
+  pub parameters-most : len ≤ 256
+
+pub control-allows :
+    (r : Receiver) (q : Request) (opcode len : ℕ) → controlAllowed r q opcode len ≡ true → ControlAllowed (r .node) q opcode len
+unfolding controlAllowed
+control-allows r q opcode len e =
+    let e1 = and-second (requestAllowed (r .node) q) _ e in
+    let e2 = and-second (leb 1 opcode) _ e1 in
+    let e3 = and-second (leb opcode 0x7F) _ e2 in
+    record {
+      asks = asked (r .node) q (and-first (requestAllowed (r .node) q) _ e);
+      opcode-least = leb-true 1 opcode (and-first (leb 1 opcode) _ e1);
+      opcode-most = leb-true opcode 0x7F (and-first (leb opcode 0x7F) _ e2);
+      parameters-most = leb-true len 256 (and-first (leb len 256) _ e3);
+    }
+
+-- ---- a segment: a message is kept, it is one of it and not yet heard, and the SEQ is at most 8,191 after that of segment 0
+pub segment-allowed :
+    (r : Receiver) (element n : ℕ) → (r .out .src ≡ 0 → ⊥) → n ≤ r .out .terms .segn → n ≤ 31 → hasBit (r .out .heard) n ≡ false
+    → nextSeq r element ≤ r .out .auth .seq + 8191 → segmentAllowed r element n ≡ true
+unfolding segmentAllowed
+segment-allowed r element n z last low unheard near =
+    rw (
+      ne-eqb (r .out .src) 0 z,
+      le-leb n (r .out .terms .segn) last,
+      le-leb n 31 low,
+      unheard,
+      le-leb (nextSeq r element) (r .out .auth .seq + 8191) near,
+    ) refl
