@@ -1,3 +1,4 @@
 -- What the console's answers say.
 pub mod Answer
 pub mod Looking
+pub mod Fits
