@@ -10,6 +10,8 @@
 
 uint64_t speed_hear(const uint8_t *keys, size_t keys_size, uint16_t first, uint32_t iv_index, const uint8_t *pdu, size_t size, size_t slot,
 		    uint8_t *message, size_t message_size, uint32_t times);
+uint64_t speed_hear_row(const uint8_t *keys, size_t keys_size, uint16_t first, uint32_t iv_index, const uint8_t *pdus, size_t size, uint8_t *message,
+			size_t message_size);
 uint32_t speed_open_pdu(const uint8_t *keys, size_t keys_size, uint16_t first, uint32_t iv_index, const uint8_t *pdu, size_t size, uint32_t times);
 uint32_t speed_open(const uint8_t *key, size_t key_size, const uint8_t *nonce, size_t nonce_size, const uint8_t *sealed, size_t size, uint8_t *out,
 		    size_t out_size);
@@ -106,11 +108,19 @@ static void row(const char *what, const uint8_t pdu[29], bool stored, bool hande
 	       (heard - network - inner) / (network + inner));
 }
 
-// hear COUNT: hears the access message so often and prints nothing; bench/console times that.
+// hear -: hears the PDUs on standard input, 29 octets each, in a row by one receiver; an error where one is refused. bench/console times that.
+static int hear_row(void)
+{
+	static uint8_t pdus[29 * 10000];
+	size_t size = fread(pdus, 1, sizeof pdus, stdin);
+
+	return speed_hear_row(keys, sizeof keys, FIRST, IV_INDEX, pdus, size, message, sizeof message) != size / 29;
+}
+
 int main(int argc, char **argv)
 {
-	if (argc > 1)
-		return hear(access, (uint32_t)strtoul(argv[1], NULL, 10)) == 0;
+	if (argc > 1 && strcmp(argv[1], "-") == 0)
+		return hear_row();
 	printf("%-42s %8s %8s %8s %10s %10s %12s\n", "a PDU of 29 octets heard, nanoseconds", "hear", "open", "message", "over open", "the rest", "over ciphers");
 	row("an access message is handed up", access, false, true, 5000);
 	row("a segment is stored", segment, true, false, 5000);

@@ -104,6 +104,7 @@ determinate =
       speed-cmac = λ _ _ _. determined _;
       speed-open = λ _ _ _ _. determined _;
       speed-hear = λ _ _ _ _ _ _ _. determined _;
+      speed-hear-row = λ _ _ _ _ _. determined _;
       speed-open-pdu = λ _ _ _ _ _. determined _;
       text-first = λ _ _. determined _;
       text-within = λ _ _. determined _;

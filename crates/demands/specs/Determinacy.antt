@@ -81,7 +81,7 @@ use Rattle.sending.specs.declared.request.Ttl.{Ttl}
 use Rattle.site.specs.Setting.{setting, ready}
 use Rattle.site.specs.Words as words
 use Rattle.speed.specs.Blocks.{blocksDone}
-use Rattle.speed.specs.Hearing.{heardTimes, openedTimes}
+use Rattle.speed.specs.Hearing.{heardTimes, heardAll, openedTimes}
 use Rattle.speed.specs.Mac.{macDone}
 use Rattle.speed.specs.Open as speed
 use Rattle.text.specs.Field.{is, behind, fieldOf}
@@ -207,6 +207,7 @@ pub record Determinate : Type 0 where
   pub speed-cmac : (key m out : List ℕ) → Determined (macDone key m out)
   pub speed-open : (key nonce sealed out : List ℕ) → Determined (speed.openDone key nonce sealed out)
   pub speed-hear : (keys : List ℕ) (first iv : ℕ) (pdu : List ℕ) (slot : ℕ) (msg : List ℕ) (times : ℕ) → Determined (heardTimes keys first iv pdu slot msg times)
+  pub speed-hear-row : (keys : List ℕ) (first iv : ℕ) (pdus msg : List ℕ) → Determined (heardAll keys first iv pdus msg)
   pub speed-open-pdu : (keys : List ℕ) (first iv : ℕ) (pdu : List ℕ) (times : ℕ) → Determined (openedTimes keys first iv pdu times)
   -- text
   pub text-first : (s : List ℕ) (n : ℕ) → Determined (take n s)

@@ -1,12 +1,13 @@
--- A session slot free or held, one hearing and one opening more, and the rules by which a call of `speed_hear` or `speed_open_pdu` answers: `no-keys`, `heard`,
--- `no-keys-open`, `opened-all`.
+-- A session slot free or held, one hearing and one opening more, and the rules by which a call of `speed_hear`, `speed_hear_row` or `speed_open_pdu` answers:
+-- `no-keys`, `heard`; `no-keys-row`, `row-heard`; `no-keys-open`, `opened-all`.
 -- Assumes nothing.
-use mathlib.Core.Path.{_≡_}
+use mathlib.Core.Path.{_≡_, ap}
 use mathlib.Core.List.{List}
-use Prim.Native.Nat.{ℕ, _+_, _%_}
+use Prim.Native.Nat.{ℕ, _+_, _*_, _-_, _/_, _%_}
 use native.Mathlib.Numerals.{add-one}
+use native.Mathlib.Omega.{arith}
 use borrow.Author.Tests.{eq-eqb, ne-eqb}
-use lib.ListN.{length, replicate}
+use lib.ListN.{length, take, drop, replicate}
 use Rattle.common.specs.Lent.{lent}
 use Rattle.memory.specs.Decision.{sessionAt}
 use Rattle.network.specs.declared.opening.Opening.{Opening}
@@ -15,7 +16,7 @@ use Rattle.node.specs.declared.addresses.Node.{Node}
 use Rattle.receiver.specs.declared.answer.Heard.{Heard}
 use Rattle.receiver.specs.declared.state.Receiver.{Receiver}
 use Rattle.receiver.specs.Hearing.{outcome, hearing}
-use Rattle.speed.specs.Hearing.{receiverOf, accepted, held, heardOver, heardTimes, opened, openedOver, openedTimes}
+use Rattle.speed.specs.Hearing.{receiverOf, accepted, held, heardOver, heardTimes, row, pduAt, heardRow, countedRow, heardAll, opened, openedOver, openedTimes}
 
 -- ---- a session slot
 pub held-free : (src : ℕ) → src ≡ 0 → 0 ≡ held src
@@ -33,6 +34,18 @@ pub heard-more :
     → b ≡ held (sessionAt (h .receiver .sessions) slot .src) → lent (count + (a + b)) msg' ≡ heardOver r pdu slot msg (i + 1)
 unfolding heardOver
 heard-more r pdu slot msg i p q ea eb = rw (add-one i, ← p, ← q, ea, eb)
+
+pub pdu-part : (pdus : List ℕ) (i : ℕ) → take (29 * i + 29 - 29 * i) (drop (29 * i) pdus) ≡ pduAt pdus i
+pdu-part pdus i =
+    let octets : 29 * i + 29 - 29 * i ≡ 29 = omega arith in
+    ap (λ n. take n (drop (29 * i) pdus)) octets
+
+pub row-more :
+    (r : Receiver) (pdus msg : List ℕ) (i : ℕ) {q : Receiver} {count : ℕ} {left : List ℕ} → row q count left ≡ heardRow r pdus msg i
+    → {pdu : List ℕ} → pdu ≡ pduAt pdus i → {h : Heard} {fwd msg' : List ℕ} → outcome h fwd msg' ≡ hearing q pdu (replicate 29 0) left
+    → {a : ℕ} → a ≡ accepted (h .answer) → row (h .receiver) (count + a) msg' ≡ heardRow r pdus msg (i + 1)
+unfolding heardRow
+row-more r pdus msg i p ep q ea = rw (add-one i, ← p, ← ep, ← q, ea)
 
 pub opened-more :
     (node : Node) (pdu : List ℕ) (i : ℕ) {count : ℕ} → count ≡ openedOver node pdu i → {o : Opening}
@@ -62,6 +75,19 @@ module _ (keys : List ℕ) (first iv : ℕ) (pdu : List ℕ) (times : ℕ) where
   unfolding openedTimes
   opened-all h er en = simp (eq-eqb _ _ h, ← er) en
 
+module _ (keys : List ℕ) (first iv : ℕ) (pdus msg : List ℕ) where
+  pub no-keys-row : (length keys ≡ 48 → ⊥) → lent 0 msg ≡ heardAll keys first iv pdus msg
+  unfolding heardAll
+  no-keys-row h = simp (ne-eqb _ _ h)
+
+  pub row-heard :
+      length keys ≡ 48 → {r : Receiver} → r ≡ receiverOf keys first iv → {n k : ℕ} {left : List ℕ} → k ≡ length pdus / 29
+      → lent n left ≡ countedRow r pdus msg k → lent n left ≡ heardAll keys first iv pdus msg
+  unfolding heardAll
+  row-heard h er ek en = simp (eq-eqb _ _ h, ← er, ← ek) en
+
 pub ruleset heard-rules = (no-keys, heard)
+
+pub ruleset row-rules = (no-keys-row, row-heard)
 
 pub ruleset opened-rules = (no-keys-open, opened-all)

@@ -1,12 +1,14 @@
--- One PDU heard again and again, each time by a receiver that was just set up; and its network layer opened as often.
+-- One PDU heard again and again, each time by a receiver that was just set up; many heard in a row by one receiver; and a PDU's network layer opened again and again.
 --   receiverOf keys first iv                        the receiver
 --   heardOver r pdu slot msg n                      the count over n hearings, and the message buffer after them
 --   heardTimes keys first iv pdu slot msg times     what a call of `speed_hear` leaves
+--   heardRow r pdus msg n                           what the first n of many PDUs in a row leave
+--   heardAll keys first iv pdus msg                 what a call of `speed_hear_row` leaves
 --   openedOver node pdu n                           how many of n openings open the PDU
 --   openedTimes keys first iv pdu times             what a call of `speed_open_pdu` answers
 use mathlib.Core.Bool.{false, not}
 use mathlib.Core.List.{List}
-use Prim.Native.Nat.{ℕ, zero, suc, _+_, _*_, _%_}
+use Prim.Native.Nat.{ℕ, zero, suc, _+_, _*_, _/_, _%_}
 use lib.Dec.{eqb}
 use lib.ListN.{length, take, drop, replicate}
 use Rattle.common.specs.Choice.{if_then_else_}
@@ -78,6 +80,37 @@ unfoldable pub heardTimes : List ℕ → ℕ → ℕ → List ℕ → ℕ → Li
 heardTimes keys first iv pdu slot msg times =
     if not (eqb (length keys) 48) then lent 0 msg else
     heardOver (receiverOf keys first iv) pdu (slot % 8) msg times
+
+-- what PDUs in a row leave: the receiver, how many were not refused, and the message buffer
+pub record Row : Type 0 where
+  pub receiver : Receiver
+  pub count : ℕ
+  pub message : List ℕ
+
+abbrev pub row : Receiver → ℕ → List ℕ → Row
+row r n msg = record { receiver = r; count = n; message = msg }
+
+-- PDU i, from 0, of 29 octets each
+abbrev pub pduAt : List ℕ → ℕ → List ℕ
+pduAt pdus i = take 29 (drop (29 * i) pdus)
+
+-- each is heard by the receiver that the one before left
+unfoldable pub heardRow : Receiver → List ℕ → List ℕ → ℕ → Row
+heardRow r pdus msg zero = row r 0 msg
+heardRow r pdus msg (suc n) =
+    let before = heardRow r pdus msg n in
+    let o = hearing (before .receiver) (pduAt pdus n) (replicate 29 0) (before .message) in
+    row (o .heard .receiver) (before .count + accepted (o .heard .answer)) (o .message)
+
+-- the count and the message buffer after the first n
+abbrev pub countedRow : Receiver → List ℕ → List ℕ → ℕ → Lent ℕ
+countedRow r pdus msg n = lent (heardRow r pdus msg n .count) (heardRow r pdus msg n .message)
+
+-- octets behind the last whole PDU are not heard; nothing is where keys is not 48 octets
+unfoldable pub heardAll : List ℕ → ℕ → ℕ → List ℕ → List ℕ → Lent ℕ
+heardAll keys first iv pdus msg =
+    if not (eqb (length keys) 48) then lent 0 msg else
+    countedRow (receiverOf keys first iv) pdus msg (length pdus / 29)
 
 -- 1 for a PDU that was opened
 abbrev pub opened : opening-answer.Answer → ℕ

@@ -1,4 +1,5 @@
-// One PDU heard again and again, each time by a receiver that was just set up; and, for comparison, its network layer opened as often.
+// One PDU heard again and again, each time by a receiver that was just set up; many heard in a row by one receiver; and, for comparison, a PDU's
+// network layer opened again and again.
 use network::opening::Answer as Network;
 use node::addresses::Key;
 use node::addresses::Node;
@@ -7,10 +8,10 @@ use node::setup::Setup;
 use receiver::answer::Answer;
 use receiver::state::Receiver;
 ghost use mathlib.Core.Path.{_≡_};
-ghost use Prim.Native.Nat.{_≤_, _<_};
+ghost use Prim.Native.Nat.{_≤_, _<_, _*_};
 ghost use lib.ListN.{length};
 ghost use Rattle.common.specs.Lent.{lent};
-ghost use Rattle.speed.specs.Hearing.{keyAt, setupOf, receiverOf, accepted, held, heardOver, heardTimes, opened, openedOver, openedTimes};
+ghost use Rattle.speed.specs.Hearing.{keyAt, setupOf, receiverOf, accepted, held, heardOver, heardTimes, countedRow, heardAll, opened, openedOver, openedTimes};
 
 // Key i, from 0, of the three.
 fn key(keys: &[u8], i: usize) -> [u8; 16]
@@ -144,6 +145,45 @@ pub extern "C" fn speed_hear(
         return 0;
     }
     hear_over(receiver(keys, first, iv), pdu, slot % 8, message, times)
+}
+
+// Hears the first n PDUs of a row, 29 octets each, one after the other, and counts what is accepted.
+fn hear_row(r: Receiver, pdus: &[u8], n: usize, message: &mut [u8]) -> u64
+    requires { ⌜ 29 * n ≤ length (now pdus) ⌝ }
+    ensures { λ count. ⌜ lent count (now (message .exit)) ≡ countedRow r (now (pdus .entry)) (now (message .entry)) n ⌝ }
+{
+    let mut receiver = r;
+    let mut count: u64 = 0;
+    let mut i: usize = 0;
+    while i < n {
+        let mut forward = [0u8; 29];
+        let at = 29 * i;
+        let end = at + 29;
+        let h = receiver::hear::hear(receiver, &pdus[at..end], &mut forward, message);
+        let answer = h.answer;
+        count += accept(answer);
+        receiver = h.receiver;
+        i += 1;
+    }
+    count
+}
+
+// Hears the PDUs of a row, 29 octets each, by one receiver just set up, to which message is lent, and says how many are not refused. Where keys is not
+// 48 octets nothing is heard.
+#[no_mangle]
+pub extern "C" fn speed_hear_row(
+    keys: &[u8],
+    first: u16,
+    iv: u32,
+    pdus: &[u8],
+    message: &mut [u8],
+) -> u64
+    ensures { λ n. ⌜ lent n (now (message .exit)) ≡ heardAll (now (keys .entry)) first iv (now (pdus .entry)) (now (message .entry)) ⌝ }
+{
+    if keys.len() != 48 {
+        return 0;
+    }
+    hear_row(receiver(keys, first, iv), pdus, pdus.len() / 29, message)
 }
 
 // 1 for a PDU that was opened.
