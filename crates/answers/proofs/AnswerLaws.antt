@@ -25,10 +25,11 @@ use Rattle.commands.specs.declared.desk.Reply.{Reply}
 use Rattle.commands.specs.declared.desk.Reply.the-variants as reply
 use Rattle.text.specs.Octets.{octets}
 use Rattle.text.specs.Hex.{hexText}
+use Rattle.text.specs.Refusal.{refusalText, refusedText}
 use Rattle.text.specs.Written.{putting}
 use Rattle.text.proofs.WrittenLaws.{put-then}
 use Rattle.answers.specs.declared.answer.Trials.{Trials}
-use Rattle.answers.specs.Answer.{named, refusalText, refusedText, trialsText, segmentsText, keyText, messageText, effectText, accessText, controlText, acknowledgementText, heardText, forwardText, spokenText, givenUpText, setUpText, notedText}
+use Rattle.answers.specs.Answer.{named, trialsText, segmentsText, keyText, messageText, effectText, accessText, controlText, acknowledgementText, heardText, forwardText, spokenText, givenUpText, setUpText, notedText}
 
 module _ (out : List ℕ) (at r : ℕ) (o : List ℕ) where
   -- ---- the key of an access message

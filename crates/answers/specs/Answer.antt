@@ -27,18 +27,13 @@ use Rattle.commands.specs.declared.desk.Reply.{Reply}
 use Rattle.commands.specs.declared.desk.Reply.the-variants as reply
 use Rattle.text.specs.Octets.{octets}
 use Rattle.text.specs.Hex.{hexText}
-use Rattle.text.specs.Number.{numberText, decimalText}
+use Rattle.text.specs.Number.{numberText}
+use Rattle.text.specs.Refusal.{refusalText, refusedText}
 use Rattle.answers.specs.declared.answer.Trials.{Trials}
 
 -- a label, and a number behind it in at least w digits
 abbrev pub named : String → ℕ → ℕ → List ℕ
 named label w n = octets label ++ numberText w n
-
-abbrev pub refusalText : ℕ → List ℕ
-refusalText n = octets "refused " ++ decimalText n
-
-abbrev pub refusedText : ℕ → List ℕ
-refusedText n = refusalText n ++ octets "\n"
 
 abbrev pub trialsText : Trials → List ℕ
 trialsText t = named " trials " 1 (t .network) ++ named " " 1 (t .application)

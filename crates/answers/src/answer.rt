@@ -8,6 +8,7 @@ use receiver::give_up::Answer as GivingUp;
 use sending::answer::Answer as Sending;
 use text::hex;
 use text::number;
+use text::refusal;
 use transport::securing::MessageKey;
 ghost use mathlib.Core.Path.{_≡_};
 ghost use mathlib.Core.List.{_++_};
@@ -15,28 +16,14 @@ ghost use Prim.Native.Nat.{_+_};
 ghost use Rattle.common.specs.Lent.{lent};
 ghost use Rattle.text.specs.Octets.{octets};
 ghost use Rattle.text.specs.Hex.{hexText};
+ghost use Rattle.text.specs.Refusal.{refusalText};
 ghost use Rattle.text.specs.Written.{putting};
-ghost use Rattle.answers.specs.Answer.{named, refusalText, refusedText, trialsText, pairText, segmentsText, routeText, keyText, messageText, effectText, accessText, controlText, acknowledgementText, heardText, forwardText, spokenText, givenUpText, setUpText, notedText};
+ghost use Rattle.answers.specs.Answer.{named, trialsText, pairText, segmentsText, routeText, keyText, messageText, effectText, accessText, controlText, acknowledgementText, heardText, forwardText, spokenText, givenUpText, setUpText, notedText};
 
 // How many network keys and application keys were tried.
 pub struct Trials {
     pub network: usize,
     pub application: usize,
-}
-
-// `refused N`, N in decimal.
-fn put_refusal(n: u32, out: &mut [u8], at: usize) -> usize
-    ensures { λ r. ⌜ lent r (now (out .exit)) ≡ putting (refusalText n) (now (out .entry)) at ⌝ }
-{
-    number::put_decimal(b"refused ", n as u64, out, at)
-}
-
-// `refused N` and a newline.
-fn put_refused(n: u32, out: &mut [u8], at: usize) -> usize
-    ensures { λ r. ⌜ lent r (now (out .exit)) ≡ putting (refusedText n) (now (out .entry)) at ⌝ }
-{
-    let end = put_refusal(n, out, at);
-    text::put(b"\n", out, end)
 }
 
 // ` trials T A`.
@@ -109,7 +96,7 @@ fn put_effect(effect: Effect, out: &mut [u8], at: usize) -> usize
 fn put_refusal_heard(n: u32, t: Trials, out: &mut [u8], at: usize) -> usize
     ensures { λ r. ⌜ lent r (now (out .exit)) ≡ putting (refusalText n ++ trialsText t) (now (out .entry)) at ⌝ }
 {
-    let end = put_refusal(n, out, at);
+    let end = refusal::put(n, out, at);
     put_trials(t, out, end)
 }
 
@@ -246,7 +233,7 @@ pub fn put_spoken(a: Sending, pdu: &[u8], out: &mut [u8], at: usize) -> usize
     match a {
         Sending::Sent(len) => put_sent(text::first(pdu, len), out, at),
         Sending::Started { len, segn } => put_started(text::first(pdu, len), segn, out, at),
-        Sending::Refused(refusal) => put_refused(receiver::answer::number(refusal), out, at),
+        Sending::Refused(refusal) => refusal::put_line(receiver::answer::number(refusal), out, at),
     }
 }
 
@@ -256,7 +243,7 @@ pub fn put_given_up(a: GivingUp, out: &mut [u8], at: usize) -> usize
 {
     match a {
         GivingUp::Done => text::put(b"given up\n", out, at),
-        GivingUp::Refused(refusal) => put_refused(receiver::answer::number(refusal), out, at),
+        GivingUp::Refused(refusal) => refusal::put_line(receiver::answer::number(refusal), out, at),
     }
 }
 
@@ -266,7 +253,11 @@ pub fn put_set_up(a: SettingUp, out: &mut [u8], at: usize) -> usize
 {
     match a {
         SettingUp::Ready => text::put(b"ready\n", out, at),
-        SettingUp::Refused(refusal) => put_refused(receiver::answer::number(refusal), out, at),
+        SettingUp::Refused(refusal) => refusal::put_line(
+            receiver::answer::number(refusal),
+            out,
+            at,
+        ),
     }
 }
 

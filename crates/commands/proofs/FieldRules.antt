@@ -1,21 +1,16 @@
 -- What a field that was read leads to. The code reads a field into an enum and goes on by its case, where a definition hands the field on: they
--- agree, since what is made of a choice is made on either way of it. A number with a smaller bound is read as one of 16 bits and held to the bound.
+-- agree, since what is made of a choice is made on either way of it.
 -- Assumes nothing.
-use mathlib.Core.Path.{_≡_, refl, _∙_}
-use mathlib.Core.Bool.{Bool, true, false}
+use mathlib.Core.Path.{_≡_, _∙_}
+use mathlib.Core.Bool.{Bool}
 use mathlib.Core.List.{List}
-use Prim.Native.Nat.{ℕ, _≤_, _<_}
-use native.Mathlib.Omega.{arith}
-use borrow.Author.Tests.{lt-leb, leb-true, leb-false}
-use lib.Dec.{leb}
-use Rattle.common.specs.Choice.{if_then_else_}
+use Prim.Native.Nat.{ℕ}
 use Rattle.common.specs.Lent.{lent}
-use Rattle.common.proofs.Tests.{by-test}
 use Rattle.transport.specs.declared.securing.MessageKey.{MessageKey}
 use Rattle.sending.specs.declared.request.Request.{Request}
 use Rattle.sending.specs.declared.request.Ttl.{Ttl}
 use Rattle.text.specs.declared.number.Number.{Number}
-use Rattle.text.specs.declared.number.Number.the-variants as number
+use Rattle.text.specs.declared.number.Number.the-variants.{Value, NotHex}
 use Rattle.text.specs.declared.number.Octet.{Octet}
 use Rattle.text.specs.declared.number.Octet.the-variants as octet
 use Rattle.text.specs.declared.number.Short.{Short}
@@ -23,6 +18,7 @@ use Rattle.text.specs.declared.number.Short.the-variants as short
 use Rattle.text.specs.declared.hex.Octets.{Octets}
 use Rattle.text.specs.Hex.{reading}
 use Rattle.text.specs.Number.{numberOf, atMost, octetOf, shortOf}
+use Rattle.text.proofs.NumberLaws.{if-map, at-most-map, onNumber, number-made}
 use Rattle.commands.specs.declared.requesting.TtlField.{TtlField}
 use Rattle.commands.specs.declared.requesting.TtlField.the-variants as ttl
 use Rattle.commands.specs.declared.requesting.KeyField.{KeyField}
@@ -34,15 +30,6 @@ use Rattle.commands.specs.declared.requesting.Asked.the-variants as aske
 use Rattle.commands.specs.declared.line.Line.{Line}
 use Rattle.commands.specs.Request.{upTo, withTtl, withKey, withMic, withRequest}
 use Rattle.commands.specs.Line.{counted, withOctets}
-
--- ---- what is made of a choice, and of a number, is made on either way
-if-map : {A B : Type 0} (g : A → B) (b : Bool) (x y : A) → g (if b then x else y) ≡ (if b then g x else g y)
-if-map g true x y = refl
-if-map g false x y = refl
-
-at-most-map : {A B : Type 0} (g : A → B) (most : ℕ) (f : ℕ → A) (x : A) (m : Number) → g (atMost most f x m) ≡ atMost most (λ n. g (f n)) (g x) m
-at-most-map g most f x (number.Value n) = if-map g (leb n most) (f n) x
-at-most-map g most f x number.NotHex = refl
 
 -- ---- what each reading leads to, x where it does not fit
 abbrev onOctet : {A : Type 0} → A → (ℕ → A) → Octet → A
@@ -71,6 +58,10 @@ onRequest x f asked.Unfit = x
 
 -- ---- a field that was read, and what it was read as
 module _ {A : Type 0} (text t : List ℕ) (same-text : t ≡ text) (x z : A) where
+  pub number-read :
+      (most : ℕ) (f : ℕ → A) (a b : Number) → a ≡ atMost most Value NotHex (numberOf t) → a ≡ b → z ≡ onNumber x f b → z ≡ upTo most text x f
+  number-read most f a b e k r = number-made most text a (rw same-text at e) x z f b k r
+
   pub octet-read : (f : ℕ → A) (a b : Octet) → a ≡ octetOf (numberOf t) → a ≡ b → z ≡ onOctet x f b → z ≡ upTo 0xFF text x f
   octet-read f a b e k r = r ∙ rw (← k, e, same-text) (at-most-map (onOctet x f) 0xFF octet.Value octet.Unfit (numberOf text))
 
@@ -95,25 +86,10 @@ pub request-read :
 unfolding withRequest withTtl
 request-read line x z f a b e k r = r ∙ rw (← k, e) (simp (if-map (onRequest x f), at-most-map (onRequest x f)))
 
--- ---- a number with a bound below 16 bits
-abbrev held : {A : Type 0} → ℕ → A → (ℕ → A) → ℕ → A
-held most x f n = if leb n most then f n else x
-
-at-most-held : {A : Type 0} (most : ℕ) (x : A) (f : ℕ → A) (m : Number) → leb most 0xFFFF ≡ true → atMost 0xFFFF (held most x f) x m ≡ atMost most f x m
-at-most-held most x f (number.Value n) h =
-    by-test (leb n 0xFFFF) (λ t. rw t)
-    (λ t. let more : 0xFFFF < n = leb-false n 0xFFFF t in let less : most ≤ 0xFFFF = leb-true most 0xFFFF h in rw (t, lt-leb n most (omega arith)))
-at-most-held most x f number.NotHex h = refl
-
-pub held-read :
-    {A : Type 0} (most : ℕ) (text t : List ℕ) → t ≡ text → (x z : A) (f : ℕ → A) (a b : Short) → a ≡ shortOf (numberOf t) → a ≡ b → leb most 0xFFFF ≡ true
-    → z ≡ onShort x (held most x f) b → z ≡ upTo most text x f
-held-read most text t same-text x z f a b e k h r = short-read text t same-text x z (held most x f) a b e k r ∙ at-most-held most x f (numberOf text) h
-
 -- ---- octets, read into a buffer
 pub octets-read :
     (text t out left : List ℕ) → t ≡ text → (f : ℕ → Line) (z : Line) (a b : Octets) → lent a left ≡ reading t out → a ≡ b → z ≡ counted b f
     → lent z left ≡ withOctets text out f
 octets-read text t out left same-text f z a b e k r = rw (← same-text, ← e, k, r)
 
-pub ruleset field-rules = (octet-read, short-read, ttl-read, key-read, mic-read, request-read, octets-read)
+pub ruleset field-rules = (number-read, octet-read, short-read, ttl-read, key-read, mic-read, request-read, octets-read)

@@ -14,6 +14,7 @@ use text::field;
 use text::hex;
 use text::hex::Octets;
 use text::number;
+use text::number::Number;
 use text::number::Octet;
 use text::number::Short;
 use transport::securing::MessageKey;
@@ -201,18 +202,12 @@ fn session(line: &[u8]) -> Line
 fn room(line: &[u8]) -> Line
     ensures { λ r. ⌜ r ≡ roomOf (now (line .entry)) ⌝ }
 {
-    let Short::Value(forward) = number::read_short(field::nth(line, 1)) else {
+    let Number::Value(forward) = number::read_up_to(384, field::nth(line, 1)) else {
         return Line::Unread;
     };
-    if 384 < forward {
-        return Line::Unread;
-    }
-    let Short::Value(message) = number::read_short(field::last(line, 2)) else {
+    let Number::Value(message) = number::read_up_to(384, field::last(line, 2)) else {
         return Line::Unread;
     };
-    if 384 < message {
-        return Line::Unread;
-    }
     Line::Room(Room {
         forward: forward as usize,
         message: message as usize,

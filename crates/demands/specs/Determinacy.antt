@@ -86,9 +86,11 @@ use Rattle.speed.specs.Mac.{macDone}
 use Rattle.speed.specs.Open as speed
 use Rattle.text.specs.Field.{is, behind, fieldOf}
 use Rattle.text.specs.Hex.{hexValue, reading, filling, hexText}
-use Rattle.text.specs.Number.{numberOf, shortOf, octetOf, bitOf, numberText, decimalText}
+use Rattle.text.specs.Number.{numberOf, atMost, shortOf, octetOf, bitOf, numberText, decimalText}
 use Rattle.text.specs.Octets.{octets as text-octets}
+use Rattle.text.specs.Refusal.{refusalText, refusedText}
 use Rattle.text.specs.Written.{putting}
+use Rattle.text.specs.declared.number.Number.the-variants as number
 use Rattle.transport.specs.Form.{formOf}
 use Rattle.transport.specs.Opcode.{opcodeKind}
 use Rattle.transport.specs.Securing as securing
@@ -221,11 +223,14 @@ pub record Determinate : Type 0 where
   pub hex-fill : (text out : List ℕ) → Determined (filling text out)
   pub hex-put : (s out : List ℕ) (at : ℕ) → Determined (putting (hexText s) out at)
   pub number-read : (text : List ℕ) → Determined (numberOf text)
+  pub number-up-to : (most : ℕ) (text : List ℕ) → Determined (atMost most number.Value number.NotHex (numberOf text))
   pub number-short : (text : List ℕ) → Determined (shortOf (numberOf text))
   pub number-octet : (text : List ℕ) → Determined (octetOf (numberOf text))
   pub number-bit : (text : List ℕ) → Determined (bitOf (numberOf text))
   pub number-put : (label : List ℕ) (n width : ℕ) (out : List ℕ) (at : ℕ) → Determined (putting (label ++ numberText width n) out at)
   pub number-put-decimal : (label : List ℕ) (n : ℕ) (out : List ℕ) (at : ℕ) → Determined (putting (label ++ decimalText n) out at)
+  pub refusal-put : (n : ℕ) (out : List ℕ) (at : ℕ) → Determined (putting (refusalText n) out at)
+  pub refusal-put-line : (n : ℕ) (out : List ℕ) (at : ℕ) → Determined (putting (refusedText n) out at)
   -- site
   pub setting : (address next iv : ℕ) (flag : Bool) → Determined (setting address next iv flag)
   pub node : (address next iv : ℕ) (flag : Bool) → Determined (ready address next iv flag)

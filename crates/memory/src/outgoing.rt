@@ -44,14 +44,7 @@ pub fn none() -> Outgoing
     Outgoing {
         src: 0,
         auth: Pair { iv: 0, seq: 0 },
-        terms: Terms {
-            ctl: false,
-            first: 0,
-            szmic: false,
-            segn: 0,
-            dst: 0,
-            key: 0,
-        },
+        terms: super::session::NO_TERMS,
         ttl: 0,
         heard: 0,
         len: 0,

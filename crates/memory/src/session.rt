@@ -40,6 +40,16 @@ pub struct Session {
     pub bytes: [u8; 384],
 }
 
+// No terms: zeros.
+pub(crate) const NO_TERMS: Terms = Terms {
+    ctl: false,
+    first: 0,
+    szmic: false,
+    segn: 0,
+    dst: 0,
+    key: 0,
+};
+
 // A free slot: zeros.
 pub fn none() -> Session
     ensures { λ r. ⌜ r ≡ noSession ⌝ }
@@ -47,14 +57,7 @@ pub fn none() -> Session
     Session {
         src: 0,
         auth: Pair { iv: 0, seq: 0 },
-        terms: Terms {
-            ctl: false,
-            first: 0,
-            szmic: false,
-            segn: 0,
-            dst: 0,
-            key: 0,
-        },
+        terms: NO_TERMS,
         filled: 0,
         len: 0,
         bytes: [0u8; 384],

@@ -1,28 +1,23 @@
--- A setup is valid from the code's tests: each part that fails refuses it, and where the parts before hold, the last decides.
--- Assumes nothing.
-use mathlib.Core.Bool.{Bool, true, false, not}
+-- Tests that hold together, from the code's tests: where the first fails all fail, and where it holds the others decide. The first is a number's bound, or a
+-- part that was asked. Assumes nothing.
+use mathlib.Core.Bool.{Bool, true, false, _&&_, not}
 use mathlib.Core.Path.{_≡_}
-use borrow.Author.Tests.{not-true, not-false}
-use Rattle.node.specs.declared.setup.Setup.{Setup}
-use Rattle.node.specs.Setup.{keysValid, elementsValid, groupsValid, indexValid, valid}
+use Prim.Native.Nat.{ℕ, _≤_, _<_}
+use borrow.Author.Tests.{le-leb, lt-leb, not-true, not-false}
+use lib.Dec.{leb}
 
-module _ (s : Setup) (k : Bool) (ek : k ≡ keysValid s) where
-  pub keys-wrong : not k ≡ true → false ≡ valid s
-  unfolding valid
-  keys-wrong f = simp (← ek, not-true k f)
+module _ (n most : ℕ) (q : Bool) where
+  pub bound-over : most < n → false ≡ leb n most && q
+  bound-over h = rw (lt-leb n most h)
 
-  module _ (tk : not k ≡ false) (e : Bool) (ee : e ≡ elementsValid s) where
-    pub elements-wrong : not e ≡ true → false ≡ valid s
-    unfolding valid
-    elements-wrong f = simp (← ek, not-false k tk, ← ee, not-true e f)
+  pub bound-within : (z : Bool) → n ≤ most → z ≡ q → z ≡ leb n most && q
+  bound-within z h e = rw (le-leb n most h) e
 
-    module _ (te : not e ≡ false) (g : Bool) (eg : g ≡ groupsValid s) where
-      pub groups-wrong : not g ≡ true → false ≡ valid s
-      unfolding valid
-      groups-wrong f = simp (← ek, not-false k tk, ← ee, not-false e te, ← eg, not-true g f)
+module _ (p q b : Bool) (e : b ≡ p) where
+  pub part-wrong : not b ≡ true → false ≡ p && q
+  part-wrong f = rw (← e, not-true b f)
 
-      pub index-decides : not g ≡ false → (i : Bool) → i ≡ indexValid s → i ≡ valid s
-      unfolding valid
-      index-decides tg i ei = simp (← ek, not-false k tk, ← ee, not-false e te, ← eg, not-false g tg, ← ei)
+  pub part-right : (z : Bool) → not b ≡ false → z ≡ q → z ≡ p && q
+  part-right z t k = rw (← e, not-false b t) k
 
-pub ruleset valid-rules = (keys-wrong, elements-wrong, groups-wrong, index-decides)
+pub ruleset valid-rules = (bound-over, bound-within, part-wrong, part-right)

@@ -17,10 +17,10 @@ pub(crate) fn request(line: &[u8], out: &mut [u8]) -> usize {
         return mac(line, out);
     }
     if common::equal(word, b"seal") {
-        return sealed(line, out);
+        return ccm(line, true, out);
     }
     if common::equal(word, b"open") {
-        return opened(line, out);
+        return ccm(line, false, out);
     }
     0
 }
@@ -94,42 +94,46 @@ fn mic_size(octets: usize) -> MicSize {
     }
 }
 
-// `seal KEY NONCE SIZE MESSAGE`: the message, encrypted, and its MIC.
-fn sealed(line: &[u8], out: &mut [u8]) -> usize {
+// `seal KEY NONCE SIZE MESSAGE` or `open KEY NONCE SIZE SEALED`.
+fn ccm(line: &[u8], seals: bool, out: &mut [u8]) -> usize {
     let terms = terms_of(line);
+    if terms.mic == 0 {
+        return 0;
+    }
+    let mut octets = [0u8; 392];
+    let Octets::Count(n) = hex::read(field::last(line, 4), &mut octets) else {
+        return 0;
+    };
+    let given = text::first(&octets, n);
+    if seals {
+        sealed(terms, given, out)
+    } else {
+        opened(terms, given, out)
+    }
+}
+
+// The message, encrypted, and its MIC.
+fn sealed(terms: Terms, message: &[u8], out: &mut [u8]) -> usize
+    requires { ⌜ terms .mic ≤ 8 ⌝ }
+{
     let key = terms.key;
     let nonce = terms.nonce;
     let mic = terms.mic;
-    if mic == 0 {
-        return 0;
-    }
-    let mut clear = [0u8; 384];
-    let Octets::Count(n) = hex::read(field::last(line, 4), &mut clear) else {
-        return 0;
-    };
-    let message = text::first(&clear, n);
     let mut whole = [0u8; 392];
-    if !modes::ccm::seal(aes::expand(key), nonce, mic_size(mic), message, &mut whole) {
+    if 384 < message.len()
+        || !modes::ccm::seal(aes::expand(key), nonce, mic_size(mic), message, &mut whole)
+    {
         return 0;
     }
     let all = message.len() + mic;
     hex::put(text::first(&whole, all), out, 0)
 }
 
-// `open KEY NONCE SIZE SEALED`: the message that was sealed, or `refused`.
-fn opened(line: &[u8], out: &mut [u8]) -> usize {
-    let terms = terms_of(line);
+// The message that was sealed, or `refused`.
+fn opened(terms: Terms, sealed: &[u8], out: &mut [u8]) -> usize {
     let key = terms.key;
     let nonce = terms.nonce;
     let mic = terms.mic;
-    if mic == 0 {
-        return 0;
-    }
-    let mut whole = [0u8; 392];
-    let Octets::Count(n) = hex::read(field::last(line, 4), &mut whole) else {
-        return 0;
-    };
-    let sealed = text::first(&whole, n);
     let mut clear = [0u8; 384];
     if sealed.len() < mic
         || !modes::ccm::open(aes::expand(key), nonce, mic_size(mic), sealed, &mut clear)

@@ -16,8 +16,9 @@ use Rattle.receiver.specs.Answer.{refusalNumber}
 use Rattle.sending.specs.declared.answer.Answer as said
 use Rattle.sending.specs.declared.answer.Answer.the-variants as sending
 use Rattle.text.specs.Octets.{octets}
+use Rattle.text.specs.Refusal.{refusedText}
 use Rattle.text.specs.Written.{putting}
-use Rattle.site.specs.Words.{named, sentText, refusedText, saidText, effectText, answerText}
+use Rattle.site.specs.Words.{named, sentText, saidText, effectText, answerText}
 
 module _ (out : List ℕ) (at r : ℕ) (o : List ℕ) where
   -- ---- what was sent; s is what was made of the buffer

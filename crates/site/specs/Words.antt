@@ -15,8 +15,9 @@ use Rattle.receiver.specs.declared.answer.Answer.the-variants as hearing
 use Rattle.sending.specs.declared.answer.Answer as said
 use Rattle.sending.specs.declared.answer.Answer.the-variants as sending
 use Rattle.text.specs.Hex.{hexText}
-use Rattle.text.specs.Number.{numberText, decimalText}
+use Rattle.text.specs.Number.{numberText}
 use Rattle.text.specs.Octets.{octets}
+use Rattle.text.specs.Refusal.{refusedText}
 
 -- none where sending refuses
 abbrev pub made : said.Answer → ℕ
@@ -40,10 +41,6 @@ named label w n end = octets label ++ numberText w n ++ octets end
 -- a PDU that was sent, with its SEQ
 abbrev pub sentText : ℕ → List ℕ → List ℕ
 sentText seq pdu = octets "SEQ " ++ numberText 6 seq ++ (octets ": " ++ (hexText pdu ++ octets "\n"))
-
--- a refusal's number, in decimal
-abbrev pub refusedText : ℕ → List ℕ
-refusedText n = octets "refused " ++ decimalText n ++ octets "\n"
 
 -- pdu is the buffer that was lent
 unfoldable pub saidText : ℕ → said.Answer → List ℕ → List ℕ

@@ -4,13 +4,14 @@ use receiver::answer::Answer as Heard;
 use sending::answer::Answer;
 use text::hex;
 use text::number;
+use text::refusal;
 ghost use mathlib.Core.List.{_++_};
 ghost use mathlib.Core.Path.{_≡_};
 ghost use Rattle.common.specs.Lent.{lent};
 ghost use Rattle.text.specs.Number.{numberText};
 ghost use Rattle.text.specs.Octets.{octets};
 ghost use Rattle.text.specs.Written.{putting};
-ghost use Rattle.site.specs.Words.{made, handedUp, sentText, refusedText, saidText, effectText, answerText};
+ghost use Rattle.site.specs.Words.{made, handedUp, sentText, saidText, effectText, answerText};
 
 // How many octets of the buffer are the PDU that was made: none where sending refuses.
 pub fn made(answer: Answer) -> usize
@@ -47,14 +48,6 @@ fn put_sent(seq: u32, pdu: &[u8], out: &mut [u8], at: usize) -> usize
     text::put(b"\n", out, end)
 }
 
-// `refused N`, N in decimal, and a newline.
-fn put_refused(n: u32, out: &mut [u8], at: usize) -> usize
-    ensures { λ r. ⌜ lent r (now (out .exit)) ≡ putting (refusedText n) (now (out .entry)) at ⌝ }
-{
-    let end = number::put_decimal(b"refused ", n as u64, out, at);
-    text::put(b"\n", out, end)
-}
-
 // Puts what was sent with a SEQ, or why nothing was; pdu is the buffer that was lent for it.
 pub fn put_said(seq: u32, answer: Answer, pdu: &[u8], out: &mut [u8], at: usize) -> usize
     ensures { λ r. ⌜ lent r (now (out .exit)) ≡ putting (saidText seq answer (now (pdu .entry))) (now (out .entry)) at ⌝ }
@@ -62,7 +55,7 @@ pub fn put_said(seq: u32, answer: Answer, pdu: &[u8], out: &mut [u8], at: usize)
     match answer {
         Answer::Sent(len) => put_sent(seq, text::first(pdu, len), out, at),
         Answer::Started { len, .. } => put_sent(seq, text::first(pdu, len), out, at),
-        Answer::Refused(refusal) => put_refused(receiver::answer::number(refusal), out, at),
+        Answer::Refused(refusal) => refusal::put_line(receiver::answer::number(refusal), out, at),
     }
 }
 
@@ -106,7 +99,7 @@ pub fn put_answer(answer: Heard, out: &mut [u8], at: usize) -> usize
     ensures { λ r. ⌜ lent r (now (out .exit)) ≡ putting (answerText answer) (now (out .entry)) at ⌝ }
 {
     match answer {
-        Heard::Refused(refusal) => put_refused(receiver::answer::number(refusal), out, at),
+        Heard::Refused(refusal) => refusal::put_line(receiver::answer::number(refusal), out, at),
         Heard::Stored { bits, .. } => {
             put_named(b"segment stored, places filled ", bits, 8, b"\n", out, at)
         }

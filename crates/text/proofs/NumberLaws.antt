@@ -1,7 +1,7 @@
 -- Numbers: digit by digit a number of i hex digits is below 16 to the power i, and eight digits fit 32 bits; and the rules of what a text reads as.
 -- Assumes nothing.
-use mathlib.Core.Path.{_≡_, sym, ap, _∙_}
-use mathlib.Core.Bool.{Bool, true, _&&_}
+use mathlib.Core.Path.{_≡_, refl, sym, ap, _∙_}
+use mathlib.Core.Bool.{Bool, true, false, _&&_}
 use mathlib.Core.List.{List, _++_}
 use Prim.Native.Nat.{ℕ, suc, _+_, _-_, _*_, _^_, _≤_, _<_}
 use native.Mathlib.Nat.{pow-suc, pow-le-pow-right}
@@ -12,12 +12,13 @@ use lib.Dec.{leb, ltb}
 use lib.ListN.{length, getD, drop}
 use lib.Seq.{drop-cons}
 use Rattle.io.specs.Digits.{digits, Fewest}
+use Rattle.common.specs.Choice.{if_then_else_}
 use Rattle.common.specs.Lent.{lent}
 use Rattle.common.specs.Lists.{tab}
 use Rattle.common.specs.Search.{first}
 use Rattle.common.proofs.Lists.{length-tab, getD-tab}
 use Rattle.common.proofs.Search.{first-upto, first-passes}
-use Rattle.common.proofs.Tests.{by-test, and-first, and-second}
+use Rattle.common.proofs.Tests.{by-test, by-choice, and-first, and-second}
 use Rattle.text.specs.declared.number.Number.{Number}
 use Rattle.text.specs.declared.number.Number.the-variants.{Value, NotHex}
 use Rattle.text.specs.Hex.{hexValue}
@@ -68,15 +69,46 @@ module _ (text : List ℕ) where
     number-is h = rw (ne-eqb (length text) 0 h1, le-ltb 8 (length text) h)
 
 -- ---- a number that is at most so much
-module _ {A : Type 0} (most : ℕ) (f : ℕ → A) (x : A) (text : List ℕ) (a : Number) (e : a ≡ numberOf text) where
-  pub most-within : (n : ℕ) → a ≡ Value n → n ≤ most → f n ≡ atMost most f x (numberOf text)
+module _ (most : ℕ) (text : List ℕ) (a : Number) (e : a ≡ numberOf text) where
+  pub most-within : (n : ℕ) → a ≡ Value n → n ≤ most → Value n ≡ atMost most Value NotHex (numberOf text)
   most-within n k h = rw (← e, k, le-leb n most h)
 
-  pub most-above : (n : ℕ) → a ≡ Value n → most < n → x ≡ atMost most f x (numberOf text)
+  pub most-above : (n : ℕ) → a ≡ Value n → most < n → NotHex ≡ atMost most Value NotHex (numberOf text)
   most-above n k h = rw (← e, k, lt-leb n most h)
 
-  pub most-none : a ≡ NotHex → x ≡ atMost most f x (numberOf text)
+  pub most-none : a ≡ NotHex → NotHex ≡ atMost most Value NotHex (numberOf text)
   most-none k = rw (← e, k)
+
+pub ruleset most-rules = (most-within, most-above, most-none)
+
+-- ---- what is made of a choice, and of a number that is at most so much, is made on either way
+pub if-map : {A B : Type 0} (g : A → B) (b : Bool) (x y : A) → g (if b then x else y) ≡ (if b then g x else g y)
+if-map g true x y = refl
+if-map g false x y = refl
+
+pub at-most-map : {A B : Type 0} (g : A → B) (most : ℕ) (f : ℕ → A) (x : A) (m : Number) → g (atMost most f x m) ≡ atMost most (λ n. g (f n)) (g x) m
+at-most-map g most f x (Value n) = if-map g (leb n most) (f n) x
+at-most-map g most f x NotHex = refl
+
+-- ---- a number that was read as one of at most so much
+most-le : (most n : ℕ) (m : Number) → Value n ≡ atMost most Value NotHex m → n ≤ most
+most-le most n (Value k) =
+    by-choice (λ (y : Number). Value n ≡ y → n ≤ most) (leb k most) (λ t e. let same : n ≡ k = cc in omega (arith, leb-true k most t))
+    (λ t e. let z : _≡_ {A = ℕ} 0 1 = cc in absurd (omega arith))
+most-le most n NotHex = λ e. let z : _≡_ {A = ℕ} 0 1 = cc in absurd (omega arith)
+
+abbrev pub onNumber : {A : Type 0} → A → (ℕ → A) → Number → A
+onNumber x f (Value n) = f n
+onNumber x f NotHex = x
+
+module _ (most : ℕ) (text : List ℕ) (a : Number) (e : a ≡ atMost most Value NotHex (numberOf text)) where
+  -- it is at most so much
+  pub number-fits : (n : ℕ) → a ≡ Value n → n ≤ most
+  number-fits n k = most-le most n (numberOf text) (sym k ∙ e)
+
+  -- and what is made of it is made of the number that the text is
+  pub number-made : {A : Type 0} (x z : A) (f : ℕ → A) (b : Number) → a ≡ b → z ≡ onNumber x f b → z ≡ atMost most f x (numberOf text)
+  number-made x z f b k r = r ∙ ap (onNumber x f) (sym k ∙ e) ∙ at-most-map (onNumber x f) most Value NotHex (numberOf text)
 
 -- ---- the fewest digits in base b that hold n, which is below b to the power m
 module _ (b m least n k : ℕ) (base : 1 < b) (f : Fewest b least n k) (small : n < b ^ m) (wide : least ≤ m) where

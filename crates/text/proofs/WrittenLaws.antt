@@ -57,6 +57,13 @@ module _ (s out : List ℕ) (at : ℕ) (h : at ≤ length out) where
       ∙ ap (λ (l : List ℕ). w ++ l) (drop-drop (length part) at out ∙ ap (λ (j : ℕ). drop j out) (sym long))
       ∙ ap (λ (l : List ℕ). onto l out) (sym written-is))
 
+-- the buffer keeps its length
+pub put-length : (s out : List ℕ) (at r : ℕ) (o : List ℕ) → lent r o ≡ putting s out at → length o ≡ length out
+unfolding putting
+put-length s out at r o e =
+    let room = written-le s out at in
+    ap (λ (p : Lent ℕ). length (p .buffer)) e ∙ simp (length-append, length-drop) (omega arith)
+
 -- a front cut twice is cut once
 take-front : (n : ℕ) (x b : List ℕ) → take n (take n x ++ b) ≡ take n (x ++ b)
 take-front n x b =
@@ -77,7 +84,7 @@ put-then a b out at r1 r2 o1 o2 e1 e2 =
     let er : r1 ≡ length w = ap (λ (p : Lent ℕ). p .answer) e1 in
     let eo : o1 ≡ onto w out = ap (λ (p : Lent ℕ). p .buffer) e1 in
     let room : length w ≤ length out = written-le a out at in
-    let lo : length o1 ≡ length out = ap length eo ∙ simp (length-append, length-drop) (omega arith) in
+    let lo : length o1 ≡ length out = put-length a out at r1 o1 e1 in
     let before : take r1 o1 ≡ w = ap₂ take er eo ∙ take-append-seam w (drop (length w) out) in
     let v = written o1 r1 b in
     let both : v ≡ written out at (a ++ b) =
@@ -104,8 +111,4 @@ put-nothing out at h =
 -- where the text ends is within the buffer
 pub put-within : (s out : List ℕ) (at r : ℕ) (o : List ℕ) → lent r o ≡ putting s out at → r ≤ length o
 unfolding putting
-put-within s out at r o e =
-    let w = written out at s in
-    let er : r ≡ length w = ap (λ (p : Lent ℕ). p .answer) e in
-    let eo : length o ≡ length (onto w out) = ap (λ (p : Lent ℕ). length (p .buffer)) e in
-    omega (arith, er, eo, length-append w (drop (length w) out))
+put-within s out at r o e = omega (arith, ap (λ (p : Lent ℕ). p .answer) e, put-length s out at r o e, written-le s out at)

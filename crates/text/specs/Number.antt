@@ -1,5 +1,6 @@
 -- Numbers, read from 1 to 8 hex digits, and written in hex with zeros in front up to a width, or in decimal.
 --   numberOf text    what a text reads as
+--   atMost most f x n   f of a number that is at most so much, and else x
 --   shortOf, octetOf, bitOf   a number that is to have at most 16 bits, 8 bits, 1 bit
 --   numberText w n   n in hex, in at least w digits
 --   decimalText n    n in decimal

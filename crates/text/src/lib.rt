@@ -1,7 +1,8 @@
-// Text as programs read and write it: a line's fields, octets as hex pairs, numbers, and text put behind text in a lent buffer.
+// Text as programs read and write it: a line's fields, octets as hex pairs, numbers, a refusal's number in words, and text put behind text in a lent buffer.
 pub mod field;
 pub mod hex;
 pub mod number;
+pub mod refusal;
 
 ghost use mathlib.Core.Path.{_≡_};
 ghost use Prim.Native.Nat.{_+_, _≤_, min};

@@ -1,15 +1,15 @@
 -- `looking::put_cache` meets its contract: before place `i` the entries in front of it, oldest first, are put, and the places that are left fall.
 -- Assumes nothing.
 use mathlib.Core.List.{List, _++_}
-use mathlib.Core.Path.{_≡_, refl, ap, sym, _∙_}
-use Prim.Native.Nat.{ℕ, _-_, _%_, _≤_, _<_}
+use mathlib.Core.Path.{_≡_, ap, sym, _∙_}
+use Prim.Native.Nat.{ℕ, _-_, _%_, _<_}
 use native.Mathlib.Omega.{arith}
 use borrow.Author.Needs.{needs}
 use lib.ListN.{length, take, drop}
 use Rattle.common.proofs.Lists.{length-mapped}
 use Rattle.memory.specs.declared.cache.Seen.{Seen}
 use Rattle.text.specs.Written.{putting}
-use Rattle.text.proofs.WrittenLaws.{put-then, put-within}
+use Rattle.text.proofs.WrittenLaws.{put-then}
 use Rattle.answers.specs.Looking.{seenText}
 use Rattle.answers.proofs.LookingLaws.{PutSo, so-none, so-more, so-all, rotated, length-rotated}
 use Rattle.answers.proofs.looking.put_cache.Statement.{statement}
@@ -20,7 +20,8 @@ abbrev each : ℕ → Seen → List ℕ
 each k e = seenText (e .src) (e .seq)
 
 abbrev Inv-loop : tie.InvT-loop
-Inv-loop out₀ at entries oldest to₀ i₀ t10 out to i = (i ≤ 16) × (oldest < 16) × (length entries ≡ 16) × (length out ≡ length out₀) × PutSo each (drop oldest entries ++ take oldest entries) out₀ to₀ out to i
+Inv-loop out₀ at entries oldest to₀ i₀ t10 out to i =
+    (oldest < 16) × (length entries ≡ 16) × PutSo each (drop oldest entries ++ take oldest entries) 16 out₀ to₀ out to i
 
 abbrev μ-loop : tie.MeasureT-loop
 μ-loop out₀ at entries oldest to₀ i₀ t10 out to i = 16 - i
@@ -28,42 +29,23 @@ abbrev μ-loop : tie.MeasureT-loop
 loop-holds : tie.Need-loop-holds Inv-loop μ-loop
 loop-holds c =
     let a = c .before .before .before .before .before .before .before .before .args in
-    let n = a .cache .next % 16 in
-    let all : length (a .cache .entries) ≡ 16 = search (needs, length-mapped) in (
-      omega arith,
-      omega arith,
-      all,
-      refl,
-      so-none each (drop n (a .cache .entries) ++ take n (a .cache .entries)) _ _ (put-within _ _ _ _ _ (c .before .before .put .ensures)),
-    )
+    let all : length (a .cache .entries) ≡ 16 = search (needs, length-mapped) in
+    (omega arith, all, so-none _ _ _ (length-rotated (a .cache .entries) (a .cache .next % 16) (omega arith) ∙ all) (c .before .before .put .ensures))
 
 loop-again : tie.Need-loop-again Inv-loop μ-loop
 loop-again c =
     let l = c .before .before .before .before .before .before .loop in
     let a = c .before .before .before .before .before .before .before .before .before .before .before .before .before .before .before .args in
-    let n = a .cache .next % 16 in
-    let entries = a .cache .entries in
     let none : Seen = record { src = 0; seq = 0 } in
-    let many = length-rotated entries n (omega arith) in
-    let here = rotated none entries n (l .i) (l .inv .2) (l .inv .1) (omega arith) in (
-      omega arith,
-      l .inv .1,
-      l .inv .2,
-      search needs,
-      so-more each (drop n entries ++ take n entries) _ _ none (l .out) (l .to) (l .i) _ _ (omega (arith, many)) (l .inv .4)
-          (c .before .before .put-seen .ensures ∙ ap (λ (e : Seen). putting (seenText (e .src) (e .seq)) (l .out) (l .to)) (sym here)),
-    )
+    let here = rotated none (a .cache .entries) (a .cache .next % 16) (l .i) (l .inv .1) (l .inv .0) (omega arith) in
+    let text = ap (λ (e : Seen). putting (seenText (e .src) (e .seq)) (l .out) (l .to)) (sym here) in
+    (l .inv .0, l .inv .1, so-more none (omega arith) (l .inv .2) (c .before .before .put-seen .ensures ∙ text))
 
 returns : tie.Need-returns Inv-loop μ-loop
 returns c =
     let l = c .before .before .before .before .before .before .loop in
-    let a = c .before .before .before .before .before .before .before .before .before .before .before .before .before .before .before .args in
-    let n = a .cache .next % 16 in
-    let entries = a .cache .entries in
-    let many = length-rotated entries n (omega arith) in
     put-then _ _ _ _ _ _ _ _ (c .before .before .before .before .before .before .before .before .before .put .ensures)
-    (put-then _ _ _ _ _ _ _ _ (so-all each (drop n entries ++ take n entries) _ _ (l .out) (l .to) (l .i) (omega (arith, many)) (l .inv .4))
-    (c .before .before .put2 .ensures))
+    (put-then _ _ _ _ _ _ _ _ (so-all (omega arith) (l .inv .2)) (c .before .before .put2 .ensures))
 
 pub put-cache-spec : {M : Type 1} → statement M
 put-cache-spec =

@@ -1,14 +1,14 @@
 -- `looking::put_next` meets its contract: before element `i` the numbers of those in front of it are put, and the elements that are left fall.
 -- Assumes nothing.
 use mathlib.Core.List.{List}
-use mathlib.Core.Path.{_≡_, refl, ap, sym, _∙_}
-use Prim.Native.Nat.{ℕ, _-_, _≤_, min}
+use mathlib.Core.Path.{_≡_, ap, sym, _∙_}
+use Prim.Native.Nat.{ℕ, _-_, min}
 use native.Mathlib.Omega.{arith}
 use borrow.Author.Needs.{needs}
 use lib.ListN.{length, take, length-take}
 use lib.Seq.{getD-take}
 use Rattle.text.specs.Written.{putting}
-use Rattle.text.proofs.WrittenLaws.{put-then, put-within}
+use Rattle.text.proofs.WrittenLaws.{put-then}
 use Rattle.answers.specs.Answer.{named}
 use Rattle.answers.proofs.LookingLaws.{PutSo, so-none, so-more, so-all}
 use Rattle.answers.proofs.looking.put_next.Statement.{statement}
@@ -20,42 +20,32 @@ each k seq = named " " 6 seq
 
 abbrev Inv-loop : tie.InvT-loop
 Inv-loop elements out₀ at next n to₀ i₀ t10 t11 out to i =
-    (i ≤ n) × (n ≡ min elements 8) × (length next ≡ 8) × (length out ≡ length out₀) × PutSo each (take (min elements 8) next) out₀ to₀ out to i
+    (n ≡ min elements 8) × (length next ≡ 8) × PutSo each (take (min elements 8) next) n out₀ to₀ out to i
 
 abbrev μ-loop : tie.MeasureT-loop
 μ-loop elements out₀ at next n to₀ i₀ t10 t11 out to i = n - i
 
 loop-holds : tie.Need-loop-holds Inv-loop μ-loop
 loop-holds c =
-    let first = c .before .before .put .ensures in
     let begun = c .before .before .before .before .before in
     let a = begun .before .before .args in
-    let shown = take (min (a .elements) 8) (a .t1) in
-    (omega arith, begun .count .ensures, begun .before .before .good .0 .1 .0 .1, refl, so-none each shown _ _ (put-within _ _ _ _ _ first))
+    let eight : length (a .t1) ≡ 8 = begun .before .before .good .0 .1 .0 .1 in
+    let many = length-take (min (a .elements) 8) (a .t1) in
+    (begun .count .ensures, eight, so-none _ _ _ (omega (arith, begun .count .ensures)) (c .before .before .put .ensures))
 
 loop-again : tie.Need-loop-again Inv-loop μ-loop
 loop-again c =
     let l = c .before .before .before .before .before .before .loop in
     let a = c .before .before .before .before .before .before .before .before .before .before .before .before .before .before .args in
-    let shown = take (min (a .elements) 8) (a .t1) in
-    let many = length-take (min (a .elements) 8) (a .t1) in
     let here = getD-take (min (a .elements) 8) (a .t1) (l .i) 0 (omega arith) in
-    let text = ap (λ (x : ℕ). putting (each (l .i) x) (l .out) (l .to)) (sym here) in (
-      omega arith,
-      l .inv .1,
-      l .inv .2,
-      search needs,
-      so-more each shown _ _ 0 (l .out) (l .to) (l .i) _ _ (omega (arith, many)) (l .inv .4) (c .before .before .put2 .ensures ∙ text),
-    )
+    let text = ap (λ (x : ℕ). putting (each (l .i) x) (l .out) (l .to)) (sym here) in
+    (l .inv .0, l .inv .1, so-more 0 (omega arith) (l .inv .2) (c .before .before .put2 .ensures ∙ text))
 
 returns : tie.Need-returns Inv-loop μ-loop
 returns c =
     let l = c .before .before .before .before .before .before .loop in
-    let a = c .before .before .before .before .before .before .before .before .before .before .before .before .before .before .args in
-    let shown = take (min (a .elements) 8) (a .t1) in
-    let many = length-take (min (a .elements) 8) (a .t1) in
     put-then _ _ _ _ _ _ _ _ (c .before .before .before .before .before .before .before .before .before .put .ensures)
-    (put-then _ _ _ _ _ _ _ _ (so-all each shown _ _ (l .out) (l .to) (l .i) (omega (arith, many)) (l .inv .4)) (c .before .before .put3 .ensures))
+    (put-then _ _ _ _ _ _ _ _ (so-all (omega arith) (l .inv .2)) (c .before .before .put3 .ensures))
 
 pub put-next-spec : {M : Type 1} → statement M
 put-next-spec =

@@ -1,37 +1,28 @@
 -- `looking::put_sessions` meets its contract: before place `i` the text of those in front of it is put, and the places that are left fall.
 -- Assumes nothing.
-use mathlib.Core.Path.{_≡_, refl}
-use Prim.Native.Nat.{_-_, _≤_}
+use Prim.Native.Nat.{_-_}
 use native.Mathlib.Omega.{arith}
 use borrow.Author.Needs.{needs}
-use lib.ListN.{length}
-use Rattle.text.proofs.WrittenLaws.{put-then, put-within}
+use Rattle.text.proofs.WrittenLaws.{put-then}
 use Rattle.answers.specs.Looking.{sessionText}
 use Rattle.answers.proofs.LookingLaws.{PutSo, so-none, so-more, so-all}
 use Rattle.answers.proofs.looking.put_sessions.Statement.{statement}
 use Rattle.answers.proofs.looking.put_sessions.Tie as tie
 
 abbrev Inv-loop : tie.InvT-loop
-Inv-loop out₀ at sessions to₀ i₀ out to i = (i ≤ 8) × (length sessions ≡ 8) × (length out ≡ length out₀) × PutSo sessionText sessions out₀ to₀ out to i
+Inv-loop out₀ at sessions to₀ i₀ out to i = PutSo sessionText sessions 8 out₀ to₀ out to i
 
 abbrev μ-loop : tie.MeasureT-loop
 μ-loop out₀ at sessions to₀ i₀ out to i = 8 - i
 
 loop-holds : tie.Need-loop-holds Inv-loop μ-loop
-loop-holds c =
-    let first = c .before .before .put .ensures in
-    let start = c .before .before .before .before .before .before in
-    (omega arith, start .good .0 .1 .0 .1, refl, so-none sessionText (start .args .t1) _ _ (put-within _ _ _ _ _ first))
+loop-holds c = so-none _ _ _ (c .before .before .before .before .before .before .good .0 .1 .0 .1) (c .before .before .put .ensures)
 
 loop-again : tie.Need-loop-again Inv-loop μ-loop
-loop-again c =
-    let l = c .before .before .before .before .before .before .loop in
-    (omega arith, l .inv .1, search needs, so-more sessionText _ _ _ _ (l .out) (l .to) (l .i) _ _ (omega arith) (l .inv .3) (c .before .before .put-session .ensures))
+loop-again c = so-more _ (omega arith) (c .before .before .before .before .before .before .loop .inv) (c .before .before .put-session .ensures)
 
 returns : tie.Need-returns Inv-loop μ-loop
-returns c =
-    let l = c .before .loop in
-    put-then _ _ _ _ _ _ _ _ (c .before .before .before .before .put .ensures) (so-all sessionText _ _ _ (l .out) (l .to) (l .i) (omega arith) (l .inv .3))
+returns c = put-then _ _ _ _ _ _ _ _ (c .before .before .before .before .put .ensures) (so-all (omega arith) (c .before .loop .inv))
 
 pub put-sessions-spec : {M : Type 1} → statement M
 put-sessions-spec =

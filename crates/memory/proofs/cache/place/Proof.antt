@@ -16,9 +16,6 @@ Inv-loop src seq entries i₀ i = Seeking (isEntry src seq) 16 entries i
 abbrev μ-loop : tie.MeasureT-loop
 μ-loop src seq entries i₀ i = 16 - i
 
-loop-holds : tie.Need-loop-holds Inv-loop μ-loop
-loop-holds c = seek-start _ _ _ (c .good .0 .1 .0 .1)
-
 loop-again : tie.Need-loop-again Inv-loop μ-loop
 loop-again c =
     let t = c .before .before .before in
@@ -30,10 +27,9 @@ returns c =
     let t = c .before .before .before .before .before in
     seek-here _ _ _ _ (t .before .loop .inv) noSeen (t .loop-test .taken) (rw (eq-eqb _ _ (c .before .before .if1 .taken), c .if2 .taken))
 
-returns-2 : tie.Need-returns-2 Inv-loop μ-loop
-returns-2 c = seek-past _ _ _ _ (c .before .loop .inv) (c .loop-test .left)
-
 pub place-spec : {M : Type 1} → statement M
 place-spec =
-    tie.close (tie.spec
-    Inv-loop μ-loop loop-holds (λ c. search needs) (λ c. search needs) returns (λ c. search needs) (λ c. search needs) loop-again returns-2)
+    tie.close
+    (tie.spec
+    Inv-loop μ-loop (λ c. seek-start _ _ _ (c .good .0 .1 .0 .1)) (λ c. search needs) (λ c. search needs) returns (λ c. search needs)
+    (λ c. search needs) loop-again (λ c. search (seek-past, needs)))

@@ -5,7 +5,7 @@ use borrow.Author.Needs.{needs}
 use borrow.Author.Tests.{eq-eqb, ne-eqb}
 use lib.Dec.{eqb}
 use Rattle.common.proofs.Search.{Seeking, seek-start, seek-here, seek-on, seek-past}
-use Rattle.memory.specs.Replay.{noEntry, entryPlace}
+use Rattle.memory.specs.Replay.{entryPlace}
 use Rattle.memory.proofs.replay.place.Statement.{statement}
 use Rattle.memory.proofs.replay.place.Tie as tie
 
@@ -15,25 +15,12 @@ Inv-loop src replay i₀ i = Seeking (λ e. eqb (e .src) src) 32 replay i
 abbrev μ-loop : tie.MeasureT-loop
 μ-loop src replay i₀ i = 32 - i
 
-loop-holds : tie.Need-loop-holds Inv-loop μ-loop
-loop-holds c = seek-start _ _ _ (c .good .0 .1 .0 .1)
-
-loop-again : tie.Need-loop-again Inv-loop μ-loop
-loop-again c =
-    let t = c .before .before .before in
-    seek-on _ _ _ _ (t .before .loop .inv) noEntry (t .loop-test .taken) (ne-eqb _ _ (c .if1 .left))
-
-returns : tie.Need-returns Inv-loop μ-loop
-unfolding entryPlace
-returns c =
-    let t = c .before .before .before in
-    seek-here _ _ _ _ (t .before .loop .inv) noEntry (t .loop-test .taken) (eq-eqb _ _ (c .if1 .taken))
-
-returns-2 : tie.Need-returns-2 Inv-loop μ-loop
-unfolding entryPlace
-returns-2 c = seek-past _ _ _ _ (c .before .loop .inv) (c .loop-test .left)
-
 pub place-spec : {M : Type 1} → statement M
+unfolding entryPlace
 place-spec =
-    tie.close (tie.spec
-    Inv-loop μ-loop loop-holds (λ c. search needs) (λ c. search needs) returns (λ c. search needs) (λ c. search needs) loop-again returns-2)
+    tie.close
+    (tie.spec
+    Inv-loop μ-loop (λ c. seek-start _ _ _ (c .good .0 .1 .0 .1)) (λ c. search needs) (λ c. search needs) (λ c. search (seek-here, eq-eqb, needs))
+    (λ c. search needs) (λ c. search needs)
+    (λ c. let t = c .before .before .before in seek-on _ _ _ _ (t .before .loop .inv) _ (t .loop-test .taken) (ne-eqb _ _ (c .if1 .left)))
+    (λ c. search (seek-past, needs)))

@@ -1,8 +1,8 @@
--- `number::read_octet` meets its contract: whether the text is a number, and whether it is too large, say which rule.
+-- `number::read_octet` meets its contract: what is made of the number that was read is made of the number that the text is.
 -- Assumes nothing.
 use borrow.Author.Needs.{needs}
-use Rattle.text.specs.declared.number.Octet.the-variants.{Value, Unfit}
-use Rattle.text.proofs.NumberLaws.{most-within, most-above, most-none}
+use native.Mathlib.Omega.{arith}
+use Rattle.text.proofs.NumberLaws.{number-fits, number-made}
 use Rattle.text.proofs.number.read_octet.Statement.{statement}
 use Rattle.text.proofs.number.read_octet.Tie as tie
 
@@ -10,7 +10,8 @@ pub read-octet-spec : {M : Type 1} → statement M
 read-octet-spec =
     tie.close
     (tie.spec
-    (λ c κs. search needs) (λ c. search needs) (λ c. search needs) (λ c. search needs)
-    (λ c. let r = c .before .before .before .before .read in most-within 0xff Value Unfit _ (r .result) (r .ensures) _ (search needs) (c .if1 .taken))
-    (λ c. let r = c .before .before .before .before .read in most-above 0xff Value Unfit _ (r .result) (r .ensures) _ (search needs) (c .if1 .left))
-    (λ c. let r = c .before .before .read in most-none 0xff Value Unfit _ (r .result) (r .ensures) (search needs)))
+    (λ c κs. search needs) (λ c. search needs)
+    (λ c.
+    let read = c .before .before .before .read-up-to in
+    omega (arith, number-fits 0xFF _ (read .result) (read .ensures) (c .before .n .given .0 .0) (search needs)))
+    (λ c. search needs) (λ c. search (number-made, needs)) (λ c. search (number-made, needs)))
