@@ -5,7 +5,7 @@
 --   CountsAt     how many keys are tried for it
 --   Next         what an event is to do
 --   event-next   each does
-use mathlib.Core.Bool.{Bool, true, false, false≢true, true≢false}
+use mathlib.Core.Bool.{true, false, true≢false}
 use mathlib.Core.List.{List, [], _∷_}
 use mathlib.Core.Logic.{⊎-elim}
 use mathlib.Core.Path.{_≡_, refl, sym, ap, _∙_, subst}
@@ -18,13 +18,13 @@ use Rattle.common.specs.Bits.{hasBit, withBit, allBits}
 use Rattle.common.specs.Choice.{if_then_else_}
 use Rattle.common.specs.Lent.{Lent}
 use Rattle.common.proofs.BitLaws.{has-with-own, has-with-other, with-of-set}
-use Rattle.common.proofs.Tests.{by-test, and-second}
+use Rattle.common.proofs.Tests.{by-test}
 use Rattle.network.specs.declared.header.Header.{Header}
 use Rattle.network.specs.declared.opening.Answer.the-variants as network
-use Rattle.network.specs.Address.{kindOf, isUnicast, destinationKind, addressesAllowed}
 use Rattle.network.specs.Candidates.{keyAt}
 use Rattle.network.specs.Opening.{opening}
 use Rattle.network.specs.Sealing.{sealable}
+use Rattle.network.proofs.AddressLaws.{unicast-some, allowed-some}
 use Rattle.network.proofs.Sealed.{within}
 use Rattle.network.proofs.SealOpen.{open-seal}
 use Rattle.transport.specs.Form.{formOf}
@@ -53,7 +53,7 @@ use Rattle.demands.specs.Speech.{Speech, lastOf, headerOf, segmentPdu, S
 use Rattle.demands.proofs.Invariant.{good-step}
 use Rattle.demands.proofs.KeptLaws.{kept-acknowledging, kept-scene, refilled}
 use Rattle.demands.proofs.Refusal.{unopened, unopened-leaves}
-use Rattle.demands.proofs.SceneLaws.{speakerOf, Scenery, unicast-some, entry-room, session-room}
+use Rattle.demands.proofs.SceneLaws.{speakerOf, Scenery, entry-room, session-room}
 use Rattle.demands.proofs.SpeechCut.{last-low}
 use Rattle.demands.proofs.SpeechSegment.{formed, segment-sealable, segment-taken, segment-placed}
 use Rattle.demands.proofs.StageLaws.{segmentAt, Stage}
@@ -65,11 +65,6 @@ has-with x i j low h =
     by-test (eqb j i)
     (λ t. let e = eqb-true j i t in rw e (has-with-own x i low))
     (λ t. has-with-other x i j (eqb-false j i t) ∙ h)
-
--- a DST that may be sent to is not 0
-allowed-some : (ctl : Bool) (src dst : ℕ) → addressesAllowed ctl src dst ≡ true → dst ≡ 0 → ⊥
-unfolding addressesAllowed kindOf
-allowed-some ctl src dst a e = false≢true (rw e at (and-second (isUnicast src) (destinationKind ctl (kindOf dst)) a))
 
 -- a PDU that no key opens hands up nothing
 foreign-none : (r : Receiver) (pdu fwd msg : List ℕ) → noKeyOpens (opening (r .node .keys) (r .node .networks) (r .node .iv) pdu .answer) ≡ true

@@ -23,7 +23,7 @@ use Rattle.receiver.proofs.Laws.Heard.{heard-forwarded, heard-kept}
 use Rattle.demands.specs.Forwarding.{Forwards}
 
 -- the keys of a node that setup made are of octets
-octet-keys : (node : Node) → WellMade node → (i : ℕ) → i < min (node .networks) 4 → OctetKey (keyAt (node .keys) i)
+pub octet-keys : (node : Node) → WellMade node → (i : ℕ) → i < min (node .networks) 4 → OctetKey (keyAt (node .keys) i)
 octet-keys node w i h =
     let given = getD (node .given) i (record { octets = [] }) .octets in
     subst OctetKey (sym (w .derived i (omega arith)))

@@ -3,60 +3,60 @@
 -- be sent to; and a message whose transport PDUs have their length. That is all that sealing asks for, so it refuses
 -- none, and with an SEQ left and a buffer the call makes its PDU. A message in segments is then kept: each later call
 -- finds it, none of its segments heard yet, and its number well within 8,191 of the first. Assumes nothing.
-use mathlib.Core.Bool.{Bool, true, false, not, false≢true}
+use mathlib.Core.Bool.{Bool, true, false, true≢false}
 use mathlib.Core.List.{List, _∷_}
 use mathlib.Core.Path.{_≡_, refl, sym, ap, _∙_, subst}
 use Prim.Native.Nat.{ℕ, zero, suc, _+_, _≤_, _<_, min}
 use native.Mathlib.Omega.{arith}
-use borrow.Author.Tests.{le-leb, leb-true}
-use lib.Dec.{eqb, leb}
+use borrow.Author.Tests.{leb-true}
+use lib.Dec.{leb}
 use lib.ListN.{length, length-set}
 use lib.Seq.{getD-set-same}
 use Rattle.common.specs.Lent.{Lent}
 use Rattle.common.specs.Lists.{tabFrom}
 use Rattle.common.proofs.BitLaws.{has-none}
-use Rattle.common.proofs.Tests.{by-test, and-second}
+use Rattle.common.proofs.Tests.{by-test}
 use Rattle.network.specs.declared.header.Header.{Header}
-use Rattle.network.specs.Address.{isUnicast, addressesAllowed}
+use Rattle.network.specs.Address.{isUnicast}
 use Rattle.network.specs.Candidates.{keyAt}
 use Rattle.network.specs.Sealing.{mostTransport, sealable}
-use Rattle.network.proofs.AddressLaws.{unicast-range}
+use Rattle.network.proofs.AddressLaws.{unicast-some, addresses-allowed}
+use Rattle.network.proofs.Sealed.{sealable-where}
 use Rattle.transport.specs.declared.securing.MessageKey.{MessageKey}
 use Rattle.transport.specs.Segment.{accessOctet, controlOctet}
 use Rattle.transport.proofs.SecureOpen.{secured-length}
 use Rattle.keys.specs.declared.NetworkKeys.{NetworkKeys}
+use Rattle.keys.proofs.Widths.{nid-low}
 use Rattle.memory.specs.declared.outgoing.Outgoing.{Outgoing}
 use Rattle.memory.specs.declared.pair.Pair.{Pair}
 use Rattle.memory.specs.declared.session.Terms.{Terms}
 use Rattle.node.specs.declared.addresses.Node.{Node}
 use Rattle.node.specs.declared.setup.Setup.{Setup}
 use Rattle.node.specs.Made.{WellMade}
+use Rattle.node.proofs.Addressed.{for-allowed}
+use Rattle.node.proofs.SetupLaws.{local-is-unicast}
 use Rattle.receiver.specs.declared.state.Receiver.{Receiver}
 use Rattle.receiver.proofs.Good.{good-fresh}
 use Rattle.sending.specs.declared.answer.Spoken.{Spoken}
 use Rattle.sending.specs.declared.request.Request.{Request}
-use Rattle.sending.specs.declared.request.Ttl.{Ttl}
-use Rattle.sending.specs.declared.request.Ttl.the-variants.{Unnamed, Named}
 use Rattle.sending.specs.Access as access
-use Rattle.sending.specs.Control as control
-use Rattle.sending.specs.Request.{ttlOf, ttlAllowed}
+use Rattle.sending.specs.Request.{ttlOf}
 use Rattle.sending.specs.Segment.{segmentHeader, starting, elementOf, segmentAllowed, sendingSegment}
 use Rattle.sending.specs.Transmission.{addressOf, nextSeq, stamped}
-use Rattle.sending.proofs.Laws.Allowed.{segment-allowed}
+use Rattle.sending.proofs.Laws.Allowed.{ttl-low, whole-short, segment-allowed}
 use Rattle.sending.proofs.Laws.Calls.{access-whole, access-begun, control-whole, control-begun, segment-sent}
+use Rattle.sending.proofs.Laws.Stamped.{stamps, address-local, element-back}
 use Rattle.sending.proofs.Laws.Transmitted.{saying, Sends, saying-is, starting-is}
 use Rattle.demands.specs.Call.{SendSegment, Outcome, Said, step, left, run}
 use Rattle.demands.specs.Interleaved.{nodeOf, Each}
 use Rattle.demands.specs.NeverTwice.{madeBy, made}
 use Rattle.demands.specs.ReadBack.{restOf, saidBy, Between, accepted, GoesOut}
 use Rattle.demands.specs.Speech.{Words, Access, Control, Speech, keyOf, envelopeOf, akfOf, aidOf, octetsOf, lastOf, Speakable}
-use Rattle.demands.proofs.SaidLaws.{access-stamped, control-stamped, Kept, kept, header-said, request-of, words-of, near, held}
-use Rattle.demands.proofs.SceneLaws.{unicast-some}
-use Rattle.demands.proofs.SegmentsSent.{element-back, Keeps, said-at}
+use Rattle.demands.proofs.SaidLaws.{access-stamped, control-stamped, Kept, kept, header-said, key-said, request-of, words-of, near, held}
+use Rattle.demands.proofs.SegmentsSent.{Keeps, said-at}
 use Rattle.demands.proofs.SentLaws.{allowedAs, wholeAs, headerAs, keptAs, sendingAs, said-by, StartedBy, started-by}
-use Rattle.demands.proofs.SpeechAddress.{for-allowed}
 use Rattle.demands.proofs.SpeechCut.{last-low, cut-is}
-use Rattle.demands.proofs.SpeechSegment.{nid-low, segment-sealable}
+use Rattle.demands.proofs.SpeechSegment.{segment-sealable}
 use Rattle.demands.proofs.WholeSent.{wholeHeader}
 
 -- ---- a transmission that sealing does not refuse is sent
@@ -68,17 +68,7 @@ module _ (r : Receiver) (element : ℕ) (h : Header) (buf : List ℕ) (left-seq 
   saying-made : madeBy (saying r element h buf .answer .answer) ≡ true
   saying-made = ap (λ (s : Lent Spoken). madeBy (s .answer .answer)) (saying-is r element h buf sends)
 
--- a message that is kept is not heard yet
-kept-unheard : (sender : Receiver) (q : Request) (words : Words) → keptAs sender q words .heard ≡ 0
-unfolding access.outgoingOf control.outgoingOf
-kept-unheard sender q (Access key szmic payload) = refl
-kept-unheard sender q (Control code parameters) = refl
-
 -- ---- the numbers of a request
-ttl-low : (t : Ttl) → ttlAllowed t ≡ true → ttlOf t ≤ 127
-ttl-low Unnamed e = omega arith
-ttl-low (Named n) e = leb-true n 127 (and-second (not (eqb n 1)) (leb n 127) e)
-
 module _ (sender : Receiver) (setup : Setup) (q : Request) (words : Words) (buf : List ℕ) (b : Between sender setup q words)
     (a : allowedAs sender q words ≡ true) (wide : 29 ≤ length buf) (enough : nextSeq sender (q .element) + 31 ≤ 0xFFFFFF) where
   abbrev node : Node
@@ -104,12 +94,7 @@ module _ (sender : Receiver) (setup : Setup) (q : Request) (words : Words) (buf 
 
   -- the element's address is unicast
   from-unicast : isUnicast (s .src) ≡ true
-  unfolding addressOf
-  from-unicast =
-      let f = own .first-least in
-      let l = own .last-most in
-      let h = there in
-      unicast-range (s .src) (omega arith) (omega arith)
+  from-unicast = local-is-unicast (sender .node) own (s .src) (address-local (sender .node) own (q .element) there)
 
   nid-fits : keyAt (node .keys) (q .network) .nid ≤ 127
   nid-fits = let n = held sender node (b .shared) q words a in rw (well .derived (q .network) (omega arith)) (nid-low _)
@@ -120,23 +105,16 @@ module _ (sender : Receiver) (setup : Setup) (q : Request) (words : Words) (buf 
   -- ---- whole
   whole-can :
       (ctl : Bool) (pdu : List ℕ) → 1 ≤ length pdu → length pdu ≤ mostTransport ctl → sealable (keyAt (node .keys) (q .network)) (wholeHeader s ctl ttl pdu) ≡ true
-  unfolding sealable addressesAllowed
   whole-can ctl pdu some most =
-      rw (
-        le-leb (keyAt (node .keys) (q .network) .nid) 127 nid-fits,
-        le-leb ttl 127 ttl-fits,
-        le-leb (nextSeq sender (q .element)) 0xFFFFFF (omega arith),
-        from-unicast,
-        for-allowed ctl node well (q .dst) (b .for-here),
-        le-leb 1 (length pdu) some,
-        le-leb (length pdu) (mostTransport ctl) most,
-      ) refl
+      let allowed = addresses-allowed ctl (s .src) (q .dst) from-unicast (for-allowed node well (q .dst) ctl (b .for-here)) in
+      sealable-where (keyAt (node .keys) (q .network)) (wholeHeader s ctl ttl pdu) nid-fits ttl-fits (omega arith) allowed some most
 
   whole-made :
-      (h : Header) (ctl : Bool) (pdu : List ℕ) → h .key ≡ q .network → stamped sender (q .element) h ≡ wholeHeader s ctl ttl pdu → 1 ≤ length pdu
+      (h : Header) (ctl : Bool) (pdu : List ℕ) → stamped sender (q .element) h ≡ wholeHeader s ctl ttl pdu → 1 ≤ length pdu
       → length pdu ≤ mostTransport ctl → madeBy (saying sender (q .element) h buf .answer .answer) ≡ true
-  whole-made h ctl pdu ek e some most =
+  whole-made h ctl pdu e some most =
       let k = key-low in
+      let ek : h .key ≡ q .network = sym (stamps sender (q .element) h .key-stays) ∙ ap (λ (x : Header). x .key) e in
       let own-header = subst (λ (x : Header). sealable (keyAt (node .keys) (q .network)) x ≡ true) (sym e) (whole-can ctl pdu some most) in
       let own-key = subst (λ (n : ℕ). sealable (keyAt (node .keys) n) (stamped sender (q .element) h) ≡ true) (sym ek) own-header in
       saying-made sender (q .element) h buf (omega arith) (omega arith) wide
@@ -168,24 +146,19 @@ module _ (sender : Receiver) (setup : Setup) (q : Request) (words : Words) (buf 
     segment-can :
         (r : Receiver) (n : ℕ) → r .node ≡ sender .node → nextSeq r (q .element) ≡ first + n → n ≤ lastOf node s
         → sealable (keyAt (r .node .keys) (segmentHeader o n .key)) (stamped r (q .element) (segmentHeader o n)) ≡ true
-    unfolding segmentHeader
     segment-can r n en es h =
         let low = last-low node s speaks in
-        let e = header-said sender node (b .shared) q s o keeping r (q .element) n (ap (λ (x : Node). addressOf x (q .element)) en) in
-        let k : keyAt (r .node .keys) (o .terms .key) ≡ keyAt (node .keys) (s .network) =
-        ap (λ (x : Terms). keyAt (r .node .keys) (x .key)) (keeping .terms-is) ∙ ap (λ (x : Node). keyAt (x .keys) (q .network)) en
-        ∙ ap (λ (x : List NetworkKeys). keyAt x (q .network)) (b .shared .keys-same) in
+        let address = ap (λ (x : Node). addressOf x (q .element)) en in
+        let e = header-said sender node (b .shared) q s o keeping r (q .element) n address in
+        let k : keyAt (r .node .keys) (segmentHeader o n .key) ≡ keyAt (node .keys) (s .network) =
+        ap (keyAt (r .node .keys)) (key-said sender node (b .shared) q s o keeping r (q .element) n address)
+        ∙ ap (λ (x : Node). keyAt (x .keys) (q .network)) en ∙ ap (λ (x : List NetworkKeys). keyAt x (q .network)) (b .shared .keys-same) in
         let can = segment-sealable node s speaks n h (nextSeq r (q .element)) ttl well (omega arith) ttl-fits in
         subst (λ (x : NetworkKeys). sealable x (stamped r (q .element) (segmentHeader o n)) ≡ true) (sym k)
         (subst (λ (x : Header). sealable (keyAt (node .keys) (q .network)) x ≡ true) (sym e) can)
 
     segment-key : (n : ℕ) → segmentHeader o n .key < 4
-    unfolding segmentHeader
-    segment-key n = subst (λ (x : Terms). x .key < 4) (sym (keeping .terms-is)) key-low
-
-    -- nothing of it has been heard
-    heard-none : o .heard ≡ 0
-    heard-none = kept-unheard sender q words
+    segment-key n = subst (λ (k : ℕ). k < 4) (sym (key-said sender node (b .shared) q s o keeping sender (q .element) n refl)) key-low
 
     start-made : madeBy (starting sender (q .element) o buf .answer .answer) ≡ true
     start-made =
@@ -201,7 +174,7 @@ module _ (sender : Receiver) (setup : Setup) (q : Request) (words : Words) (buf 
         let z : r .out .src ≡ 0 → ⊥ =
         λ x. unicast-some (s .src) from-unicast (sym (keeping .src-is) ∙ sym (ap (λ (x : Outgoing). x .src) (k .out-is)) ∙ x) in
         let last : r .out .terms .segn ≡ lastOf node s = ap (λ (x : Outgoing). x .terms .segn) (k .out-is) ∙ ap (λ (x : Terms). x .segn) (keeping .terms-is) in
-        let heard : r .out .heard ≡ 0 = ap (λ (x : Outgoing). x .heard) (k .out-is) ∙ heard-none in
+        let heard : r .out .heard ≡ 0 = ap (λ (x : Outgoing). x .heard) (k .out-is) ∙ keeping .unheard in
         let auth : r .out .auth .seq ≡ first = ap (λ (x : Outgoing). x .auth .seq) (k .out-is) ∙ ap (λ (x : Pair). x .seq) (keeping .auth-is) in
         let next = k .next-is in
         segment-allowed r (q .element) n z (omega arith) (omega arith) (rw heard (has-none n)) (omega arith)
@@ -251,25 +224,20 @@ module _ (sender : Receiver) (setup : Setup) (q : Request) (buf : List ℕ) (wid
   said-all : (r : Receiver) (element : ℕ) (h : Header) → madeBy (saying r element h buf .answer .answer) ≡ true → All (Said (saying r element h buf))
   said-all r element h m = let g = said-by r element buf h m in (m, rw (g .says) (tt {0}))
 
-  control-key : (code : ℕ) (parameters : List ℕ) → headerAs sender q (Control code parameters) .key ≡ q .network
-  unfolding control.wholeHeader
-  control-key code parameters = refl
-
   -- a whole access message has 6 to 16 octets, and a TransMIC of 4
   access-goes :
       (key : MessageKey) (szmic : Bool) (payload : List ℕ) → Between sender setup q (Access key szmic payload)
       → access.accessAllowed sender q key szmic (length payload) ≡ true → access.isWhole szmic (length payload) ≡ true
       → madeBy (saying sender (q .element) (headerAs sender q (Access key szmic payload)) buf .answer .answer) ≡ true
-  unfolding access.isWhole access.wholeHeader
-  access-goes key true payload b a w = absurd (false≢true w)
+  access-goes key true payload b a w = absurd (true≢false (whole-short true (length payload) w .0))
   access-goes key false payload b a w =
       let words = Access key false payload in
       let node = nodeOf setup in
       let s = saidBy sender q words in
-      let short = leb-true (length payload) 11 w in
+      let short = whole-short false (length payload) w .1 in
       let l : length (octetsOf node s) ≡ length payload + 4 =
       rw (cut-is node s words refl) (secured-length (keyOf node key) (envelopeOf node s key false) payload) in
-      whole-made sender setup q words buf b a wide enough (headerAs sender q words) false (accessOctet false (akfOf key) (aidOf node key) ∷ octetsOf node s) refl
+      whole-made sender setup q words buf b a wide enough (headerAs sender q words) false (accessOctet false (akfOf key) (aidOf node key) ∷ octetsOf node s)
       (access-stamped sender node (b .shared) q key payload a) (omega arith) (omega arith)
 
   goes : (words : Words) → Between sender setup q words → accepted sender q words ≡ true → All (Said (sendingAs sender q words buf))
@@ -287,7 +255,7 @@ module _ (sender : Receiver) (setup : Setup) (q : Request) (buf : List ℕ) (wid
       rw (control-whole sender buf wide q code parameters a w)
       (said-all sender (q .element) (headerAs sender q (Control code parameters))
       (whole-made sender setup q (Control code parameters) buf b a wide enough (headerAs sender q (Control code parameters)) true
-      (controlOctet false code ∷ parameters) (control-key code parameters) (control-stamped sender (nodeOf setup) (b .shared) q code parameters) (omega arith) (omega arith))))
+      (controlOctet false code ∷ parameters) (control-stamped sender (nodeOf setup) (b .shared) q code parameters) (omega arith) (omega arith))))
       (λ w.
       let m = start-made sender setup q (Control code parameters) buf b a wide enough w in
       rw (control-begun sender buf wide q code parameters a w)

@@ -39,22 +39,22 @@ use Rattle.demands.specs.Speech.{Access, keyOf, envelopeOf, octetsOf, la
 use Rattle.demands.proofs.GoesOut.{goes-out}
 use Rattle.demands.proofs.SpeechCut.{cut-is}
 
-ready : settingUp shed .answer ≡ Ready
+pub ready : settingUp shed .answer ≡ Ready
 unfolding settingUp making valid keysValid boundWithin elementsValid nextWithin groupsValid indexValid first kindOf
 ready = refl
 
-abbrev node : Node
+abbrev pub node : Node
 node = scene.nodeOf shed
 
 -- what the receiver holds
-record Held : Type 0 where
-  one-network : node .networks ≡ 1
-  one-application : node .applications ≡ 1
-  bound-there : applicationKeyAt (node .secrets) 0 .bound ≡ 0
-  index : node .iv ≡ 0x12345678
-  here : forNode node 0x0001 ≡ true
+pub record Held : Type 0 where
+  pub one-network : node .networks ≡ 1
+  pub one-application : node .applications ≡ 1
+  pub bound-there : applicationKeyAt (node .secrets) 0 .bound ≡ 0
+  pub index : node .iv ≡ 0x12345678
+  pub here : forNode node 0x0001 ≡ true
 
-holds : Held
+pub holds : Held
 unfolding settingUp making valid keysValid boundWithin elementsValid nextWithin groupsValid indexValid first kindOf nodeOf secretAt forNode isLocal
 holds = record { one-network = refl; one-application = refl; bound-there = refl; index = refl; here = refl }
 

@@ -10,7 +10,7 @@
 --   handed-up      1: where a message is handed up
 --   acknowledges   2: what an acknowledgement names
 --   ends-alike     3: what is left at the end
-use mathlib.Core.Bool.{true, false, false≢true}
+use mathlib.Core.Bool.{true, false≢true}
 use mathlib.Core.List.{List, [], _∷_, _++_}
 use mathlib.Core.Path.{_≡_, refl, sym, ap, _∙_, subst}
 use Prim.Native.Nat.{ℕ, _≤_, _<_}
@@ -22,6 +22,7 @@ use lib.Seq.{ext-getD}
 use Rattle.common.specs.Bits.{hasBit, allBits}
 use Rattle.common.proofs.BitLaws.{has-none, has-all, all-of-bits}
 use Rattle.common.proofs.Tests.{by-test}
+use Rattle.network.proofs.AddressLaws.{unicast-some}
 use Rattle.memory.specs.declared.replay.Entry.{Entry}
 use Rattle.memory.specs.declared.session.Session.{Session}
 use Rattle.memory.specs.Decision.{sessionAt}
@@ -32,19 +33,20 @@ use Rattle.memory.proofs.SessionSlots.{place-upto}
 use Rattle.node.specs.declared.addresses.Node.{Node}
 use Rattle.node.specs.declared.setup.Setup.{Setup}
 use Rattle.node.specs.Made.{WellMade}
+use Rattle.node.proofs.Addressed.{local-of}
 use Rattle.receiver.specs.declared.state.Receiver.{Receiver}
 use Rattle.receiver.specs.Good.{Gathering}
 use Rattle.receiver.proofs.Good.{good-fresh}
 use Rattle.sending.specs.Acknowledge.{chosen}
 use Rattle.sending.proofs.Laws.Calls.{acknowledgement-sent, chosen-session, chosen-last}
+use Rattle.sending.proofs.Laws.Stamped.{element-low}
 use Rattle.demands.specs.Call.{step, left, run, after}
 use Rattle.demands.specs.Interleaved.{Event, Segment, Foreign, Ask, Arrival, start, nodeOf, speechAt, callOf, calls, comeWith, comeFrom, come, ComeNames, Spent, Arrives, Each, Scene, AllCome, dueAs, behind, HandedUp, Acknowledges, messages, turns, EndsAlike}
 use Rattle.demands.specs.Speech.{Speech, lastOf, Speakable, Handed, handUp}
 use Rattle.demands.proofs.ArrivalLaws.{dueOf, Next, event-next}
 use Rattle.demands.proofs.ComeLaws.{each-first, each-at, each-turn, come-from, come-in-turn}
 use Rattle.demands.proofs.DueLaws.{dueWith, dueBehind, picked-due, once-due}
-use Rattle.demands.proofs.SceneLaws.{speakerOf, Scenery, begins, unicast-some}
-use Rattle.demands.proofs.SpeechAddress.{local-of, element-low}
+use Rattle.demands.proofs.SceneLaws.{speakerOf, Scenery, begins}
 use Rattle.demands.proofs.SpeechCut.{last-low}
 use Rattle.demands.proofs.SpeechSession.{sessionOf}
 use Rattle.demands.proofs.StageLaws.{entryOf, Stage, Silent, Gathers, Done}

@@ -6,7 +6,6 @@ pub mod Determinacy
 pub mod Invariant
 pub mod NeverTwice
 pub mod Pigeonhole
-pub mod SpeechAddress
 pub mod SpeechCut
 pub mod SpeechMessage
 pub mod SpeechSegment
@@ -31,3 +30,4 @@ pub mod ReadBack
 pub mod GoesOut
 pub mod Instance
 pub mod Forwarding
+pub mod ForwardingMet

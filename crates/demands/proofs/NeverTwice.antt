@@ -38,6 +38,7 @@ use Rattle.sending.specs.Stop.{stopping}
 use Rattle.sending.specs.Transmission.{addressOf, nextSeq, stamped}
 use Rattle.sending.proofs.Laws.Allowed.{Asked, access-allows, control-allows}
 use Rattle.sending.proofs.Laws.Calls.{walk-access, walk-control, walk-segment, walk-acknowledge}
+use Rattle.sending.proofs.Laws.Stamped.{stamps}
 use Rattle.sending.proofs.Laws.Transmitted.{used, used-own, used-rises, saying, pduBy, Sends, sealing-is, by-saying, by-starting, by-stopping}
 use Rattle.demands.specs.Call.{Call, Hear, GiveUp, SendAccess, SendControl, SendSegment, Acknowledge, Stop, Outcome, Heard, Said, Ended, step, left}
 use Rattle.demands.specs.NeverTwice.{Use, speaker, madeBy, made, uses, lentFor, lengthBy, Carries, Carried, AllAbove, Rising, NoneEqual, Distinct, Rise, NeverTwice}
@@ -65,13 +66,13 @@ module _ (r : Receiver) (element : ℕ) (buf : List ℕ) where
   module _ (low : element < 8) (h : Header) (c : Sends r element h buf) (a : Answer) (q : Receiver) (next : q .next ≡ used r element .next)
       (long : lengthBy a ≡ length (pduBy r element h)) where
     takes-sent : Takes (lent (record { answer = a; receiver = q }) (onto (pduBy r element h) buf))
-    unfolding stamped
     takes-sent =
+        let s = stamps r element h in
         record {
           header = stamped r element h;
-          from-element = refl;
-          with-next = refl;
-          made-of = rw long (sealing-is r element h buf c);
+          from-element = s .from-element;
+          with-next = s .with-next;
+          made-of = ap (λ (n : ℕ). sealing (keyAt (r .node .keys) n) (stamped r element h) buf) (s .key-stays) ∙ rw long (sealing-is r element h buf c);
           raised = λ k. ap (λ (l : List ℕ). getD l element 0) next ∙ used-own r element k;
         }
 

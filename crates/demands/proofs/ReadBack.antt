@@ -5,9 +5,9 @@
 -- order: a scene of demand 3 with one speaker, where segment n finds the places below it filled. Then SegN is the one
 -- that was missing last, and all before it are stored. That both sides agree on keys, nonce and lengths follows from
 -- the request's being allowed. Assumes nothing.
-use mathlib.Core.Bool.{Bool, true, false, false≢true}
+use mathlib.Core.Bool.{Bool, true, false, true≢false}
 use mathlib.Core.List.{List, [], _∷_, map}
-use mathlib.Core.Path.{_≡_, refl, sym, ap, _∙_, subst}
+use mathlib.Core.Path.{_≡_, refl, sym, ap, ap₂, _∙_, subst}
 use Prim.Native.Nat.{ℕ, zero, suc, _+_, _-_, _≤_, _<_, min}
 use native.Mathlib.Omega.{arith}
 use borrow.Author.Tests.{eqb-true, eqb-false, leb-true}
@@ -16,15 +16,16 @@ use lib.ListN.{length, length-set}
 use lib.Seq.{getD-set-same}
 use Rattle.common.specs.Lent.{Lent}
 use Rattle.common.specs.Lists.{tabFrom}
-use Rattle.common.proofs.Tests.{by-test, and-first}
+use Rattle.common.proofs.Tests.{by-test}
 use Rattle.keys.specs.declared.NetworkKeys.{NetworkKeys}
 use Rattle.network.specs.declared.header.Header.{Header}
-use Rattle.network.specs.Address.{isUnicast, addressesAllowed}
 use Rattle.network.specs.Candidates.{keyAt}
 use Rattle.network.specs.Pdu.{pduOf}
 use Rattle.network.specs.Sealing.{sealable}
 use Rattle.network.specs.SealOpen.{Receives}
+use Rattle.network.proofs.AddressLaws.{unicast-some, allowed-source}
 use Rattle.network.proofs.Sealed.{within}
+use Rattle.transport.specs.Segment.{accessOctet, controlOctet}
 use Rattle.memory.specs.declared.outgoing.Outgoing.{Outgoing}
 use Rattle.memory.specs.declared.session.Terms.{Terms}
 use Rattle.node.specs.declared.addresses.Node.{Node}
@@ -34,24 +35,24 @@ use Rattle.receiver.specs.declared.state.Receiver.{Receiver}
 use Rattle.receiver.proofs.Good.{good-fresh}
 use Rattle.sending.specs.declared.answer.Spoken.{Spoken}
 use Rattle.sending.specs.declared.request.Request.{Request}
-use Rattle.sending.specs.Access as access
-use Rattle.sending.specs.Control as control
 use Rattle.sending.specs.Request.{ttlOf}
 use Rattle.sending.specs.Transmission.{sendingIv, nextSeq, stamped}
+use Rattle.sending.proofs.Laws.Allowed.{whole-short}
+use Rattle.sending.proofs.Laws.Stamped.{stamps}
 use Rattle.demands.specs.Call.{Outcome, Said, step, left, run}
 use Rattle.demands.specs.Interleaved as scene
 use Rattle.demands.specs.Interleaved.{Spent, start, nodeOf, speechAt, Each}
 use Rattle.demands.specs.NeverTwice.{made}
 use Rattle.demands.specs.ReadBack.{sayCall, restOf, pduMade, saidBy, OwnKeyFirst, Sending, Heard, ReadBack}
-use Rattle.demands.specs.Speech.{Words, Access, Control, Speech, lastOf, headerOf, segmentPdu, Speakable, Handed, handUp, Tried, networkPlace, applicationPlace}
-use Rattle.demands.proofs.SaidLaws.{access-read, opcode-range, request-of, words-of, near, held, Kept, kept, access-stamped}
-use Rattle.demands.proofs.SceneLaws.{begins, unicast-some}
+use Rattle.demands.specs.Speech.{Words, Access, Control, Speech, akfOf, aidOf, octetsOf, lastOf, headerOf, segmentPdu, Speakable, Handed, handUp, Tried, networkPlace, applicationPlace}
+use Rattle.demands.proofs.SaidLaws.{access-read, opcode-range, request-of, words-of, near, held, Kept, kept, access-stamped, control-stamped}
+use Rattle.demands.proofs.SceneLaws.{begins}
 use Rattle.demands.proofs.SegmentsHeard.{heard-in-order}
 use Rattle.demands.proofs.SegmentsSent.{Can, Keeps, can-said, pdu-said, Rest, rest-sent}
 use Rattle.demands.proofs.SentLaws.{SaidBy, StartedBy, allowedAs, wholeAs, headerAs, keptAs, sendingAs, Way, Whole, Begun, way}
 use Rattle.demands.proofs.SpeechCut.{last-low}
 use Rattle.demands.proofs.WholeHeard.{Reads}
-use Rattle.demands.proofs.WholeSent.{Passes, access-whole, control-whole}
+use Rattle.demands.proofs.WholeSent.{wholeHeader, Passes, access-whole, control-whole}
 
 -- each of a table is one of its places
 each-place : {A : Type 0} (P : A → Type 0) (f : ℕ → A) (n m : ℕ) → Each P (tabFrom f n m) → (j : ℕ) → n ≤ j → j < n + m → P (f j)
@@ -60,11 +61,6 @@ each-place P f n (suc m) e j l h =
     by-test (eqb j n)
     (λ t. subst (λ (x : ℕ). P (f x)) (sym (eqb-true j n t)) (e .0))
     (λ t. let q = eqb-false j n t in each-place P f (suc n) m (e .1) j (omega arith) (omega arith))
-
--- what may be sent comes from a unicast address
-sent-unicast : (ctl : Bool) (src dst : ℕ) → addressesAllowed ctl src dst ≡ true → isUnicast src ≡ true
-unfolding addressesAllowed
-sent-unicast ctl src dst a = and-first (isUnicast src) _ a
 
 module _ (sender : Receiver) (setup : Setup) (q : Request) (words : Words) (buf fwd msg : List ℕ) (p : Sending sender setup q words buf)
     (wide : 29 ≤ length fwd) (big : 384 ≤ length msg) where
@@ -173,7 +169,7 @@ module _ (sender : Receiver) (setup : Setup) (q : Request) (words : Words) (buf 
     speaks =
         let h = headerOf node s 0 (first + 0) (ttlOf (q .ttl)) in
         record {
-          from-unicast = sent-unicast (h .ctl) (h .src) (h .dst) (within (keyAt (node .keys) (q .network)) h can-zero .allowed);
+          from-unicast = allowed-source (h .ctl) (h .src) (h .dst) (within (keyAt (node .keys) (q .network)) h can-zero .allowed);
           for-here = p .between .for-here;
           dst-fits = p .between .dst-fits;
           held = held sender node (p .between .shared) q words a;
@@ -216,34 +212,33 @@ module _ (sender : Receiver) (setup : Setup) (q : Request) (words : Words) (buf 
         subst Read (sym made-are) (record { hands = x .hands; stores = x .stores; counts = x .counts })
 
   -- ---- whole
-  module _ (b : SaidBy sender (q .element) (headerAs sender q words) said) where
+  module _ (b : SaidBy sender (q .element) (headerAs sender q words) said) (ctl : Bool) (pdu : List ℕ)
+      (shape : stamped sender (q .element) (headerAs sender q words) ≡ wholeHeader s ctl (ttlOf (q .ttl)) pdu) where
     abbrev h : Header
-    h = stamped sender (q .element) (headerAs sender q words)
+    h = wholeHeader s ctl (ttlOf (q .ttl)) pdu
 
-    made-one : (key : ℕ) → headerAs sender q words .key ≡ key → madeOf (Said said) ≡ pduOf (keyAt (node .keys) key) h ∷ []
-    made-one key e =
-        let own = headerAs sender q words .key in
-        let same = ap (λ (k : List NetworkKeys). pduOf (keyAt k own) h) (p .between .shared .keys-same) ∙ ap (λ (n : ℕ). pduOf (keyAt (node .keys) n) h) e in
-        rw (b .says) (ap (λ (x : List ℕ). x ∷ []) (b .transmitted-is .pdu ∙ same))
+    abbrev key : NetworkKeys
+    key = keyAt (node .keys) (q .network)
 
-    can-one : (key : ℕ) → headerAs sender q words .key ≡ key → sealable (keyAt (node .keys) key) h ≡ true
-    can-one key e =
-        let own = headerAs sender q words .key in
-        subst (λ (n : ℕ). sealable (keyAt (node .keys) n) h ≡ true) e
-        (subst (λ (k : List NetworkKeys). sealable (keyAt k own) h ≡ true) (p .between .shared .keys-same) (b .transmitted-is .can))
+    -- it is sealed by the receiver's key, which the sender's is
+    own-key : keyAt (sender .node .keys) (headerAs sender q words .key) ≡ key
+    own-key =
+        let e = sym (stamps sender (q .element) (headerAs sender q words) .key-stays) ∙ ap (λ (x : Header). x .key) shape in
+        ap (keyAt (sender .node .keys)) e ∙ ap (λ (k : List NetworkKeys). keyAt k (q .network)) (p .between .shared .keys-same)
 
-    src-some : (key : ℕ) → headerAs sender q words .key ≡ key → h .src ≡ 0 → ⊥
-    src-some key e = unicast-some (h .src) (sent-unicast (h .ctl) (h .src) (h .dst) (within (keyAt (node .keys) key) h (can-one key e) .allowed))
+    made-one : madeOf (Said said) ≡ pduOf key h ∷ []
+    made-one = rw (b .says) (ap (λ (x : List ℕ). x ∷ []) (b .transmitted-is .pdu ∙ ap₂ pduOf own-key shape))
+
+    can-one : sealable key h ≡ true
+    can-one = sym (ap₂ sealable own-key shape) ∙ b .transmitted-is .can
 
     -- what the receiver needs of it
-    passes : q .network ≡ headerAs sender q words .key → h .key ≡ q .network → h .iv ≡ sendingIv (sender .node) → h .src ≡ s .src → allowedAs sender q words ≡ true
-        → Passes setup s h fwd msg
-    passes e ek ei es a =
-        let first = subst (Each (OwnKeyFirst node s)) (made-one (q .network) (sym e)) all-first .0 in
+    passes : allowedAs sender q words ≡ true → Passes setup s h fwd msg
+    passes a =
         record {
-          can = can-one (q .network) (sym e);
-          receives = receives h (pduOf (keyAt (node .keys) (q .network)) h) a ek ei first;
-          spoken = λ z. src-some (q .network) (sym e) (es ∙ z);
+          can = can-one;
+          receives = receives h (pduOf key h) a refl refl (subst (Each (OwnKeyFirst node s)) made-one all-first .0);
+          spoken = unicast-some (s .src) (allowed-source ctl (s .src) (s .dst) (within key h can-one .allowed));
           here = p .between .for-here;
           dst-fits = p .between .dst-fits;
           wide = wide;
@@ -251,12 +246,10 @@ module _ (sender : Receiver) (setup : Setup) (q : Request) (words : Words) (buf 
         }
 
     read-one :
-        q .network ≡ headerAs sender q words .key
-        → Reads setup (pduOf (keyAt (node .keys) (q .network)) h) fwd msg (handUp s)
-        (record { network = networkPlace node s; application = applicationPlace node s words })
+        Reads setup (pduOf key h) fwd msg (handUp s) (record { network = networkPlace node s; application = applicationPlace node s words })
         → Read (madeOf (Said said))
-    read-one e g =
-        subst Read (sym (made-one (q .network) (sym e)))
+    read-one g =
+        subst Read (sym made-one)
         (record { hands = ap (λ (x : List Handed). x ∷ []) (g .hands); stores = tt {0}; counts = ap (λ (x : Tried). x ∷ []) (g .counts) })
 
 -- ---- the promise
@@ -265,26 +258,27 @@ module _ (sender : Receiver) (setup : Setup) (q : Request) (buf fwd msg : List �
       (words : Words) (p : Sending sender setup q words buf) → allowedAs sender q words ≡ true → wholeAs sender q words ≡ true
       → (b : SaidBy sender (q .element) (headerAs sender q words) (sendingAs sender q words buf))
       → Read sender setup q words buf fwd msg p wide big (madeOf sender setup q words buf fwd msg p wide big (Said (sendingAs sender q words buf)))
-  unfolding access.isWhole stamped access.wholeHeader access.envelopeOf control.wholeHeader
-  read-whole (Access key true payload) p a w b = absurd (false≢true w)
+  read-whole (Access key true payload) p a w b = absurd (true≢false (whole-short true (length payload) w .0))
   read-whole (Access key false payload) p a w b =
       let words = Access key false payload in
       let node = nodeOf setup in
       let s = saidBy sender q words in
+      let pdu = accessOctet false (akfOf key) (aidOf node key) ∷ octetsOf node s in
       let e = access-stamped sender node (p .between .shared) q key payload a in
       let made = well sender setup q words buf fwd msg p wide big in
       let read = access-read sender node (p .between .shared) q key false payload a (p .between .own-message-first) in
-      let passing = passes sender setup q words buf fwd msg p wide big b refl refl refl refl a in
-      read-one sender setup q words buf fwd msg p wide big b refl
-      (rw e (access-whole setup s (ttlOf (q .ttl)) fwd msg made key payload refl read (leb-true (length payload) 11 w) (rw e at passing)))
+      read-one sender setup q words buf fwd msg p wide big b false pdu e
+      (access-whole setup s (ttlOf (q .ttl)) fwd msg made key payload refl read (whole-short false (length payload) w .1)
+      (passes sender setup q words buf fwd msg p wide big b false pdu e a))
   read-whole (Control code parameters) p a w b =
       let words = Control code parameters in
       let node = nodeOf setup in
       let s = saidBy sender q words in
-      let passing = passes sender setup q words buf fwd msg p wide big b refl refl refl refl a in
-      read-one sender setup q words buf fwd msg p wide big b refl
+      let pdu = controlOctet false code ∷ parameters in
+      let e = control-stamped sender node (p .between .shared) q code parameters in
+      read-one sender setup q words buf fwd msg p wide big b true pdu e
       (control-whole setup s (ttlOf (q .ttl)) fwd msg code parameters refl (opcode-range sender node (p .between .shared) q code parameters a)
-      (leb-true (length parameters) 11 w) passing)
+      (leb-true (length parameters) 11 w) (passes sender setup q words buf fwd msg p wide big b true pdu e a))
 
   read-way :
       (words : Words) (p : Sending sender setup q words buf) → Way sender q words (sendingAs sender q words buf)

@@ -1,19 +1,18 @@
 -- What a sender says is a speech that a receiver with the same keys is to read: a request that is allowed names keys that both hold, and its message has a length that fits. What the sender
 -- keeps of it are the speech's octets, and each segment's header is the speech's. Assumes nothing.
---   speakable    the speech is one that the receiver is to read
---   Kept         the message that is kept is the speech's
---   header-said  a segment's header, stamped
+--   access-read, words-of             the speech is one that the receiver is to read
+--   Kept, kept                        the message that is kept is the speech's
+--   header-said, key-said             a segment's header, stamped, and its key
+--   access-stamped, control-stamped   the header of a message that goes whole, stamped
 use mathlib.Core.Bool.{Bool, true, false}
 use mathlib.Core.List.{List, _∷_}
-use mathlib.Core.Logic.{_⊎_, inl, inr}
-use mathlib.Core.Path.{_≡_, refl, sym, subst}
+use mathlib.Core.Logic.{_⊎_}
+use mathlib.Core.Path.{_≡_, refl, sym, ap, _∙_, subst}
 use Prim.Native.Nat.{ℕ, _+_, _≤_, _<_, min}
 use native.Mathlib.Omega.{arith}
-use borrow.Author.Tests.{eq-eqb, lt-ltb, ltb-true, leb-false}
-use lib.Dec.{ltb}
+use borrow.Author.Tests.{eq-eqb, lt-ltb, leb-false}
 use lib.ListN.{length, take}
-use Rattle.common.proofs.Tests.{by-test, and-first, and-second}
-use Rattle.network.specs.IvIndex.{ivIndexSent}
+use Rattle.network.specs.declared.header.Header.{Header}
 use Rattle.transport.specs.declared.securing.Envelope.{Envelope}
 use Rattle.transport.specs.declared.securing.MessageKey.{MessageKey}
 use Rattle.transport.specs.declared.securing.MessageKey.the-variants.{Application, Device}
@@ -31,13 +30,15 @@ use Rattle.sending.specs.declared.request.Request.{Request}
 use Rattle.sending.specs.Access as access
 use Rattle.sending.specs.Control as control
 use Rattle.sending.specs.Request.{ttlOf}
-use Rattle.sending.specs.Segment as segment
+use Rattle.sending.specs.Segment.{segmentHeader}
 use Rattle.sending.specs.Transmission.{sendingIv, addressOf, nextSeq, stamped}
-use Rattle.sending.proofs.Laws.Allowed.{Asked, AccessAllowed, access-allows, ControlAllowed, control-allows}
+use Rattle.sending.proofs.Laws.Allowed.{Asked, AccessAllowed, access-allows, application-there, ControlAllowed, control-allows}
+use Rattle.sending.proofs.Laws.Shapes.{whole-access, whole-control, segment-out, keeps-access, keeps-control, envelope-is}
+use Rattle.sending.proofs.Laws.Stamped.{stamps, sending-near}
 use Rattle.demands.specs.ReadBack.{saidBy, Shared, OwnMessageFirst}
 use Rattle.demands.specs.Speech.{Words, Access, Control, Speech, keyOf, aidOf, akfOf, envelopeOf, octetsOf, lastOf, segmentOf, headerOf, Fits, WordsRead}
 use Rattle.demands.proofs.SentLaws.{allowedAs, wholeAs, headerAs, keptAs}
-use Rattle.demands.proofs.SpeechSegment.{taken-back, termsOf}
+use Rattle.demands.proofs.SpeechSegment.{termsOf}
 use Rattle.demands.proofs.WholeSent.{wholeHeader}
 
 module _ (sender : Receiver) (node : Node) (shared : Shared (sender .node) node) (q : Request) where
@@ -49,7 +50,7 @@ module _ (sender : Receiver) (node : Node) (shared : Shared (sender .node) node)
 
   pub key-same : (key : MessageKey) → access.keyAllowed (sender .node) q key ≡ true → KeySame key
   key-same (Application i) a =
-      let h = ltb-true i (min (sender .node .applications) 4) (and-first (ltb i (min (sender .node .applications) 4)) _ a) in
+      let h = application-there (sender .node) q i a .0 in
       let four = lt-ltb i 4 (omega arith) in
       record {
         akf-same = rw four refl;
@@ -76,8 +77,7 @@ module _ (sender : Receiver) (node : Node) (shared : Shared (sender .node) node)
     keys-allowed = passed .key-allowed
 
     pub envelope-same : e ≡ envelopeOf node s key szmic
-    unfolding access.envelopeOf
-    envelope-same = let c = key-same key keys-allowed in rw (c .akf-same, c .aid-same) refl
+    envelope-same = let c = key-same key keys-allowed in envelope-is sender q k szmic ∙ rw (c .akf-same, c .aid-same) refl
 
     pub octets-same : secured (k .key) e payload ≡ octetsOf node s
     unfolding octetsOf
@@ -93,13 +93,12 @@ module _ (sender : Receiver) (node : Node) (shared : Shared (sender .node) node)
         (i : ℕ) → key ≡ Application i → OwnMessageFirst node s (Access (Application i) szmic payload) → (msg : List ℕ)
         → message.Receives (node .secrets) (node .applications) i (envelopeOf node s (Application i) szmic) (octetsOf node s) msg
     application-reads i c first msg =
-        let a = rw c at keys-allowed in
-        let h = ltb-true i (min (sender .node .applications) 4) (and-first (ltb i (min (sender .node .applications) 4)) _ a) in
-        let b = and-second (ltb i (min (sender .node .applications) 4)) _ a in
+        let k = application-there (sender .node) q i (rw c at keys-allowed) in
+        let aid = applicationKeyAt (node .secrets) i .aid in
         record {
           akf-set = refl;
-          held = rw (sym (shared .applications-same)) h;
-          fitting = rw (eq-eqb (applicationKeyAt (node .secrets) i .aid) (applicationKeyAt (node .secrets) i .aid) refl, sym (shared .secrets-same)) b;
+          held = rw (sym (shared .applications-same)) (k .0);
+          fitting = rw (eq-eqb aid aid refl, sym (shared .secrets-same)) (eq-eqb _ (q .network) (k .1));
           none-before = first msg;
         }
 
@@ -133,11 +132,8 @@ module _ (sender : Receiver) (node : Node) (shared : Shared (sender .node) node)
 
   module _ (made : WellMade (sender .node)) where
     pub near : (sendingIv (sender .node) ≡ node .iv) ⊎ (sendingIv (sender .node) + 1 ≡ node .iv)
-    unfolding sendingIv ivIndexSent
     near =
-        by-test (sender .node .flag)
-        (λ t. let l = made .index-least t in let i = shared .iv-same in rw t (inr (omega arith)))
-        (λ t. rw t (inl (shared .iv-same)))
+        subst (λ (i : ℕ). (sendingIv (sender .node) ≡ i) ⊎ (sendingIv (sender .node) + 1 ≡ i)) (shared .iv-same) (sending-near (sender .node) made)
 
   pub held : (words : Words) → allowedAs sender q words ≡ true → q .network < min (node .networks) 4
   held words a = rw (sym (shared .networks-same)) (request-of words a .network-there)
@@ -149,35 +145,47 @@ module _ (sender : Receiver) (node : Node) (shared : Shared (sender .node) node)
     pub terms-is : o .terms ≡ termsOf node s
     pub octets-are : take (o .len) (o .bytes) ≡ octetsOf node s
     pub ttl-is : o .ttl ≡ ttlOf (q .ttl)
+    pub unheard : o .heard ≡ 0
 
   pub kept : (words : Words) → allowedAs sender q words ≡ true → Kept (saidBy sender q words) (keptAs sender q words)
-  unfolding access.outgoingOf access.lastSegment lastOf control.outgoingOf octetsOf
+  unfolding lastOf octetsOf
   kept (Access key szmic payload) a =
       let s = saidBy sender q (Access key szmic payload) in
       let c = key-same key (keys-allowed key szmic payload a) in
       let m = octets-same key szmic payload a in
       let f = access-fits key szmic payload a .enough in
       let x = envelope-same key szmic payload a in
+      let k = access.keyed (sender .node) key in
+      let o = keeps-access (access.envelopeOf sender q k szmic) q k payload in
       record {
-        src-is = rw x refl;
-        auth-is = rw x refl;
-        terms-is = rw (m, x, c .akf-same, c .aid-same) refl;
-        octets-are = rw m (taken-back 384 (octetsOf node s) f);
-        ttl-is = refl;
+        src-is = o .src-is ∙ rw x refl;
+        auth-is = o .auth-is ∙ rw x refl;
+        terms-is = o .terms-is ∙ rw (m, x, c .akf-same, c .aid-same) refl;
+        octets-are = o .octets-are (rw m f) ∙ m;
+        ttl-is = o .ttl-is;
+        unheard = o .unheard;
       }
   kept (Control code parameters) a =
       let f = passed-control code parameters a .parameters-most in
-      record { src-is = refl; auth-is = refl; terms-is = refl; octets-are = taken-back 384 parameters (omega arith); ttl-is = refl }
+      let o = keeps-control sender q code parameters in
+      record {
+        src-is = o .src-is;
+        auth-is = o .auth-is;
+        terms-is = o .terms-is;
+        octets-are = o .octets-are (omega arith);
+        ttl-is = o .ttl-is;
+        unheard = o .unheard;
+      }
 
   -- ---- a segment's header is the speech's
   module _ (s : Speech) (o : Outgoing) (c : Kept s o) (r : Receiver) (element n : ℕ) (address : addressOf (r .node) element ≡ s .src) where
-    pdu-said : segment.segmentPdu o n ≡ segmentOf node s n
-    unfolding segment.segmentPdu segment.outgoingChunk segmentOf
-    pdu-said = rw (c .terms-is, c .auth-is, c .octets-are) refl
+    pub header-said : stamped r element (segmentHeader o n) ≡ headerOf node s n (nextSeq r element) (ttlOf (q .ttl))
+    unfolding headerOf segmentOf
+    header-said = segment-out r element o n ∙ rw (c .terms-is, c .auth-is, c .octets-are, c .ttl-is, address) refl
 
-    pub header-said : stamped r element (segment.segmentHeader o n) ≡ headerOf node s n (nextSeq r element) (ttlOf (q .ttl))
-    unfolding stamped segment.segmentHeader headerOf
-    header-said = rw (pdu-said, c .terms-is, c .auth-is, c .ttl-is, address) refl
+    pub key-said : segmentHeader o n .key ≡ s .network
+    unfolding headerOf
+    key-said = sym (stamps r element (segmentHeader o n) .key-stays) ∙ ap (λ (x : Header). x .key) header-said
 
   -- ---- a message that goes whole has the header of its speech
   pub access-stamped :
@@ -185,14 +193,14 @@ module _ (sender : Receiver) (node : Node) (shared : Shared (sender .node) node)
       → (let words = Access key false payload in
       let s = saidBy sender q words in
       stamped sender (q .element) (headerAs sender q words) ≡ wholeHeader s false (ttlOf (q .ttl)) (accessOctet false (akfOf key) (aidOf node key) ∷ octetsOf node s))
-  unfolding stamped access.wholeHeader access.wholePdu access.envelopeOf
   access-stamped key payload a =
       let c = key-same key (keys-allowed key false payload a) in
-      rw (octets-same key false payload a, c .akf-same, c .aid-same) refl
+      let k = access.keyed (sender .node) key in
+      whole-access sender (q .element) (access.envelopeOf sender q k false) q k payload
+      ∙ rw (octets-same key false payload a, envelope-same key false payload a, c .akf-same, c .aid-same) refl
 
   pub control-stamped :
       (code : ℕ) (parameters : List ℕ)
       → (let words = Control code parameters in
       stamped sender (q .element) (headerAs sender q words) ≡ wholeHeader (saidBy sender q words) true (ttlOf (q .ttl)) (controlOctet false code ∷ parameters))
-  unfolding stamped control.wholeHeader
-  control-stamped code parameters = refl
+  control-stamped code parameters = whole-control sender (q .element) (sendingIv (sender .node)) q code parameters

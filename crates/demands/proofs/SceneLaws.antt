@@ -10,7 +10,7 @@ use Prim.Native.Nat.{ℕ, _≤_, _<_}
 use native.Mathlib.Omega.{arith}
 use lib.ListN.{length, getD-replicate}
 use Rattle.common.specs.Bits.{hasBit}
-use Rattle.network.specs.Address.{kindOf, isUnicast}
+use Rattle.network.proofs.AddressLaws.{unicast-some}
 use Rattle.memory.specs.declared.replay.Entry.{Entry}
 use Rattle.memory.specs.declared.session.Session.{Session}
 use Rattle.memory.specs.Cache.{seen}
@@ -46,11 +46,6 @@ pub record Scenery (node : Node) (speeches : List Speech) (spent : Spent) (r : R
   pub sessions-owned : SessionsOwned (length speeches) (speakerOf speeches) (r .sessions)
   pub entries-owned : EntriesOwned (length speeches) (speakerOf speeches) (r .replay)
   pub seen-come : (k seq : ℕ) → k < length speeches → seen (r .cache) (speakerOf speeches k) seq ≡ true → hasBit (filled k) (spent k seq) ≡ true
-
--- a unicast address is not 0
-pub unicast-some : (a : ℕ) → isUnicast a ≡ true → a ≡ 0 → ⊥
-unfolding isUnicast kindOf
-unicast-some a u e = false≢true (rw e at u)
 
 -- ---- a fresh receiver
 module _ (setup : Setup) (ready : settingUp setup .answer ≡ Ready) (speeches : List Speech) (spent : Spent)

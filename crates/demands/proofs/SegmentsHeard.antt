@@ -3,16 +3,17 @@
 use mathlib.Core.Bool.{true, false, true≢false}
 use mathlib.Core.List.{List, [], _∷_, map}
 use mathlib.Core.Path.{_≡_, refl, sym, ap, _∙_}
-use Prim.Native.Nat.{ℕ, zero, suc, _+_, _-_, _≤_, _<_, min}
+use Prim.Native.Nat.{ℕ, zero, suc, _+_, _^_, _≤_, _<_}
 use native.Mathlib.Nat.{pow-suc}
 use native.Mathlib.Omega.{arith}
-use borrow.Author.Tests.{eq-eqb, ne-eqb}
+use borrow.Author.Tests.{eq-eqb, ne-eqb, eqb-true, eqb-false}
 use lib.Dec.{eqb}
 use lib.ListN.{length}
 use lib.Pow.{pow-pos}
 use Rattle.common.specs.Bits.{hasBit, withBit, allBits}
 use Rattle.common.specs.Lists.{tabFrom}
-use Rattle.common.proofs.BitLaws.{has-none, has-all, has-all-above, with-of-clear}
+use Rattle.common.proofs.BitLaws.{has-none, has-all, all-bound, has-all-above, with-of-clear, has-with-own, has-with-other, all-of-bits}
+use Rattle.common.proofs.Tests.{by-test}
 use Rattle.node.specs.declared.addresses.Node.{Node}
 use Rattle.node.specs.Made.{WellMade}
 use Rattle.receiver.specs.declared.state.Receiver.{Receiver}
@@ -34,15 +35,24 @@ below-clear : (n : ℕ) → hasBit (below n) n ≡ false
 below-clear zero = has-none 0
 below-clear (suc n) = has-all-above n (suc n) (omega arith)
 
+below-has : (n i : ℕ) → i < n → i < 32 → hasBit (below n) i ≡ true
+below-has zero i h b = absurd (omega arith)
+below-has (suc n) i h b = has-all n i (omega arith) b
+
+below-low : (n : ℕ) → below n < 2 ^ n
+below-low zero = pow-pos 0
+below-low (suc n) = all-bound n (suc n) (omega arith)
+
+-- with place n they are the places below n + 1
 below-more : (n : ℕ) → n < 32 → withBit (below n) n ≡ below (suc n)
-unfolding allBits
-below-more zero h = with-of-clear 0 0 h (has-none 0)
-below-more (suc n) h =
-    let e : min n 31 ≡ n = omega arith in
-    let f : min (suc n) 31 ≡ suc n = omega arith in
-    let g : n + 1 ≡ suc n = omega arith in
-    let k : suc n + 1 ≡ suc (suc n) = omega arith in
-    with-of-clear (allBits n) (suc n) h (below-clear (suc n)) ∙ rw (e, f, g, k) (omega (arith, pow-suc 2 (suc n), pow-pos (suc n)))
+below-more n h =
+    let e = with-of-clear (below n) n h (below-clear n) in
+    let one : suc n ≡ n + 1 = omega arith in
+    let low : below n + 2 ^ n < 2 ^ suc n = omega (arith, below-low n, pow-suc 2 n) in
+    all-of-bits n (withBit (below n) n) h (rw (e, ← one) low)
+    (λ i l. by-test (eqb i n)
+    (λ t. let q = eqb-true i n t in rw q (has-with-own (below n) n h))
+    (λ t. let q = eqb-false i n t in has-with-other (below n) n i q ∙ below-has n i (omega arith) (omega arith)))
 
 -- segment n is the last that is missing where it is SegN
 last-here : (n last : ℕ) → n < 32 → n ≡ last → isLastMissing (below n) n last ≡ true
@@ -52,10 +62,7 @@ other-bits : (n last : ℕ) → n < last → last < 32 → allBits n ≡ allBits
 other-bits n last b h e = true≢false (sym (has-all last last (omega arith) h) ∙ ap (λ (x : ℕ). hasBit x last) (sym e) ∙ has-all-above n last b)
 
 not-last : (n last : ℕ) → n < last → last < 32 → isLastMissing (below n) n last ≡ false
-not-last n last b h =
-    let d : allBits n ≡ allBits last → ⊥ =
-    λ e. true≢false (sym (has-all last last (omega arith) h) ∙ ap (λ (x : ℕ). hasBit x last) (sym e) ∙ has-all-above n last b) in
-    rw (below-clear n, below-more n (omega arith), ne-eqb (allBits n) (allBits last) d) refl
+not-last n last b h = rw (below-clear n, below-more n (omega arith), ne-eqb (allBits n) (allBits last) (other-bits n last b h)) refl
 
 -- ---- heard in order
 module _ (node : Node) (made : WellMade node) (s : Speech) (w : Speakable node s) (spent : Spent) (number : ℕ → ℕ) (ttl : ℕ) (fwd msg : List ℕ)

@@ -4,9 +4,9 @@
 use mathlib.Core.Bool.{true, false≢true}
 use mathlib.Core.List.{List, map}
 use mathlib.Core.Path.{_≡_, refl, sym, ap, _∙_, subst}
-use Prim.Native.Nat.{ℕ, zero, suc, _+_, _%_, _≤_, _<_, min}
+use Prim.Native.Nat.{ℕ, zero, suc, _+_, _≤_, _<_, min}
 use native.Mathlib.Omega.{arith}
-use borrow.Author.Tests.{eqb-true, eqb-false, lt-ltb, le-leb}
+use borrow.Author.Tests.{eqb-true, eqb-false}
 use lib.Dec.{eqb}
 use lib.ListN.{length, take, length-set}
 use lib.Seq.{getD-set-same}
@@ -18,7 +18,6 @@ use Rattle.network.specs.Candidates.{keyAt}
 use Rattle.network.specs.Sealing.{sealable}
 use Rattle.memory.specs.declared.outgoing.Outgoing.{Outgoing}
 use Rattle.node.specs.declared.addresses.Node.{Node}
-use Rattle.node.specs.Addresses.{isLocal}
 use Rattle.node.specs.Made.{WellMade}
 use Rattle.receiver.specs.declared.state.Receiver.{Receiver}
 use Rattle.sending.specs.declared.answer.Spoken.{Spoken}
@@ -27,23 +26,15 @@ use Rattle.sending.specs.Request.{ttlOf}
 use Rattle.sending.specs.Segment.{segmentHeader, elementOf, sendingSegment}
 use Rattle.sending.specs.Transmission.{addressOf, nextSeq, stamped}
 use Rattle.sending.proofs.Laws.Calls.{walk-segment}
+use Rattle.sending.proofs.Laws.Stamped.{element-back}
 use Rattle.sending.proofs.Laws.Transmitted.{used, saying}
 use Rattle.demands.specs.Call.{Call, SendSegment, Outcome, step, left, run}
 use Rattle.demands.specs.Interleaved.{Each}
 use Rattle.demands.specs.NeverTwice.{madeBy, made}
 use Rattle.demands.specs.ReadBack.{Shared, pduMade}
 use Rattle.demands.specs.Speech.{Speech, headerOf, segmentPdu}
-use Rattle.demands.proofs.SaidLaws.{Kept, header-said}
+use Rattle.demands.proofs.SaidLaws.{Kept, header-said, key-said}
 use Rattle.demands.proofs.SentLaws.{Transmits, SaidBy, said-by}
-
--- an element's address is its own
-pub element-back : (node : Node) → WellMade node → (element : ℕ) → element < min (node .elements) 8 → elementOf node (addressOf node element) ≡ element
-unfolding elementOf addressOf isLocal
-element-back node made element h =
-    let f = made .first-least in
-    let l = made .last-most in
-    let a : (node .first + element % 65536) % 65536 ≡ node .first + element = omega arith in
-    rw (a, le-leb (node .first) (node .first + element) (omega arith), lt-ltb (node .first + element) (node .first + min (node .elements) 8) (omega arith)) (omega arith)
 
 module _ (sender : Receiver) (made-node : WellMade (sender .node)) (node : Node) (shared : Shared (sender .node) node) (q : Request)
     (there : q .element < min (sender .node .elements) 8) (s : Speech) (src-is : addressOf (sender .node) (q .element) ≡ s .src)
@@ -92,8 +83,7 @@ module _ (sender : Receiver) (made-node : WellMade (sender .node)) (node : Node)
     header-is = header-said sender node shared q s o kept r element n address ∙ ap (λ (x : ℕ). headerOf node s n x ttl) next-is
 
     key-is : keyAt (r .node .keys) (segmentHeader o n .key) ≡ keyAt (node .keys) (s .network)
-    unfolding segmentHeader
-    key-is = rw (node-is, shared .keys-same, kept .terms-is) refl
+    key-is = rw (key-said sender node shared q s o kept r element n address, node-is, shared .keys-same) refl
 
     pub can-said : Can n
     can-said = rw (← key-is, ← header-is) (t .can)

@@ -10,7 +10,7 @@ use native.Mathlib.Omega.{arith}
 use lib.ListN.{length}
 use Rattle.common.specs.Lent.{lent}
 use Rattle.common.specs.Lists.{onto}
-use Rattle.keys.specs.Derivation.{k4}
+use Rattle.keys.proofs.Widths.{aid-low}
 use Rattle.network.specs.Address.{isUnicast}
 use Rattle.transport.specs.declared.securing.MessageKey.{MessageKey}
 use Rattle.transport.specs.declared.securing.MessageKey.the-variants.{Application, Device}
@@ -22,11 +22,6 @@ use Rattle.node.specs.declared.addresses.Node.{Node}
 use Rattle.node.specs.Made.{WellMade}
 use Rattle.demands.specs.Speech.{Access, Speech, keyOf, aidOf, akfOf, envelopeOf, octetsOf, Fits, WordsRead, applicationPlace}
 use Rattle.demands.proofs.SpeechCut.{cut-is}
-
--- AID has 6 bits
-aid-low : (key : List ℕ) → k4 key < 64
-unfolding k4
-aid-low key = omega arith
 
 module _ (node : Node) (s : Speech) where
   -- AID has 6 bits, AKF 0 needs a unicast DST, and the receiver's keys give the payload, the message's own being tried at its place

@@ -1,7 +1,5 @@
 -- What a segment of a speech is to a receiver. It has 5 to 16 octets, so it stands whole in its header and is read back; its chunk begins at size * i; its number
 -- leads back to SeqAuth. Each number in it has its bits and its DST may be spoken to, so it can be sealed. Assumes nothing.
---   padded-behind, taken-back   octets in an array with room for them
---   nid-low                     NID has 7 bits
 --   termsOf                     what the segments of a speech have in common
 --   transport-long, formed      its header is one that can be read back
 --   segment-octets              its octets are chunk i
@@ -13,38 +11,42 @@ use mathlib.Core.List.{List, _++_, append-assoc}
 use mathlib.Core.Path.{_≡_, refl, sym, ap, _∙_, subst}
 use Prim.Native.Nat.{ℕ, _+_, _%_, _≤_, _<_}
 use native.Mathlib.Omega.{arith}
-use borrow.Author.Tests.{eq-eqb, le-leb, eqb-false}
+use borrow.Author.Tests.{eq-eqb, eqb-true, eqb-false}
 use lib.Dec.{eqb}
-use lib.ListN.{length, getD, take, drop, replicate, length-append}
-use lib.Seq.{take-append-seam, drop-at}
+use lib.ListN.{length, getD, drop, replicate, length-append}
+use lib.Seq.{drop-at}
 use Rattle.common.specs.Lent.{Lent}
 use Rattle.common.specs.Lists.{padded}
 use Rattle.common.proofs.Lists.{length-tab}
 use Rattle.common.proofs.Tests.{by-test}
-use Rattle.keys.specs.Derivation.{k2}
+use Rattle.keys.proofs.Widths.{nid-low}
 use Rattle.network.specs.declared.header.Header.{Header}
-use Rattle.network.specs.Address.{isUnicast, addressesAllowed}
+use Rattle.network.specs.Address.{isUnicast}
 use Rattle.network.specs.Candidates.{keyAt}
 use Rattle.network.specs.Header.{transportOf}
-use Rattle.network.specs.Octets.{octets}
 use Rattle.network.specs.SealOpen.{Formed}
 use Rattle.network.specs.Sealing.{mostTransport, sealable}
-use Rattle.network.proofs.TrialLaws.{onto-zeros}
+use Rattle.network.proofs.AddressLaws.{addresses-allowed}
+use Rattle.network.proofs.Sealed.{sealable-where}
+use Rattle.network.proofs.TrialLaws.{onto-zeros, take-padded}
 use Rattle.transport.specs.declared.securing.MessageKey.{MessageKey}
 use Rattle.transport.specs.declared.securing.MessageKey.the-variants.{Application, Device}
-use Rattle.transport.specs.Form.{keyFits, segmentFits, formOf}
+use Rattle.transport.specs.Form.{segmentFits, formOf}
 use Rattle.transport.specs.LeadsBack.{SegmentOf}
 use Rattle.transport.specs.Ranges.{InRange, KeyInRange, OpcodeInRange}
 use Rattle.transport.specs.ReadsBack.{Carries}
 use Rattle.transport.specs.Segment.{fullOctets, segmentFront}
+use Rattle.transport.proofs.FormLaws.{fits-last, fits-full, key-application, key-device}
 use Rattle.transport.proofs.LeadsBack.{leads-back}
 use Rattle.transport.proofs.ReadsBack.{access-segment-reads-back, control-segment-reads-back}
+use Rattle.transport.proofs.SegmentLaws.{length-front, front-first}
 use Rattle.memory.specs.declared.session.Segment.{Segment}
 use Rattle.memory.specs.declared.session.Terms.{Terms}
 use Rattle.memory.specs.Session.{segmentOctets}
 use Rattle.memory.proofs.Stored.{octets-are}
 use Rattle.node.specs.declared.addresses.Node.{Node}
 use Rattle.node.specs.Made.{WellMade}
+use Rattle.node.proofs.Addressed.{for-allowed}
 use Rattle.receiver.specs.declared.answer.Taken.{Taken}
 use Rattle.receiver.specs.declared.state.Receiver.{Receiver}
 use Rattle.receiver.specs.Hearing.{takenAs}
@@ -52,22 +54,8 @@ use Rattle.receiver.specs.Segmented as segments
 use Rattle.receiver.proofs.Laws.Form.{taken-access-segment, taken-control-segment}
 use Rattle.receiver.proofs.Laws.Segment.{segmented-placed}
 use Rattle.demands.specs.Speech.{Words, Access, Control, Speech, isControl, szmicOf, aidOf, akfOf, firstOf, sizeOf, lastOf, segmentOf, headerOf, WordsRead, Speakable}
-use Rattle.demands.proofs.SpeechAddress.{for-allowed}
 use Rattle.demands.proofs.SpeechCut.{size-bounds, last-low, part, part-bounds, part-full}
 use Rattle.demands.proofs.SpeechMessage.{message-opens}
-
--- ---- octets in an array with room for them
-module _ (n : ℕ) (l : List ℕ) (short : length l ≤ n) where
-  pub padded-behind : padded n l ≡ l ++ drop (length l) (replicate n 0)
-  padded-behind = sym (onto-zeros n l short)
-
-  pub taken-back : take (length l) (padded n l) ≡ l
-  taken-back = rw padded-behind (take-append-seam l (drop (length l) (replicate n 0)))
-
--- NID has 7 bits
-pub nid-low : (key : List ℕ) → k2 key .nid ≤ 127
-unfolding k2
-nid-low key = omega arith
 
 -- what the segments of a speech have in common
 abbrev pub termsOf : Node → Speech → Terms
@@ -87,8 +75,7 @@ module _ (node : Node) (s : Speech) (w : Speakable node s) (i : ℕ) (there : i 
   front = segmentFront (firstOf node (s .words)) (szmicOf (s .words)) (s .auth .seq % 8192) i (lastOf node s)
 
   front-long : length front ≡ 4
-  unfolding segmentFront octets
-  front-long = refl
+  front-long = length-front (firstOf node (s .words)) (szmicOf (s .words)) (s .auth .seq % 8192) i (lastOf node s)
 
   segment-long : length (segmentOf node s i) ≡ 4 + length (part node s i)
   unfolding segmentOf
@@ -111,7 +98,7 @@ module _ (node : Node) (s : Speech) (w : Speakable node s) (i : ℕ) (there : i 
 
     transport-is : transportOf h ≡ segmentOf node s i
     unfolding headerOf
-    transport-is = taken-back 16 (segmentOf node s i) segment-short
+    transport-is = take-padded 16 (segmentOf node s i) segment-short
 
     pub segment-octets : segmentOctets h ≡ part node s i
     unfolding segmentOf
@@ -123,7 +110,7 @@ module _ (node : Node) (s : Speech) (w : Speakable node s) (i : ℕ) (there : i 
 
     -- it can be sealed: every number has its bits, and a DST that is for a node may be sent to
     pub segment-sealable : WellMade node → seq ≤ 0xFFFFFF → ttl ≤ 127 → sealable (keyAt (node .keys) (s .network)) h ≡ true
-    unfolding sealable headerOf addressesAllowed
+    unfolding headerOf
     segment-sealable made eseq ettl =
         let l = segment-long in
         let p = part-bounds node s w i there in
@@ -131,15 +118,8 @@ module _ (node : Node) (s : Speech) (w : Speakable node s) (i : ℕ) (there : i 
         let most : length (segmentOf node s i) ≤ mostTransport (isControl (s .words)) =
         let q = p .1 in
         by-test (isControl (s .words)) (λ t. let m : sizeOf s ≡ 8 = ap fullOctets t in rw t (omega arith)) (λ t. let m : sizeOf s ≡ 12 = ap fullOctets t in rw t (omega arith)) in
-        rw (
-          le-leb (keyAt (node .keys) (s .network) .nid) 127 k,
-          le-leb ttl 127 ettl,
-          le-leb seq 0xFFFFFF eseq,
-          w .from-unicast,
-          for-allowed (isControl (s .words)) node made (s .dst) (w .for-here),
-          le-leb 1 (length (segmentOf node s i)) (omega arith),
-          le-leb (length (segmentOf node s i)) (mostTransport (isControl (s .words))) most,
-        ) refl
+        let allowed = addresses-allowed (isControl (s .words)) (s .src) (s .dst) (w .from-unicast) (for-allowed node made (s .dst) (isControl (s .words)) (w .for-here)) in
+        sealable-where (keyAt (node .keys) (s .network)) h k ettl eseq allowed (omega arith) most
 
     carries : (ctl : Bool) → isControl (s .words) ≡ ctl → Carries h ctl front
     unfolding headerOf segmentOf
@@ -147,29 +127,30 @@ module _ (node : Node) (s : Speech) (w : Speakable node s) (i : ℕ) (there : i 
         record {
           behind = part node s i ++ drop (length (segmentOf node s i)) (replicate 16 0);
           ctl-is = e;
-          begins = padded-behind 16 (segmentOf node s i) segment-short ∙ append-assoc front (part node s i) (drop (length (segmentOf node s i)) (replicate 16 0));
+          begins = sym (onto-zeros 16 (segmentOf node s i) segment-short) ∙ append-assoc front (part node s i) (drop (length (segmentOf node s i)) (replicate 16 0));
         }
 
     fits : (full : ℕ) → full ≡ 4 + sizeOf s → segmentFits i (lastOf node s) (h .len) full ≡ true
-    unfolding segmentFits headerOf
+    unfolding headerOf
     fits full e =
         let l = segment-long in
         let p = part-bounds node s w i there .0 in
-        rw (le-leb 5 (length (segmentOf node s i)) (omega arith), le-leb i (lastOf node s) there)
-        (by-test (eqb i (lastOf node s)) (λ t. rw t refl)
+        let long = length (segmentOf node s i) in
+        by-test (eqb i (lastOf node s))
+        (λ t. sym (fits-last i (lastOf node s) long full (omega arith) there (eqb-true i (lastOf node s) t)))
         (λ t.
         let n = eqb-false i (lastOf node s) t in
         let f = part-full node s w i there (omega arith) in
-        rw (t, eq-eqb (length (segmentOf node s i)) full (omega arith)) refl))
+        sym (fits-full i (lastOf node s) long full (omega arith) there n) ∙ eq-eqb long full (omega arith))
 
     in-range : (full : ℕ) → full ≡ 4 + sizeOf s → InRange (s .auth .seq % 8192) i (lastOf node s) (h .len) full
     in-range full e = record { seqZero-fits = omega arith; segN-fits = last-low node s w; fits = fits full e }
 
     -- ---- it is read back
     key-range : (key : MessageKey) → aidOf node key < 64 → (akfOf key ≡ false → isUnicast (s .dst) ≡ true) → KeyInRange (akfOf key) (aidOf node key) (h .dst)
-    unfolding keyFits headerOf
-    key-range (Application j) low u = record { aid-fits = low; fits = refl }
-    key-range Device low u = record { aid-fits = low; fits = rw (u refl) refl }
+    unfolding headerOf
+    key-range (Application j) low u = record { aid-fits = low; fits = sym (key-application (aidOf node (Application j)) (s .dst) true refl) }
+    key-range Device low u = record { aid-fits = low; fits = sym (key-device 0 (s .dst) false refl refl true (sym (u refl))) }
 
     -- as what a header of the speech is taken: a segment of the message
     abbrev asSegment : Receiver → List ℕ → Lent Taken
@@ -210,8 +191,10 @@ module _ (node : Node) (s : Speech) (w : Speakable node s) (i : ℕ) (there : i 
 
     -- ---- its number leads back to SeqAuth
     first-octet : getD (h .transport) 0 0 ≡ firstOf node (s .words)
-    unfolding headerOf segmentOf segmentFront
-    first-octet = refl
+    first-octet =
+        let c = carries (isControl (s .words)) refl in
+        ap (λ (t : List ℕ). getD t 0 0) (c .begins)
+        ∙ front-first (firstOf node (s .words)) (szmicOf (s .words)) (s .auth .seq % 8192) i (lastOf node s) (c .behind)
 
     segment-is :
         segments.segmentOf h (szmicOf (s .words)) (s .auth .seq) i (lastOf node s) ≡ record { auth = s .auth; terms = termsOf node s; sego = i }

@@ -6,7 +6,6 @@ use mathlib.Core.List.{List, [], _∷_, _++_}
 use mathlib.Core.Path.{_≡_, refl, sym, ap, _∙_}
 use Prim.Native.Nat.{ℕ, _+_, _≤_, _<_}
 use native.Mathlib.Omega.{arith}
-use borrow.Author.Tests.{eq-eqb}
 use lib.ListN.{length, drop, replicate}
 use Rattle.common.specs.Lists.{padded}
 use Rattle.common.proofs.Tests.{by-test}
@@ -17,12 +16,13 @@ use Rattle.network.specs.Header.{transportOf}
 use Rattle.network.specs.Pdu.{pduOf}
 use Rattle.network.specs.Sealing.{sealable}
 use Rattle.network.specs.SealOpen.{Formed, Receives}
+use Rattle.network.proofs.TrialLaws.{onto-zeros, take-padded}
 use Rattle.transport.specs.declared.securing.MessageKey.{MessageKey}
 use Rattle.transport.specs.declared.securing.MessageKey.the-variants.{Application, Device}
-use Rattle.transport.specs.Form.{keyFits}
 use Rattle.transport.specs.Ranges.{KeyInRange, OpcodeInRange}
 use Rattle.transport.specs.ReadsBack.{Carries}
 use Rattle.transport.specs.Segment.{accessOctet, controlOctet}
+use Rattle.transport.proofs.FormLaws.{key-application, key-device}
 use Rattle.transport.proofs.ReadsBack.{access-reads-back, control-reads-back}
 use Rattle.transport.proofs.SecureOpen.{secured-length}
 use Rattle.node.specs.declared.addresses.Node.{Node}
@@ -33,7 +33,6 @@ use Rattle.demands.specs.Interleaved.{nodeOf}
 use Rattle.demands.specs.Speech.{Words, Access, Control, Speech, keyOf, aidOf, akfOf, envelopeOf, octetsOf, WordsRead, handUp, networkPlace, applicationPlace}
 use Rattle.demands.proofs.SpeechCut.{cut-is}
 use Rattle.demands.proofs.SpeechMessage.{message-opens}
-use Rattle.demands.proofs.SpeechSegment.{padded-behind, taken-back}
 use Rattle.demands.proofs.WholeHeard.{Reads, access-heard, control-heard}
 
 -- the header of a speech that goes in one PDU: its pair is the PDU's own
@@ -77,13 +76,13 @@ module _ (setup : Setup) (s : Speech) (ttl : ℕ) (fwd msg : List ℕ) where
     h = wholeHeader s ctl ttl (first ∷ body)
 
     transport-is : transportOf h ≡ first ∷ body
-    transport-is = taken-back 16 (first ∷ body) short
+    transport-is = take-padded 16 (first ∷ body) short
 
     formed : s .dst < 65536 → Formed h
     formed d = record { dst-fits = d; zeros-behind = ap (padded 16) transport-is }
 
     carries : Carries h ctl (first ∷ [])
-    carries = record { behind = body ++ drop (length (first ∷ body)) (replicate 16 0); ctl-is = refl; begins = padded-behind 16 (first ∷ body) short }
+    carries = record { behind = body ++ drop (length (first ∷ body)) (replicate 16 0); ctl-is = refl; begins = sym (onto-zeros 16 (first ∷ body) short) }
 
     body-is : drop 1 (transportOf h) ≡ body
     body-is = ap (drop 1) transport-is
@@ -116,11 +115,13 @@ module _ (setup : Setup) (s : Speech) (ttl : ℕ) (fwd msg : List ℕ) where
     fits-one = let l = octets-long in omega arith
 
     key-range : (aid : ℕ) → aid < 64 → (akfOf key ≡ false → (aid ≡ 0) × (isUnicast (s .dst) ≡ true)) → KeyInRange (akfOf key) aid (s .dst)
-    unfolding keyFits
     key-range aid low u =
         record {
           aid-fits = low;
-          fits = by-test (akfOf key) (λ t. rw t refl) (λ t. let z = u t in rw (t, eq-eqb aid 0 (z .0), z .1) refl);
+          fits =
+              by-test (akfOf key)
+              (λ t. sym (key-application aid (s .dst) (akfOf key) t))
+              (λ t. let z = u t in sym (key-device aid (s .dst) (akfOf key) t (z .0) true (sym (z .1))));
         }
 
     read-some : (k : MessageKey) → WordsRead node s (Access k false payload) → 1 ≤ length payload

@@ -1,17 +1,27 @@
--- Premises are met: a scene of two speakers for demand 3, and a message that is sent and read back for demand 2. Keys are those of MP's sample data.
+-- Premises are met: a scene of two speakers for demand 3, a message that is sent and read back for demand 2, and a PDU that is forwarded. Keys are those of MP's sample data.
 --   shed                the receiver's setup: one network key, one application key, one element
 --   boxes, traffic      two boxes' messages, their segments interleaved, with repeats, a PDU that no key opens and a request to acknowledge
 --   SceneMet            all premises of demand 3 hold of it
 --   SendingMet          all premises of demand 2 hold of a box's report to the shed
+--   ForwardingMet       all premises of `Forwards` hold of a PDU that one box sends another past the shed, and it is forwarded
 use mathlib.Core.Bool.{true, false}
 use mathlib.Core.List.{List, [], _∷_}
+use mathlib.Core.Path.{_≡_}
 use Prim.Native.Nat.{ℕ}
 use lib.ListN.{replicate}
+use Rattle.common.specs.Lists.{padded, Octets}
+use Rattle.network.specs.declared.header.Header.{Header}
+use Rattle.network.specs.Candidates.{keyAt}
+use Rattle.network.specs.Pdu.{pduOf}
+use Rattle.network.specs.Sealing.{forwards}
 use Rattle.transport.specs.declared.securing.MessageKey.the-variants.{Application}
 use Rattle.node.specs.declared.setup.Setup.{Setup}
+use Rattle.node.specs.Addresses.{isLocal}
+use Rattle.receiver.specs.Good.{Good}
 use Rattle.sending.specs.declared.request.Request.{Request}
 use Rattle.sending.specs.declared.request.Ttl.the-variants.{Unnamed}
-use Rattle.demands.specs.Interleaved.{Event, Segment, Foreign, Ask, Arrival, start, Scene, AllCome}
+use Rattle.demands.specs.Forwarding.{Passes}
+use Rattle.demands.specs.Interleaved.{Event, Segment, Foreign, Ask, Arrival, start, nodeOf, Scene, AllCome}
 use Rattle.demands.specs.ReadBack.{Sending}
 use Rattle.demands.specs.Speech.{Words, Access, Control, Speech}
 
@@ -92,3 +102,30 @@ report = Access (Application 0) true (replicate 20 0x5a)
 
 abbrev pub SendingMet : Type 0
 SendingMet = Sending (start bench) shed toShed report (replicate 29 0)
+
+-- ---- forwarding
+-- one box sends another a control message of three parameters, TTL 5; the shed, whose relay is on, hears it
+abbrev pub passing : Header
+passing =
+    record {
+      key = 0;
+      iv = 0x12345678;
+      ctl = true;
+      ttl = 5;
+      seq = 0x000300;
+      src = 0x0002;
+      dst = 0x0003;
+      len = 4;
+      transport = padded 16 (0x03 ∷ 0x4b ∷ 0x50 ∷ 0x05 ∷ []);
+    }
+
+abbrev pub passingPdu : List ℕ
+passingPdu = pduOf (keyAt (nodeOf shed .keys) 0) passing
+
+abbrev pub ForwardingMet : Type 0
+ForwardingMet =
+    Good (start shed)
+    × Octets passingPdu
+    × Passes (start shed) passingPdu (replicate 29 0) (replicate 384 0) 1 passing
+    -- and it is one that is forwarded
+    × (forwards (nodeOf shed .relay) (isLocal (nodeOf shed) (passing .dst)) passing ≡ true)

@@ -8,6 +8,6 @@ pub mod NeverTwice
 pub mod Speech
 pub mod Interleaved
 pub mod ReadBack
+pub mod Forwarding
 pub mod Instance
 pub mod Invariant
-pub mod Forwarding

@@ -2,26 +2,24 @@
 -- Assumes nothing.
 use mathlib.Core.Bool.{true}
 use mathlib.Core.Path.{_≡_, refl, sym, _∙_}
-use Prim.Native.Nat.{_-_, _≤_}
 use native.Mathlib.Omega.{arith}
-use borrow.Author.Tests.{lt-ltb, le-ltb, le-leb}
+use borrow.Author.Tests.{lt-ltb, le-ltb}
 use lib.ListN.{length}
 use Rattle.keys.specs.declared.NetworkKeys.{NetworkKeys}
 use Rattle.network.specs.declared.header.Header.{Header}
 use Rattle.network.specs.Candidates.{keyAt}
 use Rattle.network.specs.SealOpen.{Formed}
-use Rattle.network.specs.Sealing.{mostTransport, sealable, lowered, forwarding}
+use Rattle.network.specs.Sealing.{sealable, lowered, forwarding}
 use Rattle.network.specs.Forwarded.{Forwarded, OpenForwarded}
-use Rattle.network.proofs.Sealed.{pdu-length, within, room}
+use Rattle.network.proofs.Sealed.{pdu-length, within, sealable-where, room}
 use Rattle.network.proofs.SealingLaws.{seal-sealed}
 use Rattle.network.proofs.SealOpen.{open-seal}
 
 sealable-lowered : (key : NetworkKeys) (h : Header) → sealable key h ≡ true → sealable key (lowered h) ≡ true
-unfolding sealable
 sealable-lowered key h s =
     let w = within key h s in
-    let low : h .ttl - 1 ≤ 127 = let t = w .ttl-fits in omega arith in
-    simp (le-leb (key .nid) 127 (w .nid-fits), le-leb (h .ttl - 1) 127 low, le-leb (h .seq) 0xFFFFFF (w .seq-fits), w .allowed, le-leb 1 (h .len) (w .some-transport), le-leb (h .len) (mostTransport (h .ctl)) (w .most-transport))
+    let t = w .ttl-fits in
+    sealable-where key (lowered h) (w .nid-fits) (omega arith) (w .seq-fits) (w .allowed) (w .some-transport) (w .most-transport)
 
 formed-lowered : (h : Header) → Formed h → Formed (lowered h)
 formed-lowered h f = record { dst-fits = f .dst-fits; zeros-behind = f .zeros-behind }

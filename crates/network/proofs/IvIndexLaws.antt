@@ -47,7 +47,7 @@ pub heard-other : (current ivi i : ℕ) → (i % 2 ≡ ivi % 2 → ⊥) → ivIn
 heard-other current ivi i n e = n (heard-parity current ivi i e)
 
 -- the one that sending uses is the current one or the one before, where there is one
-sent-near : (current : ℕ) (flag : Bool) → (flag ≡ true → 0 < current) → (ivIndexSent current flag ≡ current) ⊎ (ivIndexSent current flag + 1 ≡ current)
+pub sent-near : (current : ℕ) (flag : Bool) → (flag ≡ true → 0 < current) → (ivIndexSent current flag ≡ current) ⊎ (ivIndexSent current flag + 1 ≡ current)
 unfolding ivIndexSent
 sent-near current true h = let p = h refl in inr (omega arith)
 sent-near current false h = inl refl

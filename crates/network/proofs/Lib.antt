@@ -14,3 +14,4 @@ pub mod SealOpen
 pub mod SealingLaws
 pub mod Forwarded
 pub mod Resealed
+pub mod PduOctets

@@ -6,7 +6,7 @@ use mathlib.Core.List.{List}
 use mathlib.Core.Path.{_≡_, refl, sym, ap, _∙_, subst}
 use Prim.Native.Nat.{ℕ, _+_, _-_, _/_, _%_, _^_, _<_, _≤_, min}
 use native.Mathlib.Omega.{arith}
-use borrow.Author.Tests.{le-leb, ltb-true, ltb-false, eqb-true}
+use borrow.Author.Tests.{ltb-true, ltb-false, eqb-true}
 use lib.Dec.{eqb, ltb}
 use lib.ListN.{length, getD, take, drop, length-take, length-drop, List·getD-eq-default}
 use lib.Seq.{getD-take}
@@ -42,11 +42,11 @@ use Rattle.network.specs.Pdu.{netMic, privacyBlock, obfuscated, pduOf, f
 use Rattle.network.specs.Resealed.{OctetKey, Resealed}
 use Rattle.network.specs.Sealing.{mostTransport, sealable, lowered}
 use Rattle.network.specs.SealOpen.{Formed}
-use Rattle.network.specs.Trial.{ctlOf, ttlOf, headerOf, nonceOf, bodyTried, tried}
+use Rattle.network.specs.Trial.{ctlOf, headerOf, nonceOf, bodyTried, tried}
 use Rattle.network.proofs.Forwarded.{forwarded}
 use Rattle.network.proofs.Front.{length-obfuscated}
 use Rattle.network.proofs.OctetsLaws.{number-lt}
-use Rattle.network.proofs.Sealed.{pdu-length, within, room}
+use Rattle.network.proofs.Sealed.{pdu-length, within, sealable-where, most-16, room}
 
 -- what was cut off behind its end and padded again is what it was
 padded-cut : (n len : ℕ) (l : List ℕ) → length l ≡ len → len ≤ n → padded n (take len (padded n l)) ≡ padded n l
@@ -129,27 +129,15 @@ module _ (key : NetworkKeys) (place iv : ℕ) (pdu : List ℕ) (nid : key .nid �
         let e : length (take 2 body) ≡ 2 = length-take 2 body ∙ (let t = l .two in omega arith) in
         number-lt 2 (take 2 body) e (octets-take 2 body body-octets)
 
-    most-16 : (ctl : Bool) → mostTransport ctl ≤ 16
-    most-16 true = omega arith
-    most-16 false = omega arith
-
     header-again : addressesAllowed (h .ctl) (h .src) (h .dst) ≡ true → Again key pdu h
-    unfolding headerOf sealable
+    unfolding headerOf
     header-again a =
         let s = seq-fits in
         let few = l .few in
         let cap = most-16 (ctlOf front) in
         let left : length (drop 2 body) ≡ length body - 2 = length-drop 2 body in
         record {
-          can =
-              simp (
-                le-leb (key .nid) 127 nid,
-                le-leb (ttlOf front) 127 (omega arith),
-                le-leb (number (take 3 (drop 1 front))) 0xFFFFFF (omega arith),
-                a,
-                le-leb 1 (length body - 2) (l .some),
-                le-leb (length body - 2) (mostTransport (ctlOf front)) few,
-              );
+          can = sealable-where key h nid (omega arith) (omega arith) a (l .some) few;
           formed = record { dst-fits = dst-fits-two; zeros-behind = padded-cut 16 (length body - 2) (drop 2 body) left (omega arith) };
           long = l .sum;
         }

@@ -7,21 +7,20 @@ use mathlib.Core.List.{List, _++_}
 use mathlib.Core.Path.{_≡_, refl, sym, ap, ap₂, _∙_}
 use Prim.Native.Nat.{ℕ, _+_, _-_, _/_, _<_, _≤_}
 use native.Mathlib.Omega.{arith}
-use borrow.Author.Tests.{le-ltb, leb-true, leb-false, ne-eqb}
-use lib.Dec.{eqb, leb, ltb}
+use borrow.Author.Tests.{le-ltb, le-leb, leb-true}
+use lib.Dec.{ltb}
 use lib.ListN.{length, getD, take, drop, length-append}
 use lib.Seq.{take-at, drop-at, length-take-le}
 use Rattle.common.specs.Choice.{if_then_else_}
 use Rattle.common.specs.Lists.{padded}
 use Rattle.common.specs.Lent.{lent}
 use Rattle.common.proofs.Lists.{length-tab}
-use Rattle.common.proofs.Tests.{by-test}
 use Rattle.aes.specs.KeyExpansion.{keySchedule}
 use Rattle.modes.specs.Ccm.{micOctets}
 use Rattle.modes.proofs.RoundTrip.{sealed-length, decrypted-sealed}
 use Rattle.keys.specs.declared.NetworkKeys.{NetworkKeys}
 use Rattle.network.specs.declared.header.Header.{Header}
-use Rattle.network.specs.Address.{kindOf, isUnicast, addressesAllowed}
+use Rattle.network.specs.Address.{addressesAllowed}
 use Rattle.network.specs.Header.{transportOf}
 use Rattle.network.specs.Nonce.{networkNonce}
 use Rattle.network.specs.Octets.{octets, number}
@@ -29,6 +28,7 @@ use Rattle.network.specs.Pdu.{netMic, firstOctet, clearFront, obfuscated
 use Rattle.network.specs.Sealing.{sealable, mostTransport}
 use Rattle.network.specs.Trial.{ctlOf, headerOf, nonceOf, bodyTried, tried}
 use Rattle.network.specs.SealOpen.{PduLength, octet0, FirstOctet, OtherParity, Formed, placed, TriedSealed}
+use Rattle.network.proofs.AddressLaws.{unicast-bounds, allowed-source}
 use Rattle.network.proofs.Front.{obfuscate-twice, length-obfuscated, length-front, ctlOf-front, ttlOf-front, seqOf-front, srcOf-front}
 use Rattle.network.proofs.IvIndexLaws.{heard-parity}
 use Rattle.network.proofs.OctetsLaws.{length-octets, number-octets}
@@ -96,21 +96,8 @@ module _ (key : NetworkKeys) (h : Header) where
 
 -- ---- what a header that may be sealed has
 -- a unicast address has 16 bits
-unicast-low : (a : ℕ) → isUnicast a ≡ true → a < 65536
-unfolding isUnicast kindOf
-unicast-low a e =
-    by-test (leb a 0x7FFF)
-    (λ t. let l = leb-true a 0x7FFF t in omega arith)
-    (λ t.
-    let l = leb-false a 0x7FFF t in
-    let n : eqb a 0 ≡ false = ne-eqb a 0 (omega arith) in
-    let f : false ≡ true = by-test (leb a 0xBFFF) (λ (v : leb a 0xBFFF ≡ true). rw (n, t, v) at e) (λ (v : leb a 0xBFFF ≡ false). rw (n, t, v) at e) in
-    let z : _≡_ {A = ℕ} 0 1 = cc in
-    omega arith)
-
 allowed-src : (ctl : Bool) (src dst : ℕ) → addressesAllowed ctl src dst ≡ true → src < 65536
-unfolding addressesAllowed
-allowed-src ctl src dst e = let p = simp and-eq-true-iff at e in unicast-low src (p .0)
+allowed-src ctl src dst a = let b = unicast-bounds src (allowed-source ctl src dst a) .1 in omega arith
 
 pub record Within (key : NetworkKeys) (h : Header) : Type 0 where
   pub nid-fits : key .nid ≤ 127
@@ -135,6 +122,21 @@ within key h e =
       some-transport = omega (arith, leb-true);
       most-transport = leb-true (h .len) (mostTransport (h .ctl)) (p .1);
     }
+
+-- and where these hold, it may be
+pub sealable-where :
+    (key : NetworkKeys) (h : Header) → key .nid ≤ 127 → h .ttl ≤ 127 → h .seq ≤ 0xFFFFFF → addressesAllowed (h .ctl) (h .src) (h .dst) ≡ true
+    → 1 ≤ h .len → h .len ≤ mostTransport (h .ctl) → sealable key h ≡ true
+unfolding sealable
+sealable-where key h nid ttl seq allowed some most =
+    rw (
+      le-leb (key .nid) 127 nid,
+      le-leb (h .ttl) 127 ttl,
+      le-leb (h .seq) 0xFFFFFF seq,
+      allowed,
+      le-leb 1 (h .len) some,
+      le-leb (h .len) (mostTransport (h .ctl)) most,
+    ) refl
 
 pub most-16 : (ctl : Bool) → mostTransport ctl ≤ 16
 most-16 true = omega arith

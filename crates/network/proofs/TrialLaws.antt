@@ -1,5 +1,5 @@
 -- One key tried on one PDU, from the code's steps: fields are read octet by octet, and each answer of `tried` follows from the tests before it.
--- Key laws: `taken`, `number-two`, `number-three`, `onto-zeros`; the answers `tried-short`, `tried-forged` and `tried-done`.
+-- Key laws: `taken`, `number-two`, `number-three`, `onto-zeros`, `take-padded`; the answers `tried-short`, `tried-forged` and `tried-done`.
 -- Assumes nothing.
 use mathlib.Core.Bool.{Bool, true, false, _&&_}
 use mathlib.Core.List.{List}
@@ -14,7 +14,7 @@ use lib.Seq.{getD-take, getD-drop, getD-append-add, length-take-le, take-all, ta
 use Rattle.common.specs.Choice.{if_then_else_}
 use Rattle.common.specs.Lists.{tab, padded, onto}
 use Rattle.common.specs.Lent.{Lent, lent}
-use Rattle.common.proofs.Lists.{tab-is}
+use Rattle.common.proofs.Lists.{tab-is, take-tab, padded-all}
 use Rattle.common.proofs.Tests.{by-test}
 use Rattle.aes.specs.KeyExpansion.{keySchedule}
 use Rattle.modes.specs.declared.ccm.MicSize.{MicSize}
@@ -61,6 +61,10 @@ onto-zeros n l h =
     by-test (ltb k (length l))
     (λ t. List·getD-append l (drop (length l) (replicate n 0)) 0 k (ltb-true k (length l) t))
     (λ t. zeros-behind n l k (ltb-false k (length l) t) m ∙ sym (List·getD-eq-default l 0 (ltb-false k (length l) t))))
+
+-- the octets are those in front
+pub take-padded : (n : ℕ) (l : List ℕ) → length l ≤ n → take (length l) (padded n l) ≡ l
+take-padded n l h = take-tab (λ i. getD l i 0) n (length l) h ∙ padded-all (length l) l refl
 
 -- a slice from k on is all that lies behind k
 pub rest-all : (k : ℕ) (l : List ℕ) → take (length l - k) (drop k l) ≡ drop k l

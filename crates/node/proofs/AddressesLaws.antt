@@ -1,12 +1,15 @@
 -- The addresses a node answers to, from the code's tests: elements stand behind the first one's address, and past 8 there are none.
 -- Assumes nothing.
+--   local-low, local-near, local-far     whether an address is local, by its place behind the first
+--   local-within, local-bounds           it is where it lies among the elements', and nowhere else
+--   for-..                               whether a PDU is for this node
 use mathlib.Core.Bool.{Bool, true, false}
-use mathlib.Core.Path.{_≡_}
+use mathlib.Core.Path.{_≡_, refl}
 use Prim.Native.Nat.{ℕ, _+_, _-_, _≤_, _<_, min}
 use native.Mathlib.Omega.{arith}
-use borrow.Author.Tests.{lt-ltb, le-ltb, le-leb, lt-leb, ltb-true, ltb-false, eq-eqb, ne-eqb}
-use lib.Dec.{ltb}
-use Rattle.common.proofs.Tests.{by-test}
+use borrow.Author.Tests.{lt-ltb, le-ltb, le-leb, lt-leb, ltb-true, ltb-false, leb-true, eq-eqb, ne-eqb}
+use lib.Dec.{leb, ltb}
+use Rattle.common.proofs.Tests.{by-test, and-first, and-second}
 use Rattle.node.specs.declared.addresses.Node.{Node}
 use Rattle.node.specs.Addresses.{isLocal, listens, forNode}
 
@@ -30,6 +33,17 @@ module _ (node : Node) (a : ℕ) where
     pub local-far : 8 ≤ a - node .first → false ≡ isLocal node a
     unfolding isLocal
     local-far p = simp (le-leb (node .first) a h, le-ltb a (node .first + min (node .elements) 8) (omega arith))
+
+  -- it is local where it lies among the elements'
+  pub local-within : node .first ≤ a → a < node .first + min (node .elements) 8 → isLocal node a ≡ true
+  unfolding isLocal
+  local-within l h = rw (le-leb (node .first) a l, lt-ltb a (node .first + min (node .elements) 8) h) refl
+
+  pub local-bounds : isLocal node a ≡ true → (node .first ≤ a) × (a < node .first + min (node .elements) 8)
+  unfolding isLocal
+  local-bounds t =
+      let end = node .first + min (node .elements) 8 in
+      (leb-true (node .first) a (and-first (leb (node .first) a) _ t), ltb-true a end (and-second (leb (node .first) a) _ t))
 
   -- ---- whether a PDU is for this node
   module _ {b : Bool} (e : b ≡ isLocal node a) where

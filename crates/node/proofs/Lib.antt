@@ -4,3 +4,4 @@ pub mod EightLaws
 pub mod EveryLaws
 pub mod ValidLaws
 pub mod SetupLaws
+pub mod Addressed

@@ -1,9 +1,9 @@
 -- `MakesWell` and `LocalIsUnicast`: what `valid` tests is what the table allows, each place of the node's arrays is what its setup's place gives, and an element's
 -- address lies between the first one's and 0x7FFF. Assumes nothing.
-use mathlib.Core.Bool.{Bool, true, false, _&&_, not, false≢true}
+use mathlib.Core.Bool.{Bool, true, _&&_, not, false≢true}
 use mathlib.Core.List.{[]}
 use mathlib.Core.Path.{_≡_}
-use Prim.Native.Nat.{ℕ, _+_, _≤_, _<_, min}
+use Prim.Native.Nat.{ℕ, _+_, _≤_, _<_}
 use native.Mathlib.Omega.{arith}
 use borrow.Author.Tests.{lt-ltb, leb-true, ltb-true, eqb-false, not-true}
 use lib.Dec.{leb, ltb, eqb}
@@ -14,9 +14,9 @@ use Rattle.keys.specs.Derivation.{k2, k4}
 use Rattle.network.proofs.AddressLaws.{unicast-range}
 use Rattle.node.specs.declared.setup.BoundKey.{BoundKey}
 use Rattle.node.specs.declared.setup.Setup.{Setup}
-use Rattle.node.specs.Addresses.{isLocal}
 use Rattle.node.specs.Setup.{every, boundWithin, keysValid, nextWithin, elementsValid, isGroup, groupsValid, indexValid, valid, givenAt, keysAt, secretAt, nextAt, groupAt, nodeOf, nextOf, making}
 use Rattle.node.specs.Made.{WellMade, NextWell, MakesWell, LocalIsUnicast}
+use Rattle.node.proofs.AddressesLaws.{local-bounds}
 use Rattle.node.proofs.EveryLaws.{every-each}
 
 -- two tests that hold together
@@ -139,9 +139,6 @@ makes-well s e =
     (λ t. absurd (false≢true (rw t at e)))
 
 pub local-is-unicast : LocalIsUnicast
-unfolding isLocal
 local-is-unicast node w a e =
-    let (l, h) = both (leb (node .first) a) _ e in
-    unicast-range a
-    (omega (arith, w .first-least, leb-true (node .first) a l))
-    (omega (arith, w .last-most, w .elements-most, ltb-true a (node .first + min (node .elements) 8) h))
+    let (l, h) = local-bounds node a e in
+    unicast-range a (omega (arith, w .first-least, l)) (omega (arith, w .last-most, w .elements-most, h))

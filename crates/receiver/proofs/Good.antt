@@ -1,22 +1,21 @@
 -- `GoodFresh`, `GoodHear` and `GoodGiveUp`: what setup makes is good; hearing leaves the receiver as it was, or with one PDU more in the cache and what the
 -- message of its form leaves; giving up zeroes a slot. Assumes nothing.
-use mathlib.Core.Bool.{true, false, _&&_, _||_}
+use mathlib.Core.Bool.{false}
 use mathlib.Core.List.{List}
 use mathlib.Core.Logic.{⊎-elim}
 use mathlib.Core.Path.{_≡_, sym, ap, _∙_, subst}
-use Prim.Native.Nat.{ℕ, _≤_, _<_}
+use Prim.Native.Nat.{ℕ, _<_}
 use native.Mathlib.Omega.{arith}
-use borrow.Author.Tests.{leb-true}
-use lib.Dec.{eqb, leb}
 use lib.ListN.{length-replicate, getD-replicate}
-use Rattle.common.proofs.Tests.{by-test, by-choice, and-first, and-second}
+use Rattle.common.proofs.Tests.{by-test, by-choice}
 use Rattle.network.specs.declared.header.Header.{Header}
 use Rattle.network.specs.declared.opening.Answer.{Answer}
 use Rattle.transport.specs.declared.form.Form.{Form}
 use Rattle.transport.specs.declared.form.Form.the-variants as form
-use Rattle.transport.specs.Form.{segmentFits, formOf}
+use Rattle.transport.specs.Form.{formOf}
 use Rattle.transport.specs.Ranges.{Kept}
 use Rattle.transport.proofs.Ranges.{keeps-to-ranges}
+use Rattle.transport.proofs.ReadsBack.{segO-fits}
 use Rattle.memory.specs.declared.replay.Entry.{Entry}
 use Rattle.memory.specs.declared.session.Session.{Session}
 use Rattle.memory.specs.Cache.{noSeen, remembered}
@@ -67,23 +66,16 @@ good-fresh s e =
     (λ t. let f : _≡_ {A = ℕ} 14 0 = ap paper (rw t at e) in absurd (omega arith))
 
 -- ---- hearing
--- SegO is at most SegN
-fits-last : (segO segN n full : ℕ) → segmentFits segO segN n full ≡ true → segO ≤ segN
-unfolding segmentFits
-fits-last segO segN n full e =
-    let f = and-second (leb 5 n) (leb segO segN && (eqb segO segN || eqb n full)) e in
-    leb-true segO segN (and-first (leb segO segN) (eqb segO segN || eqb n full) f)
-
 module _ (r : Receiver) (g : Good r) (h : Header) (c : Clear h) (msg : List ℕ) where
   good-taken-as : (f : Form) → Kept h f → Left (takenAs f r h msg)
   unfolding takenAs
   good-taken-as form.Wrong k = g
   good-taken-as (form.Access akf aid) k = good-access r g h akf aid msg
   good-taken-as (form.AccessSegment akf aid szmic seqZero segO segN) k =
-      good-segmented r g h c msg szmic segO segN (k .2 .segN-fits) (fits-last segO segN (h .len) 16 (k .2 .fits)) seqZero
+      good-segmented r g h c msg szmic segO segN (k .2 .segN-fits) (segO-fits segO segN (h .len) 16 (k .2 .fits)) seqZero
   good-taken-as (form.Control opcode) k = good-control r g h opcode msg
   good-taken-as (form.ControlSegment opcode seqZero segO segN) k =
-      good-segmented r g h c msg false segO segN (k .2 .segN-fits) (fits-last segO segN (h .len) 12 (k .2 .fits)) seqZero
+      good-segmented r g h c msg false segO segN (k .2 .segN-fits) (segO-fits segO segN (h .len) 12 (k .2 .fits)) seqZero
   good-taken-as (form.Acknowledgement obo seqZero bits) k = good-acknowledgement r g h obo seqZero bits
 
   good-taken : Left (taken r h msg)

@@ -1,15 +1,14 @@
 -- A header that was opened has 16 places of transport, since every header has, and a source that is not 0, since refusal 4 lets none pass.
 -- Assumes nothing.
-use mathlib.Core.Bool.{Bool, true, _&&_, false≢true}
+use mathlib.Core.Bool.{_&&_}
 use mathlib.Core.List.{List}
 use mathlib.Core.Path.{_≡_}
 use Prim.Native.Nat.{ℕ, _/_, _%_}
-use borrow.Author.Tests.{eq-eqb}
 use lib.Dec.{eqb, ltb}
 use lib.ListN.{length, getD, drop, length-replicate}
 use Rattle.common.specs.Search.{first}
 use Rattle.common.proofs.Lists.{length-tab}
-use Rattle.common.proofs.Tests.{by-choice, and-first}
+use Rattle.common.proofs.Tests.{by-choice}
 use Rattle.keys.specs.declared.NetworkKeys.{NetworkKeys}
 use Rattle.network.specs.declared.header.Header.{Header}
 use Rattle.network.specs.declared.iv_index.IvIndex.{IvIndex}
@@ -19,13 +18,14 @@ use Rattle.network.specs.declared.opening.Answer.the-variants.{Opened, WrongLen
 use Rattle.network.specs.declared.opening.Opening.{Opening}
 use Rattle.network.specs.declared.trial.Found.{Found}
 use Rattle.network.specs.declared.trial.Trial.{Trial}
-use Rattle.network.specs.Address.{kindOf, isUnicast, destinationKind, addressesAllowed}
+use Rattle.network.specs.Address.{addressesAllowed}
 use Rattle.network.specs.Candidates.{keyAt, candidates, opens, searched}
 use Rattle.network.specs.Header.{noHeader}
 use Rattle.network.specs.IvIndex.{ivIndexHeard}
 use Rattle.network.specs.Opening.{judged, under, opening}
 use Rattle.network.specs.Pdu.{frontOf}
 use Rattle.network.specs.Trial.{ctlOf, headerOf, bodyTried, tried}
+use Rattle.network.proofs.AddressLaws.{unicast-some, allowed-source}
 
 -- what is sure of an opened header
 pub record Clear (h : Header) : Type 0 where
@@ -71,21 +71,13 @@ searched-places keys count nid iv pdu =
     by-choice (λ (s : Found). Places (s .header)) (ltb p (length cs)) (λ t. tried-places (keyAt keys i) i iv pdu) (λ t. no-places)
 
 -- ---- refusal 4 lets no source 0 pass
-unicast-sent : (a : ℕ) → isUnicast a ≡ true → a ≡ 0 → ⊥
-unfolding isUnicast kindOf
-unicast-sent a e z = false≢true (rw (eq-eqb a 0 z) at e)
-
-allowed-sent : (ctl : Bool) (src dst : ℕ) → addressesAllowed ctl src dst ≡ true → src ≡ 0 → ⊥
-unfolding addressesAllowed
-allowed-sent ctl src dst e = unicast-sent src (and-first (isUnicast src) (destinationKind ctl (kindOf dst)) e)
-
 judged-clear : (s : Found) → Places (s .header) → ClearOf (judged s)
 unfolding judged
 judged-clear s l =
     let h = s .header in
     by-choice ClearOf (s .ok)
     (λ t. by-choice ClearOf (addressesAllowed (h .ctl) (h .src) (h .dst))
-    (λ u. record { places = l; sent = allowed-sent (h .ctl) (h .src) (h .dst) u })
+    (λ u. record { places = l; sent = unicast-some (h .src) (allowed-source (h .ctl) (h .src) (h .dst) u) })
     (λ u. tt {0}))
     (λ t. tt {0})
 

@@ -1,7 +1,11 @@
 -- Laws about one call that sends, for those who speak of many: a change to the call is paid here.
 --   Allowed       what a request has passed that is allowed
+--   Stamped       what an element stamps on a PDU
+--   Shapes        what a message is sent and kept as
 --   Transmitted   one transmission, starting a message, giving it up
 --   Calls         each call, down its tests
 pub mod Allowed
+pub mod Stamped
+pub mod Shapes
 pub mod Transmitted
 pub mod Calls

@@ -2,7 +2,7 @@
 -- code's tests. Every segment before SegO is full, so its chunk begins where the code counts. Assumes nothing.
 use mathlib.Core.Bool.{Bool, true, false, not}
 use mathlib.Core.List.{List, _++_}
-use mathlib.Core.Path.{_≡_, refl, sym, ap, _∙_}
+use mathlib.Core.Path.{_≡_, sym, ap, _∙_}
 use Prim.Native.Nat.{ℕ, _+_, _-_, _*_, _%_, min, _≤_, _<_}
 use native.Mathlib.Nat.{mul-comm}
 use native.Mathlib.Omega.{arith}
@@ -18,12 +18,13 @@ use Rattle.common.proofs.Onto.{onto-two}
 use Rattle.common.proofs.Parts.{drop-take, take-own-length}
 use Rattle.common.proofs.Tests.{and-first, and-second}
 use Rattle.network.specs.declared.header.Header.{Header}
-use Rattle.network.specs.Octets.{octets}
 use Rattle.network.proofs.TrialLaws.{onto-zeros}
 use Rattle.transport.specs.Segment.{fullOctets, segmentFront}
+use Rattle.transport.proofs.SegmentLaws.{length-front}
 use Rattle.memory.specs.declared.outgoing.Outgoing.{Outgoing}
 use Rattle.node.specs.declared.addresses.Node.{Node}
 use Rattle.node.specs.Addresses.{isLocal}
+use Rattle.node.proofs.AddressesLaws.{local-bounds}
 use Rattle.receiver.specs.declared.answer.Refusal.the-variants as refusal
 use Rattle.receiver.specs.declared.state.Receiver.{Receiver}
 use Rattle.receiver.specs.State.{withOutgoing}
@@ -90,10 +91,6 @@ chunk-taken size segO start end n l es ee =
     let m : end - start ≡ length y = rw (← c) (omega arith) in
     let short : length y ≤ n - start = simp (length-take) (omega arith) in
     rw (m, c) (sym (take-take (length y) (n - start) x short) ∙ take-own-length size (take (n - start) x))
-
-length-front : (first : ℕ) (szmic : Bool) (seqZero segO segN : ℕ) → length (segmentFront first szmic seqZero segO segN) ≡ 4
-unfolding segmentFront octets
-length-front first szmic seqZero segO segN = refl
 
 full-most : (ctl : Bool) → fullOctets ctl ≤ 12
 full-most true = omega arith
@@ -188,8 +185,7 @@ pub ruleset start-rules = (start-sent, start-no-seq, start-unsealed)
 -- ---- the element that has an address
 module _ (node : Node) (a : ℕ) (b : Bool) (e : b ≡ isLocal node a) where
   pub element-first : b ≡ true → node .first ≤ a
-  unfolding isLocal
-  element-first t = leb-true (node .first) a (and-first (leb (node .first) a) _ (sym e ∙ t))
+  element-first t = local-bounds node a (sym e ∙ t) .0
 
   pub element-here : b ≡ true → a - node .first ≡ elementOf node a
   unfolding elementOf

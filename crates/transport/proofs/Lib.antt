@@ -1,6 +1,7 @@
 -- The laws about the definitions of specs/.
 pub mod LeadsBack
 pub mod FormLaws
+pub mod SegmentLaws
 pub mod SecuringLaws
 pub mod Ranges
 pub mod ReadsBack

@@ -90,7 +90,8 @@ three : (a number : ℕ) (l : List ℕ) → number < 16777216 → number ≡ seg
 unfolding octets
 three a number l h = omega arith
 
-segO-fits : (o n len full : ℕ) → segmentFits o n len full ≡ true → o ≤ n
+-- SegO is at most SegN
+pub segO-fits : (o n len full : ℕ) → segmentFits o n len full ≡ true → o ≤ n
 unfolding segmentFits
 segO-fits o n len full e = leb-true o n (and-first (leb o n) _ (and-second (leb 5 len) _ e))
 

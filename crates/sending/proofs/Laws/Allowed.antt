@@ -1,25 +1,30 @@
 -- What a request has passed that is allowed: each test of the definitions, as a fact. Assumes nothing.
---   Asked                           the request itself
+--   Asked, ttl-low                  the request itself; its TTL has 7 bits
 --   access-allows, control-allows   the message besides
+--   application-there               an application key that may be used is there, and bound to the network key
+--   whole-short                     a message that goes whole is short
 --   segment-allowed                 a segment is allowed where its tests pass
-use mathlib.Core.Bool.{Bool, true, false}
+use mathlib.Core.Bool.{Bool, true, false, not, false≢true}
 use mathlib.Core.Path.{_≡_, refl}
 use Prim.Native.Nat.{ℕ, _+_, _≤_, _<_, min}
 use native.Mathlib.Omega.{arith}
-use borrow.Author.Tests.{ne-eqb, ltb-true, leb-true, le-leb}
-use lib.Dec.{leb, ltb}
+use borrow.Author.Tests.{eqb-true, ne-eqb, ltb-true, leb-true, le-leb}
+use lib.Dec.{eqb, leb, ltb}
 use Rattle.common.specs.Bits.{hasBit}
 use Rattle.common.proofs.Tests.{and-first, and-second}
 use Rattle.modes.specs.Ccm.{micOctets}
 use Rattle.network.specs.Address.{kindOf}
 use Rattle.node.specs.declared.addresses.Node.{Node}
 use Rattle.transport.specs.declared.securing.MessageKey.{MessageKey}
-use Rattle.transport.specs.Securing.{transMic}
+use Rattle.transport.specs.declared.securing.MessageKey.the-variants.{Application}
+use Rattle.transport.specs.Securing.{transMic, applicationKeyAt}
 use Rattle.receiver.specs.declared.state.Receiver.{Receiver}
 use Rattle.sending.specs.declared.request.Request.{Request}
-use Rattle.sending.specs.Access.{keyAllowed, sizeAllowed, accessAllowed}
+use Rattle.sending.specs.declared.request.Ttl.{Ttl}
+use Rattle.sending.specs.declared.request.Ttl.the-variants.{Unnamed, Named}
+use Rattle.sending.specs.Access.{keyAllowed, isWhole, sizeAllowed, accessAllowed}
 use Rattle.sending.specs.Control.{controlAllowed}
-use Rattle.sending.specs.Request.{ttlAllowed, sendableKind, requestAllowed}
+use Rattle.sending.specs.Request.{ttlOf, ttlAllowed, sendableKind, requestAllowed}
 use Rattle.sending.specs.Segment.{segmentAllowed}
 use Rattle.sending.specs.Transmission.{nextSeq}
 
@@ -43,6 +48,10 @@ asked node q e =
       sendable = and-first (sendableKind (kindOf (q .dst))) _ e2;
       ttl-allowed = and-second (sendableKind (kindOf (q .dst))) _ e2;
     }
+
+pub ttl-low : (t : Ttl) → ttlAllowed t ≡ true → ttlOf t ≤ 127
+ttl-low Unnamed e = omega arith
+ttl-low (Named n) e = leb-true n 127 (and-second (not (eqb n 1)) (leb n 127) e)
 
 -- ---- an access message: its key may be used, and its payload has an octet and leaves room for the TransMIC
 pub record AccessAllowed (node : Node) (q : Request) (key : MessageKey) (szmic : Bool) (len : ℕ) : Type 0 where
@@ -72,6 +81,21 @@ access-allows r q key szmic len e =
       some-payload = size-some szmic len sized;
       payload-most = size-most szmic len sized;
     }
+
+-- an application key that may be used is there, and bound to the network key named
+pub application-there :
+    (node : Node) (q : Request) (i : ℕ) → keyAllowed node q (Application i) ≡ true
+    → (i < min (node .applications) 4) × (applicationKeyAt (node .secrets) i .bound ≡ q .network)
+application-there node q i e =
+    let there = ltb i (min (node .applications) 4) in
+    let bound = applicationKeyAt (node .secrets) i .bound in
+    (ltb-true i (min (node .applications) 4) (and-first there _ e), eqb-true bound (q .network) (and-second there _ e))
+
+-- one that goes whole has the TransMIC of 4 octets, and 11 octets at most
+pub whole-short : (szmic : Bool) (len : ℕ) → isWhole szmic len ≡ true → (szmic ≡ false) × (len ≤ 11)
+unfolding isWhole
+whole-short true len e = absurd (false≢true e)
+whole-short false len e = (refl, leb-true len 11 e)
 
 -- ---- a control message: its opcode is 0x01-0x7F, and it has at most 256 parameters
 pub record ControlAllowed (node : Node) (q : Request) (opcode len : ℕ) : Type 0 where

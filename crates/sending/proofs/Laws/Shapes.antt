@@ -1,0 +1,133 @@
+-- What a message is sent and kept as. A transport PDU goes out in the header of the request, with what its element stamps on; a message in segments is kept with its octets,
+-- and each of its segments is the four octets in front and a chunk of them. Assumes nothing.
+--   headerSent                            the header of a transport PDU, as an element sends it
+--   whole-access, whole-control           a message that goes in one PDU is sent so
+--   segment-out                           and so is each segment of the message that is kept
+--   Keeps, keeps-access, keeps-control    what is kept of a message in segments
+--   envelope-is                           what the second nonce rests on
+use mathlib.Core.Bool.{Bool, true, false}
+use mathlib.Core.List.{List, _∷_, _++_}
+use mathlib.Core.Path.{_≡_, refl}
+use Prim.Native.Nat.{ℕ, _-_, _%_, _≤_}
+use lib.ListN.{length, take}
+use Rattle.common.specs.Chunks.{chunk, chunkCount}
+use Rattle.common.specs.Lists.{padded}
+use Rattle.network.specs.declared.header.Header.{Header}
+use Rattle.network.proofs.TrialLaws.{take-padded}
+use Rattle.transport.specs.declared.securing.Envelope.{Envelope}
+use Rattle.transport.specs.Securing.{secured}
+use Rattle.transport.specs.Segment.{accessOctet, controlOctet, fullOctets, segmentFront}
+use Rattle.memory.specs.declared.outgoing.Outgoing.{Outgoing}
+use Rattle.memory.specs.declared.pair.Pair.{Pair}
+use Rattle.memory.specs.declared.session.Terms.{Terms}
+use Rattle.receiver.specs.declared.state.Receiver.{Receiver}
+use Rattle.sending.specs.declared.access.KeyUsed.{KeyUsed}
+use Rattle.sending.specs.declared.request.Request.{Request}
+use Rattle.sending.specs.Access.{envelopeOf, wholePdu, wholeHeader, lastSegment, outgoingOf}
+use Rattle.sending.specs.Control as control
+use Rattle.sending.specs.Request.{ttlOf}
+use Rattle.sending.specs.Segment.{outgoingChunk, segmentPdu, segmentHeader}
+use Rattle.sending.specs.Transmission.{sendingIv, addressOf, nextSeq, stamped}
+
+-- ---- as it is sent
+module _ (r : Receiver) (element : ℕ) where
+  -- the element's next SEQ and address, and the transport PDU in an array of 16
+  abbrev pub headerSent : (key iv : ℕ) (ctl : Bool) (ttl dst : ℕ) → List ℕ → Header
+  headerSent key iv ctl ttl dst pdu =
+      record {
+        key = key;
+        iv = iv;
+        ctl = ctl;
+        ttl = ttl;
+        seq = nextSeq r element;
+        src = addressOf (r .node) element;
+        dst = dst;
+        len = length pdu;
+        transport = padded 16 pdu;
+      }
+
+  -- SEG 0, AKF, AID; then the secured message
+  pub whole-access :
+      (e : Envelope) (q : Request) (k : KeyUsed) (payload : List ℕ)
+      → stamped r element (wholeHeader e q k payload)
+      ≡ headerSent (q .network) (e .iv) false (ttlOf (q .ttl)) (q .dst) (accessOctet false (k .akf) (k .aid) ∷ secured (k .key) e payload)
+  unfolding stamped wholeHeader wholePdu
+  whole-access e q k payload = refl
+
+  -- SEG 0, opcode; then the parameters
+  pub whole-control :
+      (iv : ℕ) (q : Request) (opcode : ℕ) (parameters : List ℕ)
+      → stamped r element (control.wholeHeader iv q opcode parameters)
+      ≡ headerSent (q .network) iv true (ttlOf (q .ttl)) (q .dst) (controlOctet false opcode ∷ parameters)
+  unfolding stamped control.wholeHeader
+  whole-control iv q opcode parameters = refl
+
+  -- octet 0, SZMIC, SeqZero, SegO, SegN; then chunk SegO of what is kept
+  pub segment-out :
+      (o : Outgoing) (segO : ℕ)
+      → (let t = o .terms in
+      stamped r element (segmentHeader o segO)
+      ≡ headerSent (t .key) (o .auth .iv) (t .ctl) (o .ttl) (t .dst)
+      (segmentFront (t .first) (t .szmic) (o .auth .seq % 8192) segO (t .segn) ++ chunk (fullOctets (t .ctl)) (take (o .len) (o .bytes)) segO))
+  unfolding stamped segmentHeader segmentPdu outgoingChunk
+  segment-out o segO = refl
+
+-- ---- as it is kept
+-- whose it is, its SeqAuth, what its segments have in common, its TTL, its octets; nothing of it is acknowledged yet
+pub record Keeps (o : Outgoing) (src : ℕ) (auth : Pair) (terms : Terms) (ttl : ℕ) (octets : List ℕ) : Type 0 where
+  pub src-is : o .src ≡ src
+  pub auth-is : o .auth ≡ auth
+  pub terms-is : o .terms ≡ terms
+  pub ttl-is : o .ttl ≡ ttl
+  pub unheard : o .heard ≡ 0
+  pub octets-are : length octets ≤ 384 → take (o .len) (o .bytes) ≡ octets
+
+-- SegN is one less than the chunks of 12
+pub keeps-access :
+    (e : Envelope) (q : Request) (k : KeyUsed) (payload : List ℕ)
+    → (let m = secured (k .key) e payload in
+    Keeps (outgoingOf e q k payload) (e .src) (record { iv = e .iv; seq = e .seq })
+    (record {
+      ctl = false;
+      first = accessOctet true (k .akf) (k .aid);
+      szmic = e .szmic;
+      segn = chunkCount 12 (length m) - 1;
+      dst = q .dst;
+      key = q .network;
+    }) (ttlOf (q .ttl)) m)
+unfolding outgoingOf lastSegment
+keeps-access e q k payload =
+    record { src-is = refl; auth-is = refl; terms-is = refl; ttl-is = refl; unheard = refl; octets-are = take-padded 384 (secured (k .key) e payload) }
+
+-- or of 8
+pub keeps-control :
+    (r : Receiver) (q : Request) (opcode : ℕ) (parameters : List ℕ)
+    → Keeps (control.outgoingOf r q opcode parameters) (addressOf (r .node) (q .element)) (record { iv = sendingIv (r .node); seq = nextSeq r (q .element) })
+    (record {
+      ctl = true;
+      first = controlOctet true opcode;
+      szmic = false;
+      segn = chunkCount 8 (length parameters) - 1;
+      dst = q .dst;
+      key = q .network;
+    }) (ttlOf (q .ttl)) parameters
+unfolding control.outgoingOf lastSegment
+keeps-control r q opcode parameters =
+    record { src-is = refl; auth-is = refl; terms-is = refl; ttl-is = refl; unheard = refl; octets-are = take-padded 384 parameters }
+
+-- ---- the second nonce: what is stamped on the first PDU
+pub envelope-is :
+    (r : Receiver) (q : Request) (k : KeyUsed) (szmic : Bool)
+    → envelopeOf r q k szmic
+    ≡ record {
+      network = q .network;
+      akf = k .akf;
+      aid = k .aid;
+      szmic = szmic;
+      iv = sendingIv (r .node);
+      seq = nextSeq r (q .element);
+      src = addressOf (r .node) (q .element);
+      dst = q .dst;
+    }
+unfolding envelopeOf
+envelope-is r q k szmic = refl
