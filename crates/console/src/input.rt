@@ -3,21 +3,28 @@ use super::step::Console;
 use commands::desk::Desk;
 use commands::line::Line;
 use receiver::state::Receiver;
+ghost use mathlib.Core.Path.{_≡_};
 ghost use Prim.Native.Nat.{_<_};
-ghost use lib.ListN.{length};
+ghost use lib.ListN.{length, take, drop};
+ghost use Rattle.common.specs.Lent.{lent};
+ghost use Rattle.console.specs.Input.{readerOf, readsAll, Gathers, freed};
 
 // The answer to one line is shorter than this: where less room is left, the answers so far are written.
 const ROOM: usize = 8192;
 
-// What a block leaves. `gathered` is how many octets of a line have come; of a line that is too long 4,096 are kept.
+// What a block leaves. `gathered` is how many octets of a line have come; of a line that is too long 4,096 are kept. `written` is how far the
+// answers went that were written last.
 pub(crate) struct Left {
     pub desk: Desk,
     pub receiver: Receiver,
     pub gathered: usize,
+    pub written: usize,
 }
 
 // Writes the answers so far where little room is left, and says how far the answers in the buffer go then.
-fn flushed(out: &[u8], at: usize) -> usize {
+fn flushed(out: &[u8], at: usize) -> usize
+    ensures { λ r. ⌜ r ≡ freed (length (now (out .entry))) at ⌝ }
+{
     if out.len() < ROOM || out.len() - ROOM < at {
         io::write_all(1, text::first(out, at));
         return 0;
@@ -36,6 +43,7 @@ struct Piece {
 fn gather(block: &[u8], at: usize, line: &mut [u8], gathered: usize) -> Piece
     requires { ⌜ at < length (now block) ⌝ }
     ensures { λ p. ⌜ at < p .at ⌝ }
+    ensures { λ p. ⌜ Gathers (length (now (line .entry))) (take gathered (now (line .entry))) (drop at (now (block .entry))) (p .whole) (take (p .gathered) (now (line .exit))) (drop (p .at) (now (block .entry))) ⌝ }
 {
     let end = text::until(block, at, b'\n');
     let more = text::put(text::first(&block[at..], end - at), line, gathered);
@@ -55,7 +63,9 @@ fn gather(block: &[u8], at: usize, line: &mut [u8], gathered: usize) -> Piece
 
 // Answers the lines that end in a block, and gathers what is left of it. `line` holds what was gathered before; `octets` is room for those that a
 // line says, `out` for answers. A PDU is heard here and not in `step`, so that the receiver is not copied on its way there and back.
-fn take_block(l: Left, block: &[u8], line: &mut [u8], octets: &mut [u8], out: &mut [u8]) -> Left {
+fn take_block(l: Left, block: &[u8], line: &mut [u8], octets: &mut [u8], out: &mut [u8]) -> Left
+    ensures { λ m. ⌜ readerOf m (now (line .exit)) (now (octets .exit)) (lent (m .written) (now (out .exit))) ≡ readsAll (length (now (line .entry))) (readerOf l (now (line .entry)) (now (octets .entry)) (lent 0 (now (out .entry)))) (now (block .entry)) ⌝ }
+{
     let mut desk = l.desk;
     let mut receiver = l.receiver;
     let mut gathered = l.gathered;
@@ -86,6 +96,7 @@ fn take_block(l: Left, block: &[u8], line: &mut [u8], octets: &mut [u8], out: &m
         desk,
         receiver,
         gathered,
+        written,
     }
 }
 
@@ -105,6 +116,7 @@ pub(crate) fn take_all(block: &mut [u8], line: &mut [u8], octets: &mut [u8], out
         desk,
         receiver,
         gathered: 0,
+        written: 0,
     };
     let mut turns = u64::MAX;
     let mut n = read_block(block);

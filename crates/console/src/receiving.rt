@@ -7,15 +7,15 @@ use commands::line::Sending;
 use receiver::give_up::GivenUp;
 use receiver::state::Receiver;
 use sending::answer::Spoken;
+ghost use mathlib.Core.Path.{_≡_};
+ghost use Rattle.common.specs.Lent.{lent};
+ghost use Rattle.console.specs.Answered.{put, answerPut};
+ghost use Rattle.console.specs.Receiving.{hearsInto, hears, sent, speaksInto, speaks, givenUp, givesUp, shows};
 
 // Hears a PDU. Of the buffers as much is lent as `room` said.
-pub(crate) fn hear(
-    r: Receiver,
-    room: Room,
-    pdu: &[u8],
-    out: &mut [u8],
-    at: &mut usize,
-) -> Receiver {
+pub(crate) fn hear(r: Receiver, room: Room, pdu: &[u8], out: &mut [u8], at: &mut usize) -> Receiver
+    ensures { λ q. ⌜ put q (now (at .exit)) (now (out .exit)) ≡ answerPut (hears r room (now (pdu .entry))) (now (out .entry)) (now (at .entry)) ⌝ }
+{
     let mut forward = super::lent::longest();
     let mut message = super::lent::longest();
     let n = text::within(room.forward, &forward);
@@ -30,7 +30,9 @@ fn hear_into(
     message: &mut [u8],
     out: &mut [u8],
     at: &mut usize,
-) -> Receiver {
+) -> Receiver
+    ensures { λ q. ⌜ put q (now (at .exit)) (now (out .exit)) ≡ answerPut (hearsInto r (now (pdu .entry)) (now (forward .entry)) (now (message .entry))) (now (out .entry)) (now (at .entry)) ⌝ }
+{
     let h = receiver::hear::hear(r, pdu, forward, message);
     let answer = h.answer;
     let trials = Trials {
@@ -50,7 +52,9 @@ pub(crate) fn speak(
     octets: &[u8],
     out: &mut [u8],
     at: &mut usize,
-) -> Receiver {
+) -> Receiver
+    ensures { λ q. ⌜ put q (now (at .exit)) (now (out .exit)) ≡ answerPut (speaks r room s (now (octets .entry))) (now (out .entry)) (now (at .entry)) ⌝ }
+{
     let mut pdu = super::lent::longest();
     let n = text::within(room.forward, &pdu);
     speak_into(r, s, octets, &mut pdu[..n], out, at)
@@ -63,14 +67,18 @@ fn speak_into(
     pdu: &mut [u8],
     out: &mut [u8],
     at: &mut usize,
-) -> Receiver {
+) -> Receiver
+    ensures { λ q. ⌜ put q (now (at .exit)) (now (out .exit)) ≡ answerPut (speaksInto r s (now (octets .entry)) (now (pdu .entry))) (now (out .entry)) (now (at .entry)) ⌝ }
+{
     let spoken = send(r, s, octets, pdu);
     let answer = spoken.answer;
     *at = answer::put_spoken(answer, pdu, out, *at);
     spoken.receiver
 }
 
-fn send(r: Receiver, s: Sending, octets: &[u8], pdu: &mut [u8]) -> Spoken {
+fn send(r: Receiver, s: Sending, octets: &[u8], pdu: &mut [u8]) -> Spoken
+    ensures { λ t. ⌜ lent t (now (pdu .exit)) ≡ sent r s (now (octets .entry)) (now (pdu .entry)) ⌝ }
+{
     match s {
         Sending::Access {
             request,
@@ -91,14 +99,18 @@ fn send(r: Receiver, s: Sending, octets: &[u8], pdu: &mut [u8]) -> Spoken {
 }
 
 // Gives up.
-pub(crate) fn quit(r: Receiver, what: GivingUp, out: &mut [u8], at: &mut usize) -> Receiver {
+pub(crate) fn quit(r: Receiver, what: GivingUp, out: &mut [u8], at: &mut usize) -> Receiver
+    ensures { λ q. ⌜ put q (now (at .exit)) (now (out .exit)) ≡ answerPut (givesUp r what) (now (out .entry)) (now (at .entry)) ⌝ }
+{
     let g = give_up(r, what);
     let answer = g.answer;
     *at = answer::put_given_up(answer, out, *at);
     g.receiver
 }
 
-fn give_up(r: Receiver, what: GivingUp) -> GivenUp {
+fn give_up(r: Receiver, what: GivingUp) -> GivenUp
+    ensures { λ g. ⌜ g ≡ givenUp r what ⌝ }
+{
     match what {
         GivingUp::Message => sending::stop::stop(r),
         GivingUp::Session(src) => receiver::give_up::session(r, src),
@@ -106,7 +118,9 @@ fn give_up(r: Receiver, what: GivingUp) -> GivenUp {
 }
 
 // Shows what the receiver holds.
-pub(crate) fn show(r: Receiver, out: &mut [u8], at: &mut usize) -> Receiver {
+pub(crate) fn show(r: Receiver, out: &mut [u8], at: &mut usize) -> Receiver
+    ensures { λ q. ⌜ put q (now (at .exit)) (now (out .exit)) ≡ answerPut (shows r) (now (out .entry)) (now (at .entry)) ⌝ }
+{
     *at = answers::looking::put_receiver(r, out, *at);
     r
 }

@@ -4,7 +4,11 @@ use answers::answer;
 use commands::desk;
 use commands::desk::Desk;
 use commands::line::Line;
+use receiver::fresh::Answer as SettingUp;
 use receiver::state::Receiver;
+ghost use mathlib.Core.Path.{_≡_};
+ghost use Rattle.console.specs.Answered.{put, answerPut};
+ghost use Rattle.console.specs.Step.{starting, notes, setsUp, stepping};
 
 // What the console carries from line to line.
 pub(crate) struct Console {
@@ -13,7 +17,9 @@ pub(crate) struct Console {
 }
 
 // The console at the start; beside a refused setup stands a receiver of zeros.
-pub(crate) fn start() -> Console {
+pub(crate) fn start() -> Console
+    ensures { λ c. ⌜ c ≡ starting ⌝ }
+{
     let none = receiver::fresh::set_up(commands::setting::nothing());
     let receiver = none.receiver;
     Console {
@@ -22,7 +28,7 @@ pub(crate) fn start() -> Console {
     }
 }
 
-// Answers a line that says something else than `hear`; octets are those that it says.
+// Answers a line; octets are those that it says.
 pub(crate) fn step(
     c: Console,
     said: Line,
@@ -30,10 +36,16 @@ pub(crate) fn step(
     octets: &[u8],
     out: &mut [u8],
     at: &mut usize,
-) -> Console {
+) -> Console
+    ensures { λ d. ⌜ put d (now (at .exit)) (now (out .exit)) ≡ answerPut (stepping c said (now (line .entry)) (now (octets .entry))) (now (out .entry)) (now (at .entry)) ⌝ }
+{
     let desk = c.desk;
     let r = c.receiver;
     match said {
+        Line::Hear(len) => Console {
+            desk,
+            receiver: receiving::hear(r, desk.room, text::first(octets, len), out, at),
+        },
         Line::Send(sending) => Console {
             desk,
             receiver: receiving::speak(r, desk.room, sending, octets, out, at),
@@ -55,7 +67,9 @@ pub(crate) fn step(
 }
 
 // A line that needs no receiver.
-fn note(d: Desk, said: Line, line: &[u8], out: &mut [u8], at: &mut usize) -> Desk {
+fn note(d: Desk, said: Line, line: &[u8], out: &mut [u8], at: &mut usize) -> Desk
+    ensures { λ e. ⌜ put e (now (at .exit)) (now (out .exit)) ≡ answerPut (notes d said (now (line .entry))) (now (out .entry)) (now (at .entry)) ⌝ }
+{
     let noted = desk::note(d, said, line);
     let reply = noted.reply;
     *at = answer::put_noted(reply, out, *at);
@@ -63,22 +77,28 @@ fn note(d: Desk, said: Line, line: &[u8], out: &mut [u8], at: &mut usize) -> Des
 }
 
 // `setup`: makes the receiver of what was given; a refused one leaves the receiver that was there.
-fn set_up(c: Console, out: &mut [u8], at: &mut usize) -> Console {
+fn set_up(c: Console, out: &mut [u8], at: &mut usize) -> Console
+    ensures { λ d. ⌜ put d (now (at .exit)) (now (out .exit)) ≡ answerPut (setsUp c) (now (out .entry)) (now (at .entry)) ⌝ }
+{
     let before = c.desk;
     let given = before.given;
     let made = receiver::fresh::set_up(given);
     let answer = made.answer;
     *at = answer::put_set_up(answer, out, *at);
-    if receiver::fresh::number(answer) == 0 {
-        let receiver = made.receiver;
-        return Console {
-            desk: desk::after_setup(before, true),
-            receiver,
-        };
-    }
-    let receiver = c.receiver;
-    Console {
-        desk: desk::after_setup(before, false),
-        receiver,
+    match answer {
+        SettingUp::Ready => {
+            let receiver = made.receiver;
+            Console {
+                desk: desk::after_setup(before, true),
+                receiver,
+            }
+        }
+        SettingUp::Refused(_) => {
+            let receiver = c.receiver;
+            Console {
+                desk: desk::after_setup(before, false),
+                receiver,
+            }
+        }
     }
 }

@@ -65,7 +65,7 @@ put-length s out at r o e =
     ap (λ (p : Lent ℕ). length (p .buffer)) e ∙ simp (length-append, length-drop) (omega arith)
 
 -- a front cut twice is cut once
-take-front : (n : ℕ) (x b : List ℕ) → take n (take n x ++ b) ≡ take n (x ++ b)
+pub take-front : (n : ℕ) (x b : List ℕ) → take n (take n x ++ b) ≡ take n (x ++ b)
 take-front n x b =
     by-test (ltb n (length x))
     (λ t.

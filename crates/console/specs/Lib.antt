@@ -1,0 +1,6 @@
+-- What the console does with a line.
+pub mod Answered
+pub mod Receiving
+pub mod Step
+pub mod Input
+pub mod Fits
