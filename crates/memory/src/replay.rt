@@ -1,7 +1,7 @@
 // The replay list: of each source the newest pair accepted, and its last segmented message handed up.
 use super::pair::Pair;
 ghost use mathlib.Core.Path.{_≡_};
-ghost use Rattle.memory.specs.Replay.{noEntry, noEntries, entryPlace, lookUp, stale, hasRoom, inserted, raised, isLast, accepted, handedUp};
+ghost use Rattle.memory.specs.Replay.{noEntry, entryPlace, lookUp, stale, hasRoom, inserted, raised, isLast, accepted, handedUp};
 
 // The last segmented message of a source that was handed up; DST 0 marks that there is none.
 pub struct Last {

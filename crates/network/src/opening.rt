@@ -3,7 +3,7 @@ use super::header::Header;
 use super::iv_index::IvIndex;
 use keys::NetworkKeys;
 ghost use mathlib.Core.Path.{_≡_};
-ghost use Rattle.network.specs.Opening.{paper, refused, judged, under, opening};
+ghost use Rattle.network.specs.Opening.{paper, refused, judged, opening};
 
 pub enum Answer {
     // The PDU is opened, and its header stands beside.

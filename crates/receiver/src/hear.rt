@@ -6,7 +6,6 @@ use super::answer::Taken;
 use super::state::Receiver;
 use network::header::Header;
 use network::opening::Answer as Network;
-use network::opening::Opening;
 use network::sealing::Answer as Sealing;
 use node::addresses::Node;
 use transport::form::Form;

@@ -16,7 +16,7 @@ use transport::securing::Opened;
 use transport::seq_auth::SeqAuth;
 ghost use mathlib.Core.Path.{_≡_};
 ghost use Prim.Native.Nat.{_≤_, _<_};
-ghost use lib.ListN.{length, take};
+ghost use lib.ListN.{length};
 ghost use Rattle.common.specs.Lent.{lent};
 ghost use Rattle.common.specs.Lists.{onto};
 ghost use Rattle.transport.specs.Securing.{unsecuring};

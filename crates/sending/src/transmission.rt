@@ -5,9 +5,8 @@ use node::addresses::Node;
 use receiver::state::Receiver;
 ghost use mathlib.Core.Path.{_≡_};
 ghost use Prim.Native.Nat.{_+_, _<_, _≤_};
-ghost use lib.ListN.{length};
 ghost use Rattle.common.specs.Lent.{lent};
-ghost use Rattle.sending.specs.Transmission.{sendingIv, addressOf, nextSeq, withNext, stamped, noTransmission, transmitted};
+ghost use Rattle.sending.specs.Transmission.{sendingIv, addressOf, nextSeq, withNext, stamped, transmitted};
 
 pub enum Transmission {
     // The PDU stands in the first octets of the buffer, as many as named.

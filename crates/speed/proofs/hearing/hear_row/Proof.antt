@@ -6,7 +6,7 @@ use native.Mathlib.Omega.{arith}
 use borrow.Author.Needs.{needs}
 use lib.ListN.{length}
 use Rattle.common.specs.Lent.{lent}
-use Rattle.speed.specs.Hearing.{row, heardRow, countedRow}
+use Rattle.speed.specs.Hearing.{row, heardRow}
 use Rattle.speed.proofs.HearingLaws.{pdu-part, row-more}
 use Rattle.speed.proofs.hearing.hear_row.Statement.{statement}
 use Rattle.speed.proofs.hearing.hear_row.Tie as tie
