@@ -1,48 +1,61 @@
--- No answer is cut: each kind of line has an answer that fits, and room is made before it is put.
+-- Each line has an answer that fits, and no answer is cut: room is made before it is put.
 -- Assumes nothing.
-use mathlib.Core.List.{List}
-use mathlib.Core.Path.{ap}
-use Prim.Native.Nat.{ℕ}
-use native.Mathlib.Omega.{arith}
-use lib.ListN.{length, take, length-take}
+use mathlib.Core.List.{List, [], _∷_}
+use mathlib.Core.Path.{_≡_, ap, sym}
+use Prim.Native.Nat.{ℕ, _≤_}
+use denote.Enum.Declared.{tagOf}
+use types.Run.{OneOf}
+use lib.ListN.{length, take}
 use Rattle.common.specs.Lent.{lent}
 use Rattle.common.specs.Lists.{onto}
-use Rattle.receiver.specs.Hearing.{hearing}
+use Rattle.commands.specs.declared.line.GivingUp.{GivingUp}
 use Rattle.commands.specs.declared.line.Line.{Line}
 use Rattle.commands.specs.declared.line.Line.the-variants as line
-use Rattle.commands.specs.Line.{lineOf}
+use Rattle.commands.specs.declared.line.Sending.{Sending}
+use Rattle.commands.proofs.line.Line.{the-type}
 use Rattle.text.specs.Written.{putting}
 use Rattle.answers.specs.Fits.{Fits}
-use Rattle.answers.proofs.Fits.{fits-whole, heard-fits, spoken-fits, given-up-fits, set-up-fits, noted-fits, receiver-fits}
+use Rattle.answers.proofs.Fits.{fits-whole, given-up-fits, set-up-fits, noted-fits}
 use Rattle.console.specs.declared.step.Console.{Console}
-use Rattle.console.specs.Receiving.{lentOf, hearsInto, hears, speaksInto, speaks, givesUp, shows}
-use Rattle.console.specs.Step.{notes, setsUp, stepping, answering}
+use Rattle.console.specs.Receiving.{hears, speaks, givesUp, shows}
+use Rattle.console.specs.Step.{notes, setsUp, stepping}
 use Rattle.console.specs.Input.{freed, behindAnswers}
-use Rattle.console.specs.Fits.{Places, Kept, AnswerFits, PutWhole}
 use Rattle.console.proofs.InputLaws.{keeps-free}
+use Rattle.console.proofs.StepLaws.{noted-is}
 
--- by what the line says
-step-fits : (c : Console) (said : Line) (text octets : List ℕ) → Places (c .receiver) → Kept c said octets → Fits (stepping c said text octets .text)
-unfolding stepping hears hearsInto speaks speaksInto givesUp shows setsUp notes
-step-fits c (line.Hear len) text octets p k =
-    let o = hearing (c .receiver) (take len octets) (lentOf (c .desk .room .forward)) (lentOf (c .desk .room .message)) in
-    heard-fits _ _ (o .message) (take (o .heard .forwarded) (o .forward)) (k .message-octets) (simp length-take (omega (arith, k .forward-octets)))
-step-fits c (line.Send sending) text octets p k = spoken-fits _ _ k
-step-fits c (line.GiveUp what) text octets p k = given-up-fits _
-step-fits c line.Show text octets p k = receiver-fits (c .receiver) (p .cache-places) (p .entry-places) (p .session-places)
-step-fits c line.SetUp text octets p k = set-up-fits _
-step-fits c (line.Give item) text octets p k = noted-fits _
-step-fits c (line.Room room) text octets p k = noted-fits _
-step-fits c line.Skipped text octets p k = noted-fits _
-step-fits c line.Unread text octets p k = noted-fits _
+-- ---- by what the line says
+module _ (c : Console) (said : Line) (text octets : List ℕ) where
+  pub fits-hear :
+      (len : ℕ) (pdu : List ℕ) → said ≡ line.Hear len → pdu ≡ take len octets → Fits (hears (c .receiver) (c .desk .room) pdu .text)
+      → Fits (stepping c said text octets .text)
+  unfolding stepping
+  fits-hear len pdu k cut f = rw (k, ← cut) f
 
-pub answer-fits : AnswerFits
-unfolding answering
-answer-fits c text octets p k =
-    step-fits c (lineOf text (c .desk .ready) octets .answer) text (lineOf text (c .desk .ready) octets .buffer) p k
+  pub fits-send :
+      (s : Sending) → said ≡ line.Send s → Fits (speaks (c .receiver) (c .desk .room) s octets .text) → Fits (stepping c said text octets .text)
+  unfolding stepping
+  fits-send s k f = rw k f
 
-pub put-whole : PutWhole
+  pub fits-show : said ≡ line.Show → Fits (shows (c .receiver) .text) → Fits (stepping c said text octets .text)
+  unfolding stepping
+  fits-show k f = rw k f
+
+  pub fits-give-up : (what : GivingUp) → said ≡ line.GiveUp what → Fits (stepping c said text octets .text)
+  unfolding stepping givesUp
+  fits-give-up what k = rw k (given-up-fits _)
+
+  pub fits-set-up : said ≡ line.SetUp → Fits (stepping c said text octets .text)
+  unfolding stepping setsUp
+  fits-set-up k = rw k (set-up-fits _)
+
+  pub fits-note : OneOf (0 ∷ 1 ∷ 2 ∷ 4 ∷ []) (tagOf the-type said) → Fits (stepping c said text octets .text)
+  unfolding notes
+  fits-note k = rw (noted-is c text octets said k) (noted-fits _)
+
+pub ruleset fits-rules = (fits-hear, fits-send, fits-show, fits-give-up, fits-set-up, fits-note)
+
+-- ---- what fits stands whole behind the others
+pub put-whole : (text out : List ℕ) (end : ℕ) → Fits text → 8192 ≤ length out → behindAnswers text (lent end out) ≡ putting text out (freed (length out) end)
 unfolding behindAnswers putting
-put-whole text a f h =
-    ap (λ (l : List ℕ). lent (length l) (onto l (a .buffer)))
-    (fits-whole text (a .buffer) (freed (length (a .buffer)) (a .answer)) f (keeps-free (length (a .buffer)) (a .answer) h))
+put-whole text out end f h =
+    ap (λ (l : List ℕ). lent (length l) (onto l out)) (sym (fits-whole text out (freed (length out) end) f (keeps-free (length out) end h)))

@@ -7,7 +7,7 @@ use Prim.Native.Nat.{ℕ, min, _≤_}
 use native.Mathlib.Omega.{arith}
 use borrow.Author.Tests.{ltb-true, ltb-false}
 use lib.Dec.{ltb}
-use lib.ListN.{length, replicate, take}
+use lib.ListN.{length, replicate, take, length-take}
 use lib.Seq.{take-all}
 use Rattle.common.specs.Lent.{lent}
 use Rattle.common.proofs.Tests.{by-test}
@@ -29,7 +29,9 @@ use Rattle.commands.specs.declared.line.Sending.the-variants.{Access, Control, 
 use Rattle.text.specs.Written.{putting}
 use Rattle.text.proofs.WrittenLaws.{put-then}
 use Rattle.answers.specs.Answer.{heardText, forwardText, spokenText, givenUpText}
+use Rattle.answers.specs.Fits.{Fits}
 use Rattle.answers.specs.Looking.{receiverText}
+use Rattle.answers.proofs.Fits.{heard-fits, spoken-fits, receiver-fits}
 use Rattle.console.specs.Answered.{put, answerPut}
 use Rattle.console.specs.Receiving.{lentOf, hearsInto, hears, sent, speaksInto, speaks, givenUp, givesUp, shows}
 use Rattle.console.proofs.AnsweredLaws.{put-answer}
@@ -115,5 +117,38 @@ module _ (out : List ℕ) (at n : ℕ) (o : List ℕ) where
       → put (g .receiver) n o ≡ answerPut (givesUp r what) out at
   unfolding givesUp
   quits r what g h e = rw (← h) (put-answer out at n o (g .receiver) _ e)
+
+-- ---- each answer fits: no buffer that was lent has grown
+module _ (r : Receiver) (s : Sending) (octets : List ℕ) where
+  pub spoken-fits-into :
+      (pdu : List ℕ) (t : Spoken) (p : List ℕ) → lent t p ≡ sent r s octets pdu → length p ≤ 384 → Fits (speaksInto r s octets pdu .text)
+  unfolding speaksInto
+  spoken-fits-into pdu t p h l = rw (← h) (spoken-fits (t .answer) p l)
+
+  pub spoken-fits-lent :
+      (room : Room) (z : List ℕ) (k : ℕ) → z ≡ replicate 384 0 → k ≡ min (room .forward) (length z) → Fits (speaksInto r s octets (take k z) .text)
+      → Fits (speaks r room s octets .text)
+  unfolding speaks
+  spoken-fits-lent room z k h l f = rw (← lent-is (room .forward) k z h l) f
+
+module _ (r : Receiver) (pdu : List ℕ) where
+  pub heard-fits-into :
+      (forward message : List ℕ) (t : Heard) (f m : List ℕ) → outcome t f m ≡ hearing r pdu forward message → length f ≤ 384 → length m ≤ 384
+      → Fits (hearsInto r pdu forward message .text)
+  unfolding hearsInto
+  heard-fits-into forward message t f m h lf lm =
+      let part : length (take (t .forwarded) f) ≤ 384 = simp length-take (omega (arith, lf)) in
+      rw (← h) (heard-fits (t .answer) (record { network = t .network; application = t .application }) m (take (t .forwarded) f) lm part)
+
+  pub heard-fits-lent :
+      (room : Room) (y z : List ℕ) (j k : ℕ) → y ≡ replicate 384 0 → j ≡ min (room .forward) (length y) → z ≡ replicate 384 0
+      → k ≡ min (room .message) (length z) → Fits (hearsInto r pdu (take j y) (take k z) .text) → Fits (hears r room pdu .text)
+  unfolding hears
+  heard-fits-lent room y z j k h1 l1 h2 l2 f = rw (← lent-is (room .forward) j y h1 l1, ← lent-is (room .message) k z h2 l2) f
+
+-- a receiver's lists are arrays
+pub shown-fits : (r : Receiver) → length (r .cache .entries) ≡ 16 → length (r .replay) ≡ 32 → length (r .sessions) ≡ 8 → Fits (shows r .text)
+unfolding shows
+shown-fits r h1 h2 h3 = receiver-fits r (omega (arith, h1)) (omega (arith, h2)) (omega (arith, h3))
 
 pub ruleset sent-rules = (sent-access, sent-control, sent-segment, sent-acknowledgement)

@@ -29,6 +29,22 @@ use Rattle.console.specs.Receiving.{hears, speaks, givesUp, shows}
 use Rattle.console.specs.Step.{console, notes, besideReceiver, setUpAs, setsUp, stepping}
 use Rattle.console.proofs.AnsweredLaws.{put-answer, put-part}
 
+module _ (c : Console) (text octets : List ℕ) where
+  -- every other line is noted
+  pub noted-is :
+      (l : Line) → OneOf (0 ∷ 1 ∷ 2 ∷ 4 ∷ []) (tagOf the-type l)
+      → stepping c l text octets ≡ besideReceiver (c .receiver) (notes (c .desk) l text)
+  unfolding stepping notes noting
+  noted-is line.Skipped k = refl
+  noted-is line.Unread k = refl
+  noted-is (line.Give item) k = refl
+  noted-is line.SetUp k = absurd (miss (0 ∷ 1 ∷ 2 ∷ 4 ∷ []) 3 tt k)
+  noted-is (line.Room room) k = refl
+  noted-is (line.Hear len) k = absurd (miss (0 ∷ 1 ∷ 2 ∷ 4 ∷ []) 5 tt k)
+  noted-is (line.Send s) k = absurd (miss (0 ∷ 1 ∷ 2 ∷ 4 ∷ []) 6 tt k)
+  noted-is (line.GiveUp what) k = absurd (miss (0 ∷ 1 ∷ 2 ∷ 4 ∷ []) 7 tt k)
+  noted-is line.Show k = absurd (miss (0 ∷ 1 ∷ 2 ∷ 4 ∷ []) 8 tt k)
+
 module _ (out : List ℕ) (at n : ℕ) (o : List ℕ) where
   -- ---- a line that needs no receiver
   pub noted :
@@ -83,26 +99,11 @@ module _ (out : List ℕ) (at n : ℕ) (o : List ℕ) where
     unfolding stepping
     step-set-up d k e = rw k e
 
-    -- every other line is noted
-    noted-is :
-        (l : Line) → OneOf (0 ∷ 1 ∷ 2 ∷ 4 ∷ []) (tagOf the-type l)
-        → stepping c l text octets ≡ besideReceiver (c .receiver) (notes (c .desk) l text)
-    unfolding stepping notes noting
-    noted-is line.Skipped k = refl
-    noted-is line.Unread k = refl
-    noted-is (line.Give item) k = refl
-    noted-is line.SetUp k = absurd (miss (0 ∷ 1 ∷ 2 ∷ 4 ∷ []) 3 tt k)
-    noted-is (line.Room room) k = refl
-    noted-is (line.Hear len) k = absurd (miss (0 ∷ 1 ∷ 2 ∷ 4 ∷ []) 5 tt k)
-    noted-is (line.Send s) k = absurd (miss (0 ∷ 1 ∷ 2 ∷ 4 ∷ []) 6 tt k)
-    noted-is (line.GiveUp what) k = absurd (miss (0 ∷ 1 ∷ 2 ∷ 4 ∷ []) 7 tt k)
-    noted-is line.Show k = absurd (miss (0 ∷ 1 ∷ 2 ∷ 4 ∷ []) 8 tt k)
-
     pub step-note :
         (d : Desk) → OneOf (0 ∷ 1 ∷ 2 ∷ 4 ∷ []) (tagOf the-type said) → put d n o ≡ answerPut (notes (c .desk) said text) out at
         → put (console d (c .receiver)) n o ≡ answerPut (stepping c said text octets) out at
     step-note d k e =
-        rw (noted-is said k) (put-part out at n o (λ (x : Desk). console x (c .receiver)) d _ e)
+        rw (noted-is c text octets said k) (put-part out at n o (λ (x : Desk). console x (c .receiver)) d _ e)
 
 pub ruleset set-up-rules = (set-up-ready, set-up-refused)
 

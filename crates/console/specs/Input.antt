@@ -2,7 +2,7 @@
 --   Reader                 the console between two octets
 --   freed n at             where the answers in a buffer of n octets end, once those so far are written where little room is left
 --   KeepsFree              then 8,192 octets are free
---   behindAnswers text a   an answer put behind the others
+--   behindAnswers text a   an answer behind the others: it is never cut
 --   ended s                the line is whole, and is answered
 --   reads n s octet        one octet more, of a line of which at most n octets are kept
 --   readsAll n s octets    octets, one after the other
@@ -14,9 +14,9 @@ use Prim.Native.Nat.{ℕ, _+_, _≤_}
 use lib.Dec.{eqb, ltb}
 use lib.ListN.{length, take}
 use Rattle.common.specs.Choice.{if_then_else_}
-use Rattle.common.specs.Lent.{Lent}
+use Rattle.common.specs.Lent.{Lent, lent}
+use Rattle.common.specs.Lists.{onto}
 use Rattle.commands.specs.Line.{lineOf}
-use Rattle.text.specs.Written.{putting}
 use Rattle.console.specs.declared.input.Left.{Left}
 use Rattle.console.specs.declared.step.Console.{Console}
 use Rattle.console.specs.Step.{console, answering}
@@ -39,9 +39,11 @@ freed n at = if ltb n (at + 8192) then 0 else at
 abbrev pub KeepsFree : Type 0
 KeepsFree = (n at : ℕ) → 8192 ≤ n → freed n at + 8192 ≤ n
 
--- an answer is put behind the others
+-- an answer stands behind the others, whole
 unfoldable pub behindAnswers : List ℕ → Lent ℕ → Lent ℕ
-behindAnswers text a = putting text (a .buffer) (freed (length (a .buffer)) (a .answer))
+behindAnswers text a =
+    let all = take (freed (length (a .buffer)) (a .answer)) (a .buffer) ++ text in
+    lent (length all) (onto all (a .buffer))
 
 -- a newline came: the line is answered, and the next begins
 unfoldable pub ended : Reader → Reader

@@ -3,4 +3,3 @@ pub mod Answered
 pub mod Receiving
 pub mod Step
 pub mod Input
-pub mod Fits

@@ -4,7 +4,7 @@ use commands::desk::Desk;
 use commands::line::Line;
 use receiver::state::Receiver;
 ghost use mathlib.Core.Path.{_≡_};
-ghost use Prim.Native.Nat.{_<_};
+ghost use Prim.Native.Nat.{_≤_, _<_};
 ghost use lib.ListN.{length, take, drop};
 ghost use Rattle.common.specs.Lent.{lent};
 ghost use Rattle.console.specs.Input.{readerOf, readsAll, Gathers, freed};
@@ -64,6 +64,7 @@ fn gather(block: &[u8], at: usize, line: &mut [u8], gathered: usize) -> Piece
 // Answers the lines that end in a block, and gathers what is left of it. `line` holds what was gathered before; `octets` is room for those that a
 // line says, `out` for answers. A PDU is heard here and not in `step`, so that the receiver is not copied on its way there and back.
 fn take_block(l: Left, block: &[u8], line: &mut [u8], octets: &mut [u8], out: &mut [u8]) -> Left
+    requires { ⌜ 8192 ≤ length (now out) ⌝ }
     ensures { λ m. ⌜ readerOf m (now (line .exit)) (now (octets .exit)) (lent (m .written) (now (out .exit))) ≡ readsAll (length (now (line .entry))) (readerOf l (now (line .entry)) (now (octets .entry)) (lent 0 (now (out .entry)))) (now (block .entry)) ⌝ }
 {
     let mut desk = l.desk;
@@ -108,7 +109,9 @@ fn read_block(block: &mut [u8]) -> usize {
 
 // Takes blocks until the input ends. A newline more ends the last line, where it lacks its own. A proved loop has to end, so it counts its turns
 // down, from a number that no run uses up.
-pub(crate) fn take_all(block: &mut [u8], line: &mut [u8], octets: &mut [u8], out: &mut [u8]) {
+pub(crate) fn take_all(block: &mut [u8], line: &mut [u8], octets: &mut [u8], out: &mut [u8])
+    requires { ⌜ 8192 ≤ length (now out) ⌝ }
+{
     let c = super::step::start();
     let desk = c.desk;
     let receiver = c.receiver;

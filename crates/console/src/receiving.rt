@@ -8,13 +8,17 @@ use receiver::give_up::GivenUp;
 use receiver::state::Receiver;
 use sending::answer::Spoken;
 ghost use mathlib.Core.Path.{_≡_};
+ghost use Prim.Native.Nat.{_≤_};
+ghost use lib.ListN.{length};
 ghost use Rattle.common.specs.Lent.{lent};
+ghost use Rattle.answers.specs.Fits.{Fits};
 ghost use Rattle.console.specs.Answered.{put, answerPut};
 ghost use Rattle.console.specs.Receiving.{hearsInto, hears, sent, speaksInto, speaks, givenUp, givesUp, shows};
 
 // Hears a PDU. Of the buffers as much is lent as `room` said.
 pub(crate) fn hear(r: Receiver, room: Room, pdu: &[u8], out: &mut [u8], at: &mut usize) -> Receiver
-    ensures { λ q. ⌜ put q (now (at .exit)) (now (out .exit)) ≡ answerPut (hears r room (now (pdu .entry))) (now (out .entry)) (now (at .entry)) ⌝ }
+    ensures exact { λ q. ⌜ put q (now (at .exit)) (now (out .exit)) ≡ answerPut (hears r room (now (pdu .entry))) (now (out .entry)) (now (at .entry)) ⌝ }
+    ensures fits { λ q. ⌜ Fits (hears r room (now (pdu .entry)) .text) ⌝ }
 {
     let mut forward = super::lent::longest();
     let mut message = super::lent::longest();
@@ -31,7 +35,9 @@ fn hear_into(
     out: &mut [u8],
     at: &mut usize,
 ) -> Receiver
-    ensures { λ q. ⌜ put q (now (at .exit)) (now (out .exit)) ≡ answerPut (hearsInto r (now (pdu .entry)) (now (forward .entry)) (now (message .entry))) (now (out .entry)) (now (at .entry)) ⌝ }
+    requires { ⌜ (length (now forward) ≤ 384) × (length (now message) ≤ 384) ⌝ }
+    ensures exact { λ q. ⌜ put q (now (at .exit)) (now (out .exit)) ≡ answerPut (hearsInto r (now (pdu .entry)) (now (forward .entry)) (now (message .entry))) (now (out .entry)) (now (at .entry)) ⌝ }
+    ensures fits { λ q. ⌜ Fits (hearsInto r (now (pdu .entry)) (now (forward .entry)) (now (message .entry)) .text) ⌝ }
 {
     let h = receiver::hear::hear(r, pdu, forward, message);
     let answer = h.answer;
@@ -53,7 +59,8 @@ pub(crate) fn speak(
     out: &mut [u8],
     at: &mut usize,
 ) -> Receiver
-    ensures { λ q. ⌜ put q (now (at .exit)) (now (out .exit)) ≡ answerPut (speaks r room s (now (octets .entry))) (now (out .entry)) (now (at .entry)) ⌝ }
+    ensures exact { λ q. ⌜ put q (now (at .exit)) (now (out .exit)) ≡ answerPut (speaks r room s (now (octets .entry))) (now (out .entry)) (now (at .entry)) ⌝ }
+    ensures fits { λ q. ⌜ Fits (speaks r room s (now (octets .entry)) .text) ⌝ }
 {
     let mut pdu = super::lent::longest();
     let n = text::within(room.forward, &pdu);
@@ -68,7 +75,9 @@ fn speak_into(
     out: &mut [u8],
     at: &mut usize,
 ) -> Receiver
-    ensures { λ q. ⌜ put q (now (at .exit)) (now (out .exit)) ≡ answerPut (speaksInto r s (now (octets .entry)) (now (pdu .entry))) (now (out .entry)) (now (at .entry)) ⌝ }
+    requires { ⌜ length (now pdu) ≤ 384 ⌝ }
+    ensures exact { λ q. ⌜ put q (now (at .exit)) (now (out .exit)) ≡ answerPut (speaksInto r s (now (octets .entry)) (now (pdu .entry))) (now (out .entry)) (now (at .entry)) ⌝ }
+    ensures fits { λ q. ⌜ Fits (speaksInto r s (now (octets .entry)) (now (pdu .entry)) .text) ⌝ }
 {
     let spoken = send(r, s, octets, pdu);
     let answer = spoken.answer;
@@ -119,7 +128,8 @@ fn give_up(r: Receiver, what: GivingUp) -> GivenUp
 
 // Shows what the receiver holds.
 pub(crate) fn show(r: Receiver, out: &mut [u8], at: &mut usize) -> Receiver
-    ensures { λ q. ⌜ put q (now (at .exit)) (now (out .exit)) ≡ answerPut (shows r) (now (out .entry)) (now (at .entry)) ⌝ }
+    ensures exact { λ q. ⌜ put q (now (at .exit)) (now (out .exit)) ≡ answerPut (shows r) (now (out .entry)) (now (at .entry)) ⌝ }
+    ensures fits { λ q. ⌜ Fits (shows r .text) ⌝ }
 {
     *at = answers::looking::put_receiver(r, out, *at);
     r

@@ -7,6 +7,7 @@ use commands::line::Line;
 use receiver::fresh::Answer as SettingUp;
 use receiver::state::Receiver;
 ghost use mathlib.Core.Path.{_≡_};
+ghost use Rattle.answers.specs.Fits.{Fits};
 ghost use Rattle.console.specs.Answered.{put, answerPut};
 ghost use Rattle.console.specs.Step.{starting, notes, setsUp, stepping};
 
@@ -37,7 +38,8 @@ pub(crate) fn step(
     out: &mut [u8],
     at: &mut usize,
 ) -> Console
-    ensures { λ d. ⌜ put d (now (at .exit)) (now (out .exit)) ≡ answerPut (stepping c said (now (line .entry)) (now (octets .entry))) (now (out .entry)) (now (at .entry)) ⌝ }
+    ensures exact { λ d. ⌜ put d (now (at .exit)) (now (out .exit)) ≡ answerPut (stepping c said (now (line .entry)) (now (octets .entry))) (now (out .entry)) (now (at .entry)) ⌝ }
+    ensures fits { λ d. ⌜ Fits (stepping c said (now (line .entry)) (now (octets .entry)) .text) ⌝ }
 {
     let desk = c.desk;
     let r = c.receiver;

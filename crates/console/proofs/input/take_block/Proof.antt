@@ -42,7 +42,8 @@ loop-again c =
     let gather = line .before in
     let loop = gather .before .before .before .loop in
     let heard =
-    ended-hear _ _ _ _ _ _ _ _ _ (flushed .flushed .ensures) (loop .desk) (loop .receiver) _ _ _ (read .read .ensures) (said .said .given .1) (first2 .first2 .ensures) (hear .hear .ensures) in (
+    ended-hear _ _ _ _ _ _ _ _ _ (flushed .flushed .ensures) (omega (arith, loop .inv .2, gather .before .before .before .before .before .before .before .before .before .before .pre))
+    (loop .desk) (loop .receiver) _ _ _ (read .read .ensures) (said .said .given .1) (first2 .first2 .ensures) (hear .hear .ensures .0) (hear .hear .ensures .1) in (
       omega (arith, loop .inv .0, line .line .given),
       omega (arith, loop .inv .1, octets .octets .given),
       omega (arith, loop .inv .2, c .before .out .given),
@@ -66,7 +67,8 @@ loop-again-2 c =
     let line = if1 .before .before in
     let gather = line .before in
     let loop = gather .before .before .before .loop in
-    let done = ended-step _ _ _ _ _ _ _ _ _ (flushed .flushed .ensures) (console (loop .desk) (loop .receiver)) _ (read .read .ensures) (step .step .ensures) in (
+    let done = ended-step _ _ _ _ _ _ _ _ _ (flushed .flushed .ensures) (omega (arith, loop .inv .2, gather .before .before .before .before .before .before .before .before .before .before .pre))
+    (console (loop .desk) (loop .receiver)) _ (read .read .ensures) (step .step .ensures .0) (step .step .ensures .1) in (
       omega (arith, loop .inv .0, line .line .given),
       omega (arith, loop .inv .1, octets .octets .given),
       omega (arith, loop .inv .2, c .before .before .before .out2 .given),

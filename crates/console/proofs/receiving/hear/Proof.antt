@@ -1,7 +1,7 @@
 -- `receiving::hear` meets its contract: as much of two buffers of zeros is lent as `room` said.
 -- Assumes nothing.
 use borrow.Author.Needs.{needs}
-use Rattle.console.proofs.ReceivingLaws.{heard-lent}
+use Rattle.console.proofs.ReceivingLaws.{heard-lent, heard-fits-lent}
 use Rattle.console.proofs.receiving.hear.Statement.{statement}
 use Rattle.console.proofs.receiving.hear.Tie as tie
 
@@ -11,4 +11,4 @@ hear-spec =
     (tie.spec
     (λ c κs. search needs) (λ c κs. search needs) (λ c. search needs) (λ c κs. search needs) (λ c. search needs) (λ c κs. search needs)
     (λ c. search needs) (λ c. search needs) (λ c. search needs) (λ c. search needs) (λ c κs. search needs) (λ c. search needs)
-    (λ c. search heard-lent))
+    (λ c. (search heard-lent, search heard-fits-lent)))

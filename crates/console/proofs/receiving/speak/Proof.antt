@@ -1,7 +1,7 @@
 -- `receiving::speak` meets its contract: as much of a buffer of zeros is lent as `room` said.
 -- Assumes nothing.
 use borrow.Author.Needs.{needs}
-use Rattle.console.proofs.ReceivingLaws.{spoken-lent}
+use Rattle.console.proofs.ReceivingLaws.{spoken-lent, spoken-fits-lent}
 use Rattle.console.proofs.receiving.speak.Statement.{statement}
 use Rattle.console.proofs.receiving.speak.Tie as tie
 
@@ -10,4 +10,4 @@ speak-spec =
     tie.close
     (tie.spec
     (λ c κs. search needs) (λ c. search needs) (λ c κs. search needs) (λ c. search needs) (λ c. search needs) (λ c κs. search needs)
-    (λ c. search needs) (λ c. search spoken-lent))
+    (λ c. search needs) (λ c. (search spoken-lent, search spoken-fits-lent)))
