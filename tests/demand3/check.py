@@ -64,11 +64,7 @@ def judged(scenario, answers):
 def main():
     parser = argparse.ArgumentParser(description="Runs demand 3's scenario through the console.")
     parser.add_argument("--seeds", type=program.seeds, default=FIXED, help="one seed, or A..B; without it the fixed ones")
-    chosen = parser.parse_args()
-    try:
-        words = program.command()
-    except program.Missing as missing:
-        parser.error(str(missing))
+    chosen, words = program.asked(parser)
     scenarios = [(seed, Scenario(seed)) for seed in chosen.seeds]
     lines = [line.encode() for _, scenario in scenarios for line in script(scenario)]
     answers, counts, most = Answers(program.answers(words, program.text_of(lines))), Counter(), 0

@@ -58,11 +58,7 @@ def main():
     parser = argparse.ArgumentParser(description="Compares the console with the independent model of document 01.")
     parser.add_argument("--seeds", type=program.seeds, help="one seed, or A..B; without it the fixed ones")
     parser.add_argument("--console", help="the command that runs the console (bin/console)")
-    chosen = parser.parse_args()
-    try:
-        words = program.command(chosen.console)
-    except program.Missing as missing:
-        parser.error(str(missing))
+    chosen, words = program.asked(parser)
     published = samples.check()
     counts, number, total = Counter(), 0, 0
     for name, lines, ended, wanted in scripts(chosen.seeds, counts):

@@ -22,7 +22,7 @@ def _built():
     return [str(ROOT / "bin" / "program"), "console"]
 
 
-def command(named=None):
+def _command(named):
     """The words of the command: the one named, else that of GOREPHAN_CONSOLE, else the repository's console."""
     text = named or os.environ.get("GOREPHAN_CONSOLE")
     try:
@@ -32,6 +32,15 @@ def command(named=None):
     if not words or not shutil.which(words[0]):
         raise Missing(f"there is no command {words[0] if words else text}: name the console's by GOREPHAN_CONSOLE")
     return words if text else _built()
+
+
+def asked(parser):
+    """What the arguments ask for, and the words of the command; a wrong argument or a missing command gets a word and status 2."""
+    chosen = parser.parse_args()
+    try:
+        return chosen, _command(getattr(chosen, "console", None))
+    except Missing as missing:
+        parser.error(str(missing))
 
 
 def seeds(text):

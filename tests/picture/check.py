@@ -4,6 +4,7 @@
 
 The scripts are those of tests/independent; the console is bin/console, or the command of GOREPHAN_CONSOLE.
 """
+import argparse
 import subprocess
 import sys
 import tempfile
@@ -65,14 +66,7 @@ def check_refusals(folder, text, answers):
 
 
 def main():
-    if len(sys.argv) > 1:
-        print(f"check.py: takes no argument, but was given {sys.argv[1]}", file=sys.stderr)
-        return 2
-    try:
-        words = program.command()
-    except program.Missing as missing:
-        print(f"check.py: {missing}", file=sys.stderr)
-        return 2
+    _, words = program.asked(argparse.ArgumentParser(description="Holds the pictures of the console's logs to their answers."))
     rows = refused = 0
     try:
         with tempfile.TemporaryDirectory() as name:

@@ -6,6 +6,7 @@ For each station the console sends messages of every kind, then, set up anew as 
 gets the keys and all PDUs, the acknowledgements too, in one capture: what it reads must be what was asked for. A damaged PDU of each station
 is among them, of which it must read nothing. The console is bin/console, or the command of GOREPHAN_CONSOLE.
 """
+import argparse
 import sys
 from pathlib import Path
 
@@ -98,14 +99,7 @@ def compare(pdu, read, said):
 
 
 def main():
-    if len(sys.argv) > 1:
-        print(f"check.py: takes no argument, but was given {sys.argv[1]}", file=sys.stderr)
-        return 2
-    try:
-        words = program.command()
-    except program.Missing as missing:
-        print(f"check.py: {missing}", file=sys.stderr)
-        return 2
+    _, words = program.asked(argparse.ArgumentParser(description="Holds what the console sends to what tshark reads."))
     count = fields = closed = 0
     try:
         for parts in STATIONS:
