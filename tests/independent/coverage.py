@@ -1,5 +1,7 @@
-"""Which kinds of answer the fixed seeds must reach: every refusal of document 01 by its reasons, from every operation, and every other answer."""
+"""Which kinds of answer the fixed seeds must reach: every refusal of the documents by its reasons, from every operation, and every other answer."""
 import textwrap
+
+from sensor import EDGES
 
 # Refusals of `hear` by number. Those of the second table must come with and without forwarding, those of the first never forward.
 HEAR_KEPT = {
@@ -39,16 +41,32 @@ ASKED = {
     "ack": {16: ("PDU buffer",), 15: ("no SEQ left",), 14: ("no such network key", "nothing of this source", "its DST is not unicast")},
     "stop": {14: ("nothing is kept",)},
     "drop": {14: ("no session of this source",)},
+    "property": {14: ("named already", "named already with the other kind", "a ninth name")},
+    "readings": {20: ("one octet of a header", "two octets of a header of format B", "a value cut short"),
+                 21: ("no octets at all", "too short", "too short, and its value cut too", "too long", "too long, and its value cut too")},
 }
 DONE = ("netkey", "appkey", "devkey", "elements", "group", "ivindex", "relay", "setup ready", "room", "access sent", "access started", "control sent",
-        "control started", "segment sent", "ack sent", "stop", "drop", "show", "skipped")
+        "control started", "segment sent", "ack sent", "stop", "drop", "show", "skipped", "property", "properties", "readings",
+        "readings no status: no octets", "readings no status: another opcode")
 UNREAD = ("a line too long", "no such command", "number of fields", "an empty field", "not a digit", "over 8 digits", "a number above its limit",
-          "half an octet", "a key not of 16 octets", "a MIC neither 4 nor 8", "before the first setup")
+          "half an octet", "a key not of 16 octets", "a MIC neither 4 nor 8", "before the first setup", "a kind that is none",
+          "a message of over 380 octets")
 CASES = ("a later network key opens it", "several network keys fail", "under the IV Index before", "a later application key opens it",
          "repeats within the session", "repeats the last message handed up", "repeats the last message handed up while another comes",
          "joins though the entry is newer", "replaces an older session", "completes with SegN 0", "completes with SegN 31",
          "completes with a segment before the last", "acknowledges the open session", "acknowledges the last message handed up",
-         "sends a segment 8,191 after the first", "has no SEQ left 8,191 after the first", "has no SEQ left 8,192 after the first")
+         "sends a segment 8,191 after the first", "has no SEQ left 8,191 after the first", "has no SEQ left 8,192 after the first",
+         "names a property that was forgotten")
+# The cases of Sensor Status: what a record is, what a list is as a whole, the counts about the ends of the ranges, and what needs no receiver.
+SENSED = {
+    "a record": ("format A", "format A, at its longest", "format B", "format B, at its longest", "humidity above zero", "humidity of zero",
+                 "humidity unknown", "humidity prohibited", "temperature above zero", "temperature of zero", "temperature below zero",
+                 "temperature unknown", "temperature prohibited", "raw", "raw without octets", "raw, its name forgotten", "named property 0",
+                 "named before a setup that is ready", "named before a setup that is refused"),
+    "a list": ("no records", "126 records", "a property twice", "a property in both formats"),
+    **{kind: tuple(f"count {count}" for count in counts) for kind, counts in EDGES.items()},
+    "before the first setup": ("property", "properties", "readings"),
+}
 
 
 def _refusals(table, word, behind=""):
@@ -63,7 +81,8 @@ def required():
     kinds += [f"hear {kind}" for kind in HEARD]
     for word, table in ASKED.items():
         kinds += _refusals(table, word)
-    return kinds + list(DONE) + [f"unread: {why}" for why in UNREAD] + list(CASES)
+    kinds += list(DONE) + [f"unread: {why}" for why in UNREAD] + list(CASES)
+    return kinds + [f"{what}: {case}" for what, cases in SENSED.items() for case in cases]
 
 
 def _groups(kinds):

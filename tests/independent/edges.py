@@ -1,5 +1,7 @@
 """Scripts by hand about the edges of reading: no line, no newline, lines at their longest and far beyond, lines across a buffer's end."""
 KEY = b"0123456789abcdef0123456789abcdef"
+# The longest answer to `readings`: 94 temperatures of three digits below zero, and one octet of another property.
+LONGEST = b"property 4f temperature\nreadings 52" + b"e2094d95" * 94 + b"a0ffff"
 BLOCK = 65536
 # A command, and what follows it, where the receiver is ready after it.
 READY = b"netkey " + KEY + b"\nelements 1 0\nsetup\n"
@@ -23,7 +25,8 @@ TEXTS = (
     b"netkey " + KEY + b"\r\nelements 1 0\nsetup\n", b"\n#\n" * 50000 + READY, READY + b"a" * 4095 + b"\nshow", READY + b"a" * 200000 + b"\nshow",
     READY + b"#" + b"a" * 200000 + b"\nshow", READY + b"a" * 200000, READY + b"#" * 200000, READY + b" " * 4096 + b"\n" + b"\x00" * BLOCK + b"\nshow\n",
     *[READY + _elements(length) + end for length in (4094, 4095, 4096, 4097, BLOCK - 1, BLOCK) for end in (b"", b"\nsetup\n")],
-    _straddling(),
+    _straddling(), b"readings -", b"readings 52\nproperties", b"properties\nproperty 0 humidity\nproperty 0 temperature", LONGEST, LONGEST + b"\n",
+    *[b"readings " + first + b"00" * more + end for first in (b"52", b"04") for more in (379, 380, 2042, 2043) for end in (b"", b"\nreadings 52\n")],
 )
 
 

@@ -1,8 +1,9 @@
 """The console's language: a line read, the model driven, the answer written."""
 import model
 import sending
+import sensor
 
-LONGEST_LINE = 4095
+LONGEST_LINE, LONGEST_MESSAGE = 4095, 380
 DIGITS = frozenset(b"0123456789abcdefABCDEF")
 
 
@@ -55,7 +56,21 @@ def _mic(field):
     return size
 
 
+def _kind(field):
+    if field not in (b"humidity", b"temperature"):
+        raise Unread("a kind that is none")
+    return field.decode()
+
+
+def _message(field):
+    message = _octets(field)
+    if len(message) > LONGEST_MESSAGE:
+        raise Unread("a message of over 380 octets")
+    return message
+
+
 BIT, BYTE, ADDRESS, LONG, ROOM = (_number(most) for most in (1, 0xFF, 0xFFFF, 0xFFFFFFFF, 384))
+PROPERTY = ADDRESS
 TTL, APP = _or(b"-", None, BYTE), _or(b"dev", None, BYTE)
 
 # The fields of each command; elements takes any number of its last one.
@@ -68,6 +83,9 @@ FORMS = {
     b"ivindex": (LONG, BIT),
     b"relay": (BIT,),
     b"setup": (),
+    b"property": (PROPERTY, _kind),
+    b"properties": (),
+    b"readings": (_message,),
     b"room": (ROOM, ROOM),
     b"hear": (_octets,),
     b"access": (BYTE, ADDRESS, TTL, BYTE, APP, _mic, _octets),
@@ -143,7 +161,7 @@ def shown(receiver):
 
 
 class Console:
-    """The program's state: the lines given since the last `setup`, the receiver if there is one, and the buffers' lengths.
+    """The program's state: the lines given since the last `setup`, the receiver if there is one, the buffers' lengths, and the named properties.
 
     `why` says of the last answer what was refused and why, or what kind it was; `notes` which other cases it met.
     """
@@ -152,15 +170,18 @@ class Console:
         self.given = model.Setup()
         self.receiver = None
         self.room = (29, 384)
-        self.why = ""
+        self.named = sensor.Properties()
+        self.why, self.met = "", []
 
     @property
     def notes(self):
-        return self.receiver.notes if self.receiver else []
+        return self.met + (self.receiver.notes if self.receiver else [])
 
     def answer(self, line):
         """The lines that answer this one; none where it is skipped."""
-        self.notes.clear()
+        self.met = []
+        if self.receiver:
+            self.receiver.notes.clear()
         if not line or line.startswith(b"#"):
             self.why = "skipped"
             return []
@@ -170,6 +191,8 @@ class Console:
                 GIVEN[word](self.given, *fields)
                 self.why = word
                 return ["ok"]
+            if word in SITE:
+                return [self._site(word, fields)]
             return self._setup() if word == "setup" else self._asked(word, fields)
         except Unread as unread:
             self.why = f"unread: {unread}"
@@ -180,9 +203,35 @@ class Console:
 
     def _setup(self):
         given, self.given = self.given, model.Setup()
+        self.named.outlive("a setup that is refused")
         self.receiver = model.Receiver(given)
+        self.named.outlive("a setup that is ready")
         self.why = "setup ready"
         return ["ready"]
+
+    def _site(self, word, fields):
+        """The lines about what the site has named, which need no receiver."""
+        if not self.receiver:
+            self.met.append(f"before the first setup: {word}")
+        self.why = word
+        return SITE[word](self, *fields)
+
+    def _name(self, of, kind):
+        self.named.name(of, kind)
+        self.met += ["names a property that was forgotten"] if of in self.named.forgotten else []
+        return "ok"
+
+    def _forget(self):
+        self.named.forget()
+        return "ok"
+
+    def _readings(self, message):
+        if message[:1] != bytes([sensor.STATUS]):
+            self.why = f"readings no status: {'another opcode' if message else 'no octets'}"
+            return "no status"
+        answer, met = sensor.readings(message, self.named)
+        self.met += met
+        return answer
 
     def _asked(self, word, fields):
         if not self.receiver:
@@ -237,4 +286,5 @@ GIVEN = {
     "ivindex": _index,
     "relay": lambda given, on: setattr(given, "relay", on),
 }
+SITE = {"property": Console._name, "properties": Console._forget, "readings": Console._readings}
 SENDING = {"access": sending.access, "control": sending.control, "segment": sending.segment, "ack": sending.acknowledge}

@@ -4,7 +4,7 @@ KEY = b"0123456789abcdef0123456789ABCDEF"
 # One line of each command, all readable.
 RIGHT = (b"netkey " + KEY, b"appkey 0 " + KEY, b"devkey " + KEY, b"elements 1 0 ffffff", b"group c000", b"ivindex 1 0", b"relay 1", b"setup",
          b"room 1d 180", b"hear 00", b"access 0 1 - 0 0 4 00", b"access 1 c000 7f 1 dev 8 0102", b"control 0 1 2 0 1 -", b"segment 1f", b"ack 0 1",
-         b"stop", b"drop 1", b"show")
+         b"stop", b"drop 1", b"show", b"property 76 humidity", b"property 4f temperature", b"properties", b"readings 52c20ed711")
 # Each field one above its limit, and at it, where the library answers.
 LIMITS = (
     b"appkey 100 " + KEY, b"netkey " + KEY[2:], b"netkey " + KEY + b"00", b"devkey -", b"elements", b"elements 10000 0", b"elements 1 100000000",
@@ -14,6 +14,9 @@ LIMITS = (
     b"control 100 1 - 0 1 -", b"control 0 10000 - 0 1 -", b"control 0 1 100 0 1 -", b"control 0 1 - 100 1 -", b"control 0 1 - 0 100 -",
     b"segment 100", b"ack 100 1", b"ack 0 10000", b"drop 10000", b"drop -",
     b"access ff ffff ff ff ff 8 -", b"access 0 1 - 0 0 00000008 00", b"control ff ffff ff ff ff -", b"segment ff", b"ack ff ffff", b"drop ffff",
+    b"property 10000 humidity", b"property 000000076 humidity", b"property - humidity", b"property 76", b"property 76 raw", b"property 76 Humidity",
+    b"property 76 humidity 0", b"property FFFF temperature", b"properties 0", b"readings", b"readings 5", b"readings - -", b"readings 5g",
+    b"readings 52" + b"FF" * 379, b"readings 52" + b"00" * 380, b"readings 04" + b"00" * 380,
     b"ivindex FFFFFFFF 1", b"relay 00000001", b"room 180 180", b"room 1d 180", b"elements 1")
 
 

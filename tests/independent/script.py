@@ -5,6 +5,7 @@ from dataclasses import replace
 
 import lines
 import orders
+import statuses
 import traffic
 from language import Console
 from world import World, setup_lines, setup_of
@@ -32,6 +33,10 @@ class Script:
     def hear(self, pdu):
         self.say(b"hear " + (pdu.hex().encode() or b"-"))
 
+    def sense(self):
+        """A line about Sensor Status."""
+        self.say(statuses.line(self.dice, self.console.named))
+
     def odd(self):
         """A line that is mostly unread, made of one of the latest or of any command."""
         recent = [step.line for step in self.steps[-12:] if 0 < len(step.line) < 400]
@@ -57,6 +62,8 @@ class Stage:
             for line in setup_lines(setup_of(self.dice), self.dice):
                 if self.dice.random() < 0.04:
                     self.script.odd()
+                if self.dice.random() < 0.02:
+                    self.script.sense()
                 answers = self.script.say(line)
 
     def ask(self, line):
@@ -73,6 +80,9 @@ class Stage:
             self.script.odd()
         if self.dice.random() < 0.08:
             self.script.say("show")
+        if self.dice.random() < 0.06:
+            for _ in range(self.dice.randint(1, 4)):
+                self.script.sense()
 
     def play(self, count):
         """Turns, a few of them with buffers that are too short."""
@@ -101,11 +111,14 @@ class Stage:
             self.script.say(line)
 
 
-def made(seed, worlds=3, count=500):
+def made(seed, worlds=3, count=530):
     """The script of a seed."""
     script = Script(seed)
     for _ in range(script.dice.randrange(4)):
-        script.say(script.dice.choice(("show", "hear -", "room 1d 180", "stop", "ack 0 1", "access 0 1 - 0 0 4 00", "setup", "segment 0")))
+        script.say(script.dice.choice(("show", "hear -", "room 1d 180", "stop", "ack 0 1", "access 0 1 - 0 0 4 00", "setup", "segment 0",
+                                       "properties")))
+    for _ in range(script.dice.randrange(12)):
+        script.sense()
     for _ in range(worlds):
         stage = Stage(script)
         stage.play(count)

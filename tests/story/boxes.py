@@ -11,7 +11,9 @@ STATION, TTL = 0x0001, 5
 
 # Sensor Status of the Mesh Model, and the properties of the two kinds of readings.
 SENSOR_STATUS, TEMPERATURE, HUMIDITY = b"\x52", 0x0075, 0x0076
-NOT_KNOWN = 0xFFFF
+NOT_KNOWN, TEMPERATURE_NOT_KNOWN = 0xFFFF, 0x8000
+# What the old probe shows where it has no value, and a property that the site has not named.
+NO_VALUE, UNNAMED = 999, 0x0A1E
 # A vendor's opcode of three octets (MP 3.7.3.1), which the wind's force follows.
 WIND_STATUS = b"\xc1\xff\xff"
 
@@ -20,9 +22,10 @@ class Unknown(Exception):
     """What a box was to say is nothing that it can say."""
 
 
-def reading(of, hundredths):
-    """One reading in format A: the length less one and the property, then two octets, low octets first."""
-    return (of << 5 | 1 << 1).to_bytes(2, "little") + hundredths.to_bytes(2, "little")
+def reading(of, count):
+    """One record, low octets first: the length less one and the property in format A, or in B where 11 bits do not hold the property; then two octets."""
+    header = (of << 5 | 1 << 1).to_bytes(2, "little") if of < 0x800 else (of << 8 | 1 << 1 | 1).to_bytes(3, "little")
+    return header + count.to_bytes(2, "little")
 
 
 def status(of, *values):
@@ -75,11 +78,24 @@ class Box:
         return self.said[0]
 
 
+def attempts():
+    """How the old probe's maker has tried to say that there is no value."""
+    yield reading(HUMIDITY, NOT_KNOWN)
+    # taken for percent, of whose hundredths two octets keep the low 16 bits
+    yield reading(HUMIDITY, NO_VALUE * 100 & 0xFFFF)
+    # taken for tenths of a percent
+    yield reading(HUMIDITY, NO_VALUE * 10)
+    yield reading(UNNAMED, NO_VALUE)
+    yield reading(TEMPERATURE, NOT_KNOWN)
+    yield reading(TEMPERATURE, TEMPERATURE_NOT_KNOWN)
+
+
 def boxes():
     """All boxes by their names in story.txt, with nothing sent yet."""
     found = {
         "humidity": Box(0x0201, 0x000A10, status(HUMIDITY, 4800, 4820, 4855, 4890, 4910, NOT_KNOWN, 4960, 4985, 5005, 5030)),
         "temperature": Box(0x0202, 0x005200, status(TEMPERATURE, 2140, 2135, 2120, 2105, 2090, 2070, 2055)),
+        "probe": Box(0x0203, 0x000300, SENSOR_STATUS + b"".join(attempts())),
         "wind": Box(0x0101, 0x000100),
     }
     for number in range(1, 10):

@@ -3,9 +3,10 @@
   python3 tests/story/make.py --write    writes crates/console/stdin, crates/console/stdout and docs/story.svg
   python3 tests/story/make.py --check    writes nothing; fails, and names the first difference, where a file differs
 
-story.txt is the script, but that what a box sends is named there (`hear humidity segment 2 resent`; boxes.py has the forms) and that
-`=>` may stand behind a command, with words of its answer: they must stand in the answer in that order, `forward` exactly where something
-is forwarded. The answers are those of the independent model, which the console itself is held to by `rt check console`.
+story.txt is the script, but that what a box sends is named there (`hear humidity segment 2 resent`; boxes.py has the forms), likewise what was
+handed up from it (`readings humidity`; `changed` has the forms), and that `=>` may stand behind a command, with words of its answer: they must
+stand in the answer in that order, `forward` exactly where something is forwarded. The answers are those of the independent model, which the
+console itself is held to by `rt check console`.
 """
 import subprocess
 import sys
@@ -19,6 +20,7 @@ sys.path.insert(0, str(ROOT / "tests" / "independent"))
 
 from boxes import Unknown, boxes  # noqa: E402
 from language import Console  # noqa: E402
+from transport import ACCESS_SEGMENT  # noqa: E402
 
 SCRIPT, ANSWERS, PICTURE = (ROOT / name for name in ("crates/console/stdin", "crates/console/stdout", "docs/story.svg"))
 
@@ -46,9 +48,34 @@ def sent(box, words):
     raise Unknown(" ".join(words))
 
 
-def spoken(line, shed):
+def changed(message, words):
+    """What was handed up from a box: as it is, without its last octets, or with zeros for the octets that one segment brought."""
+    match words:
+        case []:
+            return message
+        case ["cut", count]:
+            return message[:len(message) - number(count, len(message))]
+        case ["hole", place]:
+            start = ACCESS_SEGMENT * number(place, (len(message) - 1) // ACCESS_SEGMENT)
+            hole = message[start:start + ACCESS_SEGMENT]
+            return message[:start] + bytes(len(hole)) + message[start + len(hole):]
+    raise Wrong(f"a message cannot be read {' '.join(words)}")
+
+
+def read(words, shed, messages):
+    """The console's line for a `readings` of story.txt: of a box's message, or of octets as they stand there."""
+    if not words or words[0] not in shed:
+        return " ".join(["readings", *words])
+    if words[0] not in messages:
+        raise Wrong(f"nothing of {words[0]} has been handed up")
+    return f"readings {changed(messages[words[0]], words[1:]).hex() or '-'}"
+
+
+def spoken(line, shed, messages):
     """The console's line for a command of story.txt."""
     words = line.split()
+    if words[0] == "readings":
+        return read(words[1:], shed, messages)
     if words[0] != "hear":
         return line
     if len(words) < 2 or words[1] not in shed:
@@ -66,14 +93,16 @@ def fits(wanted, answer):
 
 
 def told(text):
-    """The script and the answers, as lines."""
-    shed, console, script, answers = boxes(), Console(), [], []
+    """The script and the answers, as lines; `messages` holds what was handed up last from each box."""
+    shed, console, script, answers, messages = boxes(), Console(), [], [], {}
     for at, line in enumerate(text.splitlines(), 1):
         try:
             command, arrow, wanted = line.partition(" => ")
             if line and not line.startswith("#"):
-                line = spoken(command, shed)
+                line = spoken(command, shed, messages)
             answer = console.answer(line.encode())
+            if command.startswith("hear ") and " message " in answer[0]:
+                messages[command.split()[1]] = bytes.fromhex(answer[0].split(" message ")[1].split()[0])
             if answer == ["unread"] or arrow and not fits(wanted.split(), answer[0]):
                 raise Wrong(f"the answer is: {answer[0]}")
         except Wrong as wrong:

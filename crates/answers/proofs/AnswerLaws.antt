@@ -21,6 +21,8 @@ use Rattle.receiver.specs.declared.give_up.Answer.{Answer as GivingUp}
 use Rattle.receiver.specs.declared.give_up.Answer.the-variants as up
 use Rattle.sending.specs.declared.answer.Answer.{Answer as Sending}
 use Rattle.sending.specs.declared.answer.Answer.the-variants as sending
+use Rattle.sensor.specs.declared.properties.Answer.the-variants as naming
+use Rattle.sensor.specs.Properties.{paper}
 use Rattle.commands.specs.declared.desk.Reply.{Reply}
 use Rattle.commands.specs.declared.desk.Reply.the-variants as reply
 use Rattle.text.specs.Octets.{octets}
@@ -86,6 +88,11 @@ module _ (out : List ℕ) (at r : ℕ) (o : List ℕ) where
     pub noted-silence : a ≡ reply.Silence → lent r o ≡ putting [] out at → lent r o ≡ putting (notedText a) out at
     unfolding notedText
     noted-silence k e = rw k e
+
+    pub noted-refused :
+        (n : ℕ) → a ≡ reply.Refused → n ≡ paper naming.Refused → lent r o ≡ putting (refusedText n) out at → lent r o ≡ putting (notedText a) out at
+    unfolding notedText
+    noted-refused n k h e = rw (k, ← h) e
 
   module _ (a : SettingUp) where
     pub set-up-ready : a ≡ fresh.Ready → lent r o ≡ putting (octets "ready\n") out at → lent r o ≡ putting (setUpText a) out at
@@ -174,7 +181,7 @@ pub ruleset key-rules = (key-application, key-device)
 
 pub ruleset effect-rules = (effect-nothing, effect-marked, effect-complete, effect-cancelled)
 
-pub ruleset noted-rules = (noted-ok, noted-unread, noted-silence)
+pub ruleset noted-rules = (noted-ok, noted-unread, noted-silence, noted-refused)
 
 pub ruleset set-up-rules = (set-up-ready, set-up-refused)
 

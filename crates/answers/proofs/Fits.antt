@@ -43,7 +43,7 @@ fits-whole text out at h free = take-all (length out) (take at out ++ text) (ome
 refusal-most : (n : ℕ) → AtMost 29 (refusalText n)
 refusal-most n = both (label-most "refused ") (decimal-most n)
 
-refused-most : (n : ℕ) → AtMost 30 (refusedText n)
+pub refused-most : (n : ℕ) → AtMost 30 (refusedText n)
 refused-most n = both (refusal-most n) (label-most "\n")
 
 trials-most : (t : Trials) → AtMost 43 (trialsText t)
@@ -125,6 +125,7 @@ unfolding notedText
 noted-fits reply.Ok = omega arith
 noted-fits reply.Unread = omega arith
 noted-fits reply.Silence = omega arith
+noted-fits reply.Refused = omega (arith, refused-most 14)
 
 -- ---- what a receiver holds: at most 8 elements, 16 cache entries, 32 replay entries and 8 sessions
 next-most : (next : List ℕ) (elements : ℕ) → AtMost 148 (nextText next elements)

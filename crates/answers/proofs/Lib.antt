@@ -3,3 +3,5 @@ pub mod AnswerLaws
 pub mod LookingLaws
 pub mod TextLengths
 pub mod Fits
+pub mod ReadingsLaws
+pub mod ReadingsFit

@@ -2,7 +2,7 @@
 -- other add up.
 --   AtMost n text   the text has at most n octets
 -- Assumes nothing.
-use mathlib.Core.Bool.{Bool, _&&_}
+use mathlib.Core.Bool.{Bool, true, false, _&&_}
 use mathlib.Core.Path.{_≡_, refl}
 use mathlib.Core.List.{List, [], _∷_, _++_}
 use Prim.Native.Nat.{ℕ, zero, suc, _+_, _*_, _/_, _%_, _^_, _≤_, min, max}
@@ -16,7 +16,7 @@ use Rattle.common.proofs.Lists.{length-tab}
 use Rattle.common.proofs.Search.{first-le}
 use Rattle.text.specs.Octets.{octets}
 use Rattle.text.specs.Hex.{pairs, hexText}
-use Rattle.text.specs.Number.{places, numberText, decimalText}
+use Rattle.text.specs.Number.{places, numberText, decimalText, signText, hundredthsText}
 use Rattle.answers.specs.Answer.{named}
 use Rattle.answers.specs.Looking.{placedText}
 
@@ -71,6 +71,16 @@ number-most w n = digits-most 16 17 (min (max w 1) 16) n
 
 pub decimal-most : (n : ℕ) → AtMost 21 (decimalText n)
 decimal-most n = digits-most 10 21 1 n
+
+sign-most : (below : Bool) → AtMost 1 (signText below)
+sign-most true = omega arith
+sign-most false = omega arith
+
+pub hundredths-most : (below : Bool) (n : ℕ) → AtMost 25 (hundredthsText below n)
+unfolding hundredthsText
+hundredths-most below n =
+    let two : AtMost 2 (digits 10 2 (n % 100)) = omega (arith, length-digits 10 2 (n % 100)) in
+    both (both (both (sign-most below) (decimal-most (n / 100))) (label-most ".")) two
 
 -- a label, and a number behind it
 pub named-most : (label : String) (w n : ℕ) → AtMost (length (octets label) + 17) (named label w n)

@@ -23,6 +23,8 @@ use Rattle.receiver.specs.declared.give_up.Answer.{Answer as GivingUp}
 use Rattle.receiver.specs.declared.give_up.Answer.the-variants as up
 use Rattle.sending.specs.declared.answer.Answer.{Answer as Sending}
 use Rattle.sending.specs.declared.answer.Answer.the-variants as sending
+use Rattle.sensor.specs.declared.properties.Answer.the-variants as naming
+use Rattle.sensor.specs.Properties.{paper}
 use Rattle.commands.specs.declared.desk.Reply.{Reply}
 use Rattle.commands.specs.declared.desk.Reply.the-variants as reply
 use Rattle.text.specs.Octets.{octets}
@@ -102,3 +104,4 @@ unfoldable pub notedText : Reply → List ℕ
 notedText reply.Ok = octets "ok\n"
 notedText reply.Unread = octets "unread\n"
 notedText reply.Silence = []
+notedText reply.Refused = refusedText (paper naming.Refused)

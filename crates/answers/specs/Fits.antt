@@ -2,7 +2,8 @@
 --   Fits text                             the text has at most 8,192 octets
 --   FitsWhole                             what is written of such a text
 --   HeardFits, SpokenFits, GivenUpFits,
---   SetUpFits, NotedFits, ReceiverFits    the texts of each kind of line
+--   SetUpFits, NotedFits, ReceiverFits,
+--   ReadingsFit                           the texts of each kind of line
 -- A number may be of any size. The console lends 384 octets for a message or a PDU, and a receiver's lists are arrays of 16, 32 and 8.
 use mathlib.Core.List.{List, _++_}
 use mathlib.Core.Path.{_≡_}
@@ -13,11 +14,13 @@ use Rattle.receiver.specs.declared.fresh.Answer.{Answer as SettingUp}
 use Rattle.receiver.specs.declared.give_up.Answer.{Answer as GivingUp}
 use Rattle.receiver.specs.declared.state.Receiver.{Receiver}
 use Rattle.sending.specs.declared.answer.Answer.{Answer as Sending}
+use Rattle.sensor.specs.declared.properties.Properties.{Properties}
 use Rattle.commands.specs.declared.desk.Reply.{Reply}
 use Rattle.text.specs.Written.{written}
 use Rattle.answers.specs.declared.answer.Trials.{Trials}
 use Rattle.answers.specs.Answer.{heardText, forwardText, spokenText, givenUpText, setUpText, notedText}
 use Rattle.answers.specs.Looking.{receiverText}
+use Rattle.answers.specs.Readings.{readingsText}
 
 -- a text is no longer than the room that the console keeps free
 abbrev pub Fits : List ℕ → Type 0
@@ -52,3 +55,7 @@ NotedFits = (r : Reply) → Fits (notedText r)
 abbrev pub ReceiverFits : Type 0
 ReceiverFits =
     (r : Receiver) → length (r .cache .entries) ≤ 16 → length (r .replay) ≤ 32 → length (r .sessions) ≤ 8 → Fits (receiverText r)
+
+-- what a message says, however long it is
+abbrev pub ReadingsFit : Type 0
+ReadingsFit = (properties : Properties) (message : List ℕ) → Fits (readingsText properties message)

@@ -6,6 +6,8 @@ use receiver::answer::Answer;
 use receiver::fresh::Answer as SettingUp;
 use receiver::give_up::Answer as GivingUp;
 use sending::answer::Answer as Sending;
+use sensor::properties;
+use sensor::properties::Answer as Naming;
 use text::hex;
 use text::number;
 use text::refusal;
@@ -269,6 +271,7 @@ pub fn put_noted(reply: Reply, out: &mut [u8], at: usize) -> usize
         Reply::Ok => text::put(b"ok\n", out, at),
         Reply::Unread => put_unread(out, at),
         Reply::Silence => text::put(b"", out, at),
+        Reply::Refused => refusal::put_line(properties::number(Naming::Refused), out, at),
     }
 }
 

@@ -6,6 +6,7 @@ use mathlib.Core.Bool.{Bool}
 use mathlib.Core.List.{List}
 use Prim.Native.Nat.{ℕ}
 use Rattle.common.specs.Lent.{lent}
+use Rattle.sensor.specs.declared.properties.Kind.{Kind}
 use Rattle.transport.specs.declared.securing.MessageKey.{MessageKey}
 use Rattle.sending.specs.declared.request.Request.{Request}
 use Rattle.sending.specs.declared.request.Ttl.{Ttl}
@@ -19,6 +20,8 @@ use Rattle.text.specs.declared.hex.Octets.{Octets}
 use Rattle.text.specs.Hex.{reading}
 use Rattle.text.specs.Number.{numberOf, atMost, octetOf, shortOf}
 use Rattle.text.proofs.NumberLaws.{if-map, at-most-map, onNumber, number-made}
+use Rattle.commands.specs.declared.naming.KindField.{KindField}
+use Rattle.commands.specs.declared.naming.KindField.the-variants as kind
 use Rattle.commands.specs.declared.requesting.TtlField.{TtlField}
 use Rattle.commands.specs.declared.requesting.TtlField.the-variants as ttl
 use Rattle.commands.specs.declared.requesting.KeyField.{KeyField}
@@ -28,6 +31,7 @@ use Rattle.commands.specs.declared.requesting.MicField.the-variants as m
 use Rattle.commands.specs.declared.requesting.Asked.{Asked}
 use Rattle.commands.specs.declared.requesting.Asked.the-variants as asked
 use Rattle.commands.specs.declared.line.Line.{Line}
+use Rattle.commands.specs.Naming.{withKind}
 use Rattle.commands.specs.Request.{upTo, withTtl, withKey, withMic, withRequest}
 use Rattle.commands.specs.Line.{counted, withOctets}
 
@@ -39,6 +43,10 @@ onOctet x f octet.Unfit = x
 abbrev onShort : {A : Type 0} → A → (ℕ → A) → Short → A
 onShort x f (short.Value v) = f v
 onShort x f short.Unfit = x
+
+abbrev onKind : {A : Type 0} → A → (Kind → A) → KindField → A
+onKind x f (kind.Fits v) = f v
+onKind x f kind.Unfit = x
 
 abbrev onTtl : {A : Type 0} → A → (Ttl → A) → TtlField → A
 onTtl x f (ttl.Fits v) = f v
@@ -68,6 +76,10 @@ module _ {A : Type 0} (text t : List ℕ) (same-text : t ≡ text) (x z : A) whe
   pub short-read : (f : ℕ → A) (a b : Short) → a ≡ shortOf (numberOf t) → a ≡ b → z ≡ onShort x f b → z ≡ upTo 0xFFFF text x f
   short-read f a b e k r = r ∙ rw (← k, e, same-text) (at-most-map (onShort x f) 0xFFFF short.Value short.Unfit (numberOf text))
 
+  pub kind-read : (f : Kind → A) (a b : KindField) → a ≡ withKind t kind.Unfit kind.Fits → a ≡ b → z ≡ onKind x f b → z ≡ withKind text x f
+  unfolding withKind
+  kind-read f a b e k r = r ∙ rw (← k, e, same-text) (simp (if-map (onKind x f)))
+
   pub ttl-read : (f : Ttl → A) (a b : TtlField) → a ≡ withTtl t ttl.Unfit ttl.Fits → a ≡ b → z ≡ onTtl x f b → z ≡ withTtl text x f
   unfolding withTtl
   ttl-read f a b e k r = r ∙ rw (← k, e, same-text) (simp (if-map (onTtl x f), at-most-map (onTtl x f)))
@@ -92,4 +104,4 @@ pub octets-read :
     → lent z left ≡ withOctets text out f
 octets-read text t out left same-text f z a b e k r = rw (← same-text, ← e, k, r)
 
-pub ruleset field-rules = (number-read, octet-read, short-read, ttl-read, key-read, mic-read, request-read, octets-read)
+pub ruleset field-rules = (number-read, octet-read, short-read, kind-read, ttl-read, key-read, mic-read, request-read, octets-read)

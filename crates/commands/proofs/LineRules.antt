@@ -67,4 +67,4 @@ unfolding lineOf
 line-said [] ready out h c w k p e r = absurd (h refl)
 line-said (x ∷ line) ready out h c w k p e r = rw (ne-eqb x 0x23 c, le-ltb 4095 (length (x ∷ line)) w, ← e) r
 
-pub ruleset line-rules = (line-none, line-comment, line-long, line-said, command-is)
+pub ruleset line-rules = (line-none, line-comment, line-long, line-said, command-is, answer-is)

@@ -1,5 +1,6 @@
 -- Which command a line is, by its first field, its word; a command that has no other field is the whole line.
---   givingKey word, settingUp line word          the words that lead to a receiver
+--   reading line word                            the words that read what sensors say
+--   givingKey line word, settingUp line word     these and the words that lead to a receiver
 --   speaking line word, withReceiver line word   these and the words that need one
 --   commandOf line ready                         the command of a line, where a receiver is ready or not
 use mathlib.Core.Bool.{Bool}
@@ -12,15 +13,23 @@ use Rattle.text.specs.Octets.{octets}
 use Rattle.commands.specs.declared.setting.Item.the-variants.{NetKey, AppKey, DevKey, Elements, Group, IvIndex, Relay}
 use Rattle.commands.specs.declared.command.Order.the-variants as order
 use Rattle.commands.specs.declared.command.Command.{Command}
-use Rattle.commands.specs.declared.command.Command.the-variants.{Give, SetUp, Order, Unknown}
+use Rattle.commands.specs.declared.command.Command.the-variants.{Give, SetUp, Order, Property, Forget, Readings, Unknown}
 
--- the words that give a key
-unfoldable pub givingKey : List ℕ → Command
-givingKey word =
+-- the words that read what sensors say
+unfoldable pub reading : List ℕ → List ℕ → Command
+reading line word =
+    if same word (octets "property") then Property else
+    if same line (octets "properties") then Forget else
+    if same word (octets "readings") then Readings else
+    Unknown
+
+-- these, and the words that give a key
+unfoldable pub givingKey : List ℕ → List ℕ → Command
+givingKey line word =
     if same word (octets "netkey") then Give NetKey else
     if same word (octets "appkey") then Give AppKey else
     if same word (octets "devkey") then Give DevKey else
-    Unknown
+    reading line word
 
 -- these, and the others that lead to a receiver
 unfoldable pub settingUp : List ℕ → List ℕ → Command
@@ -30,7 +39,7 @@ settingUp line word =
     if same word (octets "ivindex") then Give IvIndex else
     if same word (octets "relay") then Give Relay else
     if same line (octets "setup") then SetUp else
-    givingKey word
+    givingKey line word
 
 -- these, and the words that send
 unfoldable pub speaking : List ℕ → List ℕ → Command
@@ -51,6 +60,6 @@ withReceiver line word =
     if same line (octets "show") then Order order.Show else
     speaking line word
 
--- the command of a line: where there is no receiver yet, only those that lead to one are commands
+-- the command of a line: where there is no receiver yet, those that need one are no commands
 unfoldable pub commandOf : List ℕ → Bool → Command
 commandOf line ready = if ready then withReceiver line (fieldOf 0 line) else settingUp line (fieldOf 0 line)

@@ -1,7 +1,7 @@
 -- What a line says, by its command and its fields. The octets of a PDU or a message go to the first octets of a lent buffer.
---   roomOf, segmentOf, ackOf, dropOf   a line of that command
---   hearOf, accessOf, controlOf        the same, and the buffer with its octets
---   lineOf line ready out              what a line says, where a receiver is ready or not, and the buffer
+--   roomOf, segmentOf, ackOf, dropOf, propertyOf   a line of that command
+--   hearOf, accessOf, controlOf, readingsOf        the same, and the buffer with its octets
+--   lineOf line ready out                          what a line says, where a receiver is ready or not, and the buffer
 use mathlib.Core.Bool.{Bool}
 use mathlib.Core.List.{List, [], _∷_}
 use Prim.Native.Nat.{ℕ}
@@ -20,8 +20,9 @@ use Rattle.commands.specs.declared.command.Command.the-variants as comma
 use Rattle.commands.specs.declared.line.Sending.the-variants.{Access, Control, Segment, Acknowledgement}
 use Rattle.commands.specs.declared.line.GivingUp.the-variants.{Message, Session}
 use Rattle.commands.specs.declared.line.Line.{Line}
-use Rattle.commands.specs.declared.line.Line.the-variants.{Skipped, Unread, Give, SetUp, Room, Hear, Send, GiveUp, Show}
+use Rattle.commands.specs.declared.line.Line.the-variants.{Skipped, Unread, Give, SetUp, Room, Hear, Send, GiveUp, Show, Property, Forget, Readings}
 use Rattle.commands.specs.Command.{commandOf}
+use Rattle.commands.specs.Naming.{withKind}
 use Rattle.commands.specs.Request.{upTo, withKey, withMic, withRequest}
 
 -- a line made of how many octets were read
@@ -88,11 +89,25 @@ orderOf order.Stop line out = lent (GiveUp Message) out
 orderOf order.Drop line out = lent (dropOf line) out
 orderOf order.Show line out = lent Show out
 
+-- `property P humidity` or `property P temperature`
+unfoldable pub propertyOf : List ℕ → Line
+propertyOf line =
+    upTo 0xFFFF (fieldOf 1 line) Unread λ property.
+    withKind (behind 2 line) Unread λ kind.
+    Property property kind
+
+-- `readings MESSAGE`
+unfoldable pub readingsOf : List ℕ → List ℕ → Lent Line
+readingsOf line out = withOctets (behind 1 line) out λ len. Readings len
+
 -- a line of a command
 unfoldable pub saidBy : Command → List ℕ → List ℕ → Lent Line
 saidBy (command.Order o) line out = orderOf o line out
 saidBy (command.Give item) line out = lent (Give item) out
 saidBy command.SetUp line out = lent SetUp out
+saidBy command.Property line out = lent (propertyOf line) out
+saidBy command.Forget line out = lent Forget out
+saidBy command.Readings line out = readingsOf line out
 saidBy command.Unknown line out = lent Unread out
 
 -- a line with no octets, or that begins with #, is skipped; one of over 4,095 is unread

@@ -2,7 +2,7 @@
 use super::setting::Item;
 use text::field;
 ghost use mathlib.Core.Path.{_≡_};
-ghost use Rattle.commands.specs.Command.{givingKey, settingUp, speaking, withReceiver, commandOf};
+ghost use Rattle.commands.specs.Command.{reading, givingKey, settingUp, speaking, withReceiver, commandOf};
 
 pub(crate) enum Command {
     // One of the lines that lead to `setup`.
@@ -10,6 +10,12 @@ pub(crate) enum Command {
     SetUp,
     // One of the lines that need a receiver.
     Order(Order),
+    // A property is named.
+    Property,
+    // All names are forgotten.
+    Forget,
+    // The readings of a message are asked for.
+    Readings,
     // No command.
     Unknown,
 }
@@ -27,7 +33,7 @@ pub(crate) enum Order {
     Show,
 }
 
-// The command of a line. Where there is no receiver yet, only the lines that set one up are commands.
+// The command of a line. Where there is no receiver yet, only the lines that set one up and those that read what sensors say are commands.
 pub(crate) fn of(line: &[u8], ready: bool) -> Command
     ensures { λ r. ⌜ r ≡ commandOf (now (line .entry)) ready ⌝ }
 {
@@ -60,7 +66,7 @@ fn with_receiver(line: &[u8], word: &[u8]) -> Command
     speaking(line, word)
 }
 
-// The words that send, and those that lead to a receiver.
+// The words that send, and those that need no receiver.
 fn speaking(line: &[u8], word: &[u8]) -> Command
     ensures { λ r. ⌜ r ≡ speaking (now (line .entry)) (now (word .entry)) ⌝ }
 {
@@ -79,7 +85,7 @@ fn speaking(line: &[u8], word: &[u8]) -> Command
     setting_up(line, word)
 }
 
-// The words that lead to a receiver.
+// The words that lead to a receiver, and those that read what sensors say.
 fn setting_up(line: &[u8], word: &[u8]) -> Command
     ensures { λ r. ⌜ r ≡ settingUp (now (line .entry)) (now (word .entry)) ⌝ }
 {
@@ -98,12 +104,12 @@ fn setting_up(line: &[u8], word: &[u8]) -> Command
     if common::equal(line, b"setup") {
         return Command::SetUp;
     }
-    giving_key(word)
+    giving_key(line, word)
 }
 
-// The words that give a key.
-fn giving_key(word: &[u8]) -> Command
-    ensures { λ r. ⌜ r ≡ givingKey (now (word .entry)) ⌝ }
+// The words that give a key, and those that read what sensors say.
+fn giving_key(line: &[u8], word: &[u8]) -> Command
+    ensures { λ r. ⌜ r ≡ givingKey (now (line .entry)) (now (word .entry)) ⌝ }
 {
     if common::equal(word, b"netkey") {
         return Command::Give(Item::NetKey);
@@ -113,6 +119,22 @@ fn giving_key(word: &[u8]) -> Command
     }
     if common::equal(word, b"devkey") {
         return Command::Give(Item::DevKey);
+    }
+    reading(line, word)
+}
+
+// The words that read what sensors say.
+fn reading(line: &[u8], word: &[u8]) -> Command
+    ensures { λ r. ⌜ r ≡ reading (now (line .entry)) (now (word .entry)) ⌝ }
+{
+    if common::equal(word, b"property") {
+        return Command::Property;
+    }
+    if common::equal(line, b"properties") {
+        return Command::Forget;
+    }
+    if common::equal(word, b"readings") {
+        return Command::Readings;
     }
     Command::Unknown
 }

@@ -1,10 +1,15 @@
-// What stands beside the receiver: what was given since the last `setup`, and how much room is lent.
+// What stands beside the receiver: what was given since the last `setup`, how much room is lent, and which properties are named.
 use super::line::Line;
 use super::setting;
 use super::setting::Item;
 use node::setup::Setup;
+use sensor::properties;
+use sensor::properties::Answer;
+use sensor::properties::Kind;
+use sensor::properties::Properties;
 ghost use mathlib.Core.Path.{_≡_};
-ghost use Rattle.commands.specs.Desk.{atStart, afterSetup, noted, notingRoom, noting};
+ghost use Rattle.sensor.specs.Properties.{naming};
+ghost use Rattle.commands.specs.Desk.{atStart, afterSetup, noted, notingRoom, notingProperty, forgetting, noting};
 
 // The lengths of the buffers lent for a PDU and for a message.
 pub struct Room {
@@ -17,6 +22,8 @@ pub struct Desk {
     pub ready: bool,
     pub given: Setup,
     pub room: Room,
+    // Which properties are named.
+    pub properties: Properties,
 }
 
 // What a line is answered that needs no receiver.
@@ -25,6 +32,8 @@ pub enum Reply {
     Unread,
     // A line that is skipped.
     Silence,
+    // 14: the property is refused.
+    Refused,
 }
 
 // What a line leaves.
@@ -44,22 +53,25 @@ pub fn start() -> Desk
             forward: 29,
             message: 384,
         },
+        properties: properties::none(),
     }
 }
 
-// The desk after a `setup`: what was given is forgotten, and there is a receiver if this one was ready or one before it.
+// The desk after a `setup`: what was given is forgotten, and there is a receiver if this one was ready or one before it. Room and names stay.
 pub fn after_setup(d: Desk, ready: bool) -> Desk
     ensures { λ r. ⌜ r ≡ afterSetup d ready ⌝ }
 {
     let room = d.room;
+    let properties = d.properties;
     Desk {
         ready: d.ready || ready,
         given: setting::nothing(),
         room,
+        properties,
     }
 }
 
-// Notes a line that needs no receiver; any other is unread.
+// Notes a line that needs no receiver; any other is unread, and so are readings, which are answered elsewhere.
 pub fn note(d: Desk, said: Line, line: &[u8]) -> Noted
     ensures { λ r. ⌜ r ≡ noting d said (now (line .entry)) ⌝ }
 {
@@ -73,6 +85,9 @@ pub fn note(d: Desk, said: Line, line: &[u8]) -> Noted
         Line::Send(_) => unread(d),
         Line::GiveUp(_) => unread(d),
         Line::Show => unread(d),
+        Line::Property { property, kind } => name(d, property, kind),
+        Line::Forget => forget(d),
+        Line::Readings(_) => unread(d),
     }
 }
 
@@ -120,6 +135,42 @@ fn make_room(d: Desk, room: Room) -> Noted
 {
     let mut desk = d;
     desk.room = room;
+    Noted {
+        desk,
+        reply: Reply::Ok,
+    }
+}
+
+// A line that names a property.
+fn name(d: Desk, property: u16, kind: Kind) -> Noted
+    ensures { λ r. ⌜ r ≡ notingProperty d (naming (d .properties) property kind) ⌝ }
+{
+    let before = d.properties;
+    let naming = properties::name(before, property, kind);
+    let answer = naming.answer;
+    match answer {
+        Answer::Named => {
+            let after = naming.properties;
+            let mut desk = d;
+            desk.properties = after;
+            Noted {
+                desk,
+                reply: Reply::Ok,
+            }
+        }
+        Answer::Refused => Noted {
+            desk: d,
+            reply: Reply::Refused,
+        },
+    }
+}
+
+// A line that forgets all names.
+fn forget(d: Desk) -> Noted
+    ensures { λ r. ⌜ r ≡ forgetting d ⌝ }
+{
+    let mut desk = d;
+    desk.properties = properties::none();
     Noted {
         desk,
         reply: Reply::Ok,

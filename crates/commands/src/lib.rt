@@ -2,5 +2,6 @@
 mod command;
 pub mod desk;
 pub mod line;
+mod naming;
 mod requesting;
 pub mod setting;

@@ -2,6 +2,8 @@
 use super::command::Command;
 use super::command::Order;
 use super::desk::Room;
+use super::naming::KindField;
+use super::naming::kind_of;
 use super::requesting::Asked;
 use super::requesting::KeyField;
 use super::requesting::MicField;
@@ -10,6 +12,7 @@ use super::requesting::mic_of;
 use super::requesting::request_of;
 use super::setting::Item;
 use sending::request::Request;
+use sensor::properties::Kind;
 use text::field;
 use text::hex;
 use text::hex::Octets;
@@ -20,7 +23,7 @@ use text::number::Short;
 use transport::securing::MessageKey;
 ghost use mathlib.Core.Path.{_≡_};
 ghost use Rattle.common.specs.Lent.{lent};
-ghost use Rattle.commands.specs.Line.{roomOf, hearOf, accessOf, controlOf, segmentOf, ackOf, dropOf, orderOf, lineOf};
+ghost use Rattle.commands.specs.Line.{roomOf, hearOf, accessOf, controlOf, segmentOf, ackOf, dropOf, orderOf, propertyOf, readingsOf, lineOf};
 
 pub enum Line {
     // No octets, or a line that begins with #: nothing is answered.
@@ -36,6 +39,12 @@ pub enum Line {
     Send(Sending),
     GiveUp(GivingUp),
     Show,
+    // A property is named as humidity or temperature.
+    Property { property: u16, kind: Kind },
+    // All names are forgotten.
+    Forget,
+    // The readings of a message of so many octets are asked for.
+    Readings(usize),
 }
 
 // What is sent.
@@ -70,7 +79,7 @@ pub enum GivingUp {
     Session(u16),
 }
 
-// Reads a line. Where there is no receiver yet, only those lines fit that set one up. Over 4,095 octets are too long.
+// Reads a line. Where there is no receiver yet, no line fits that needs one. Over 4,095 octets are too long.
 pub fn read(line: &[u8], ready: bool, octets: &mut [u8]) -> Line
     ensures { λ r. ⌜ lent r (now (octets .exit)) ≡ lineOf (now (line .entry)) ready (now (octets .entry)) ⌝ }
 {
@@ -87,6 +96,9 @@ pub fn read(line: &[u8], ready: bool, octets: &mut [u8]) -> Line
         Command::Order(order) => read_order(order, line, octets),
         Command::Give(item) => Line::Give(item),
         Command::SetUp => Line::SetUp,
+        Command::Property => property(line),
+        Command::Forget => Line::Forget,
+        Command::Readings => readings(line, octets),
         Command::Unknown => Line::Unread,
     }
 }
@@ -212,4 +224,27 @@ fn room(line: &[u8]) -> Line
         forward: forward as usize,
         message: message as usize,
     })
+}
+
+// `property P humidity` or `property P temperature`.
+fn property(line: &[u8]) -> Line
+    ensures { λ r. ⌜ r ≡ propertyOf (now (line .entry)) ⌝ }
+{
+    let Short::Value(property) = number::read_short(field::nth(line, 1)) else {
+        return Line::Unread;
+    };
+    let KindField::Fits(kind) = kind_of(field::last(line, 2)) else {
+        return Line::Unread;
+    };
+    Line::Property { property, kind }
+}
+
+// `readings MESSAGE`.
+fn readings(line: &[u8], octets: &mut [u8]) -> Line
+    ensures { λ r. ⌜ lent r (now (octets .exit)) ≡ readingsOf (now (line .entry)) (now (octets .entry)) ⌝ }
+{
+    match hex::read(field::last(line, 1), octets) {
+        Octets::Count(len) => Line::Readings(len),
+        Octets::NotHex => Line::Unread,
+    }
 }

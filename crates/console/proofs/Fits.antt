@@ -1,6 +1,6 @@
 -- Each line has an answer that fits, and no answer is cut: room is made before it is put.
 -- Assumes nothing.
-use mathlib.Core.List.{List, [], _∷_}
+use mathlib.Core.List.{List}
 use mathlib.Core.Path.{_≡_, ap, sym}
 use Prim.Native.Nat.{ℕ, _≤_}
 use denote.Enum.Declared.{tagOf}
@@ -16,12 +16,13 @@ use Rattle.commands.proofs.line.Line.{the-type}
 use Rattle.text.specs.Written.{putting}
 use Rattle.answers.specs.Fits.{Fits}
 use Rattle.answers.proofs.Fits.{fits-whole, given-up-fits, set-up-fits, noted-fits}
+use Rattle.answers.proofs.ReadingsFit.{readings-fit}
 use Rattle.console.specs.declared.step.Console.{Console}
 use Rattle.console.specs.Receiving.{hears, speaks, givesUp, shows}
-use Rattle.console.specs.Step.{notes, setsUp, stepping}
+use Rattle.console.specs.Step.{notes, tells, setsUp, stepping}
 use Rattle.console.specs.Input.{freed, behindAnswers}
 use Rattle.console.proofs.InputLaws.{keeps-free}
-use Rattle.console.proofs.StepLaws.{noted-is}
+use Rattle.console.proofs.StepLaws.{notedTags, noted-is}
 
 -- ---- by what the line says
 module _ (c : Console) (said : Line) (text octets : List ℕ) where
@@ -44,15 +45,19 @@ module _ (c : Console) (said : Line) (text octets : List ℕ) where
   unfolding stepping givesUp
   fits-give-up what k = rw k (given-up-fits _)
 
+  pub fits-readings : (len : ℕ) → said ≡ line.Readings len → Fits (stepping c said text octets .text)
+  unfolding stepping tells
+  fits-readings len k = rw k (readings-fit _ _)
+
   pub fits-set-up : said ≡ line.SetUp → Fits (stepping c said text octets .text)
   unfolding stepping setsUp
   fits-set-up k = rw k (set-up-fits _)
 
-  pub fits-note : OneOf (0 ∷ 1 ∷ 2 ∷ 4 ∷ []) (tagOf the-type said) → Fits (stepping c said text octets .text)
+  pub fits-note : OneOf notedTags (tagOf the-type said) → Fits (stepping c said text octets .text)
   unfolding notes
   fits-note k = rw (noted-is c text octets said k) (noted-fits _)
 
-pub ruleset fits-rules = (fits-hear, fits-send, fits-show, fits-give-up, fits-set-up, fits-note)
+pub ruleset fits-rules = (fits-hear, fits-send, fits-show, fits-give-up, fits-readings, fits-set-up, fits-note)
 
 -- ---- what fits stands whole behind the others
 pub put-whole : (text out : List ℕ) (end : ℕ) → Fits text → 8192 ≤ length out → behindAnswers text (lent end out) ≡ putting text out (freed (length out) end)

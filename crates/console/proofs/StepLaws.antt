@@ -23,27 +23,35 @@ use Rattle.commands.specs.Desk.{afterSetup, noting}
 use Rattle.commands.proofs.line.Line.{the-type}
 use Rattle.text.specs.Written.{putting}
 use Rattle.answers.specs.Answer.{setUpText, notedText}
+use Rattle.answers.specs.Readings.{readingsText}
 use Rattle.console.specs.declared.step.Console.{Console}
 use Rattle.console.specs.Answered.{put, answerPut}
 use Rattle.console.specs.Receiving.{hears, speaks, givesUp, shows}
-use Rattle.console.specs.Step.{console, notes, besideReceiver, setUpAs, setsUp, stepping}
+use Rattle.console.specs.Step.{console, notes, tells, besideReceiver, setUpAs, setsUp, stepping}
 use Rattle.console.proofs.AnsweredLaws.{put-answer, put-part}
+
+-- the lines that are noted, by their places in the enum: those that are skipped or unread, what leads to a setup, the room, and the names
+abbrev pub notedTags : List ℕ
+notedTags = 0 ∷ 1 ∷ 2 ∷ 4 ∷ 9 ∷ 10 ∷ []
 
 module _ (c : Console) (text octets : List ℕ) where
   -- every other line is noted
   pub noted-is :
-      (l : Line) → OneOf (0 ∷ 1 ∷ 2 ∷ 4 ∷ []) (tagOf the-type l)
+      (l : Line) → OneOf notedTags (tagOf the-type l)
       → stepping c l text octets ≡ besideReceiver (c .receiver) (notes (c .desk) l text)
   unfolding stepping notes noting
   noted-is line.Skipped k = refl
   noted-is line.Unread k = refl
   noted-is (line.Give item) k = refl
-  noted-is line.SetUp k = absurd (miss (0 ∷ 1 ∷ 2 ∷ 4 ∷ []) 3 tt k)
+  noted-is line.SetUp k = absurd (miss notedTags 3 tt k)
   noted-is (line.Room room) k = refl
-  noted-is (line.Hear len) k = absurd (miss (0 ∷ 1 ∷ 2 ∷ 4 ∷ []) 5 tt k)
-  noted-is (line.Send s) k = absurd (miss (0 ∷ 1 ∷ 2 ∷ 4 ∷ []) 6 tt k)
-  noted-is (line.GiveUp what) k = absurd (miss (0 ∷ 1 ∷ 2 ∷ 4 ∷ []) 7 tt k)
-  noted-is line.Show k = absurd (miss (0 ∷ 1 ∷ 2 ∷ 4 ∷ []) 8 tt k)
+  noted-is (line.Hear len) k = absurd (miss notedTags 5 tt k)
+  noted-is (line.Send s) k = absurd (miss notedTags 6 tt k)
+  noted-is (line.GiveUp what) k = absurd (miss notedTags 7 tt k)
+  noted-is line.Show k = absurd (miss notedTags 8 tt k)
+  noted-is (line.Property property kind) k = refl
+  noted-is line.Forget k = refl
+  noted-is (line.Readings len) k = absurd (miss notedTags 11 tt k)
 
 module _ (out : List ℕ) (at n : ℕ) (o : List ℕ) where
   -- ---- a line that needs no receiver
@@ -52,6 +60,12 @@ module _ (out : List ℕ) (at n : ℕ) (o : List ℕ) where
       → put (m .desk) n o ≡ answerPut (notes d said line) out at
   unfolding notes
   noted d said line m h e = rw (← h) (put-answer out at n o (m .desk) _ e)
+
+  -- ---- what a message says
+  pub told :
+      (d : Desk) (message : List ℕ) → lent n o ≡ putting (readingsText (d .properties) message) out at → put d n o ≡ answerPut (tells d message) out at
+  unfolding tells
+  told d message e = put-answer out at n o d _ e
 
   -- ---- `setup`
   module _ (c : Console) (m : Made) (d : Desk) (h : m ≡ settingUp (c .desk .given)) (e : lent n o ≡ putting (setUpText (m .answer)) out at) where
@@ -94,17 +108,23 @@ module _ (out : List ℕ) (at n : ℕ) (o : List ℕ) where
     unfolding stepping
     step-show q k e = rw k (put-part out at n o (console (c .desk)) q _ e)
 
+    pub step-readings :
+        (len : ℕ) (message : List ℕ) (d : Desk) → said ≡ line.Readings len → message ≡ take len octets → put d n o ≡ answerPut (tells (c .desk) message) out at
+        → put (console d (c .receiver)) n o ≡ answerPut (stepping c said text octets) out at
+    unfolding stepping
+    step-readings len message d k cut e = rw (k, ← cut) (put-part out at n o (λ (x : Desk). console x (c .receiver)) d _ e)
+
     pub step-set-up :
         (d : Console) → said ≡ line.SetUp → put d n o ≡ answerPut (setsUp c) out at → put d n o ≡ answerPut (stepping c said text octets) out at
     unfolding stepping
     step-set-up d k e = rw k e
 
     pub step-note :
-        (d : Desk) → OneOf (0 ∷ 1 ∷ 2 ∷ 4 ∷ []) (tagOf the-type said) → put d n o ≡ answerPut (notes (c .desk) said text) out at
+        (d : Desk) → OneOf notedTags (tagOf the-type said) → put d n o ≡ answerPut (notes (c .desk) said text) out at
         → put (console d (c .receiver)) n o ≡ answerPut (stepping c said text octets) out at
     step-note d k e =
         rw (noted-is c text octets said k) (put-part out at n o (λ (x : Desk). console x (c .receiver)) d _ e)
 
 pub ruleset set-up-rules = (set-up-ready, set-up-refused)
 
-pub ruleset step-rules = (step-hear, step-send, step-give-up, step-show, step-set-up, step-note)
+pub ruleset step-rules = (step-hear, step-send, step-give-up, step-show, step-readings, step-set-up, step-note)

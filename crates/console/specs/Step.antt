@@ -19,6 +19,7 @@ use Rattle.commands.specs.Desk.{atStart, afterSetup, noting}
 use Rattle.commands.specs.Line.{lineOf}
 use Rattle.commands.specs.Setting.{nothing}
 use Rattle.answers.specs.Answer.{setUpText, notedText}
+use Rattle.answers.specs.Readings.{readingsText}
 use Rattle.console.specs.declared.step.Console.{Console}
 use Rattle.console.specs.Answered.{Answered, answered}
 use Rattle.console.specs.Receiving.{hears, speaks, givesUp, shows}
@@ -33,6 +34,10 @@ starting = console atStart (settingUp nothing .receiver)
 -- a line that needs no receiver
 unfoldable pub notes : Desk → Line → List ℕ → Answered Desk
 notes d said line = answered (noting d said line .desk) (notedText (noting d said line .reply))
+
+-- `readings MESSAGE`: the desk stays as it is
+unfoldable pub tells : Desk → List ℕ → Answered Desk
+tells d message = answered d (readingsText (d .properties) message)
 
 -- the receiver stays, and the desk is what was noted
 abbrev pub besideReceiver : Receiver → Answered Desk → Answered Console
@@ -60,7 +65,10 @@ stepping c (line.Send sending) text octets = besideDesk (c .desk) (speaks (c .re
 stepping c (line.GiveUp what) text octets = besideDesk (c .desk) (givesUp (c .receiver) what)
 stepping c line.Show text octets = besideDesk (c .desk) (shows (c .receiver))
 stepping c line.SetUp text octets = setsUp c
+stepping c (line.Readings len) text octets = besideReceiver (c .receiver) (tells (c .desk) (take len octets))
 stepping c (line.Give item) text octets = besideReceiver (c .receiver) (notes (c .desk) (line.Give item) text)
+stepping c (line.Property property kind) text octets = besideReceiver (c .receiver) (notes (c .desk) (line.Property property kind) text)
+stepping c line.Forget text octets = besideReceiver (c .receiver) (notes (c .desk) line.Forget text)
 stepping c (line.Room room) text octets = besideReceiver (c .receiver) (notes (c .desk) (line.Room room) text)
 stepping c line.Skipped text octets = besideReceiver (c .receiver) (notes (c .desk) line.Skipped text)
 stepping c line.Unread text octets = besideReceiver (c .receiver) (notes (c .desk) line.Unread text)

@@ -9,7 +9,7 @@ use receiver::state::Receiver;
 ghost use mathlib.Core.Path.{_≡_};
 ghost use Rattle.answers.specs.Fits.{Fits};
 ghost use Rattle.console.specs.Answered.{put, answerPut};
-ghost use Rattle.console.specs.Step.{starting, notes, setsUp, stepping};
+ghost use Rattle.console.specs.Step.{starting, notes, tells, setsUp, stepping};
 
 // What the console carries from line to line.
 pub(crate) struct Console {
@@ -60,6 +60,10 @@ pub(crate) fn step(
             desk,
             receiver: receiving::show(r, out, at),
         },
+        Line::Readings(len) => Console {
+            desk: tell(desk, text::first(octets, len), out, at),
+            receiver: r,
+        },
         Line::SetUp => set_up(c, out, at),
         _ => Console {
             desk: note(desk, said, line, out, at),
@@ -76,6 +80,15 @@ fn note(d: Desk, said: Line, line: &[u8], out: &mut [u8], at: &mut usize) -> Des
     let reply = noted.reply;
     *at = answer::put_noted(reply, out, *at);
     noted.desk
+}
+
+// What a message says, by the properties that are named; the desk stays.
+fn tell(d: Desk, message: &[u8], out: &mut [u8], at: &mut usize) -> Desk
+    ensures { λ e. ⌜ put e (now (at .exit)) (now (out .exit)) ≡ answerPut (tells d (now (message .entry))) (now (out .entry)) (now (at .entry)) ⌝ }
+{
+    let properties = d.properties;
+    *at = answers::readings::put_readings(properties, message, out, *at);
+    d
 }
 
 // `setup`: makes the receiver of what was given; a refused one leaves the receiver that was there.

@@ -9,6 +9,7 @@ use Rattle.aes.specs.Cipher.{cipher}
 use Rattle.aes.specs.KeyExpansion.{keySchedule}
 use Rattle.answers.specs.Answer.{heardText, forwardText, spokenText, givenUpText, setUpText, notedText}
 use Rattle.answers.specs.Looking.{receiverText}
+use Rattle.answers.specs.Readings.{readingsText}
 use Rattle.answers.specs.declared.answer.Trials.{Trials}
 use Rattle.commands.specs.Desk.{atStart, afterSetup, noting}
 use Rattle.commands.specs.Line.{lineOf}
@@ -78,6 +79,15 @@ use Rattle.sending.specs.Transmission.{sendingIv, addressOf}
 use Rattle.sending.specs.declared.answer.Answer as spoken-answer
 use Rattle.sending.specs.declared.request.Request.{Request}
 use Rattle.sending.specs.declared.request.Ttl.{Ttl}
+use Rattle.sensor.specs.Answer as sensor-answer
+use Rattle.sensor.specs.Listed as listed
+use Rattle.sensor.specs.Properties as properties
+use Rattle.sensor.specs.Reading as reading
+use Rattle.sensor.specs.Status.{isStatus}
+use Rattle.sensor.specs.declared.list.Refusal as list-refusal
+use Rattle.sensor.specs.declared.properties.Answer as naming-answer
+use Rattle.sensor.specs.declared.properties.Kind.{Kind}
+use Rattle.sensor.specs.declared.properties.Properties.{Properties}
 use Rattle.site.specs.Setting.{setting, ready}
 use Rattle.site.specs.Words as words
 use Rattle.speed.specs.Blocks.{blocksDone}
@@ -86,7 +96,7 @@ use Rattle.speed.specs.Mac.{macDone}
 use Rattle.speed.specs.Open as speed
 use Rattle.text.specs.Field.{is, behind, fieldOf}
 use Rattle.text.specs.Hex.{hexValue, reading, filling, hexText}
-use Rattle.text.specs.Number.{numberOf, atMost, shortOf, octetOf, bitOf, numberText, decimalText}
+use Rattle.text.specs.Number.{numberOf, atMost, shortOf, octetOf, bitOf, numberText, decimalText, hundredthsText}
 use Rattle.text.specs.Octets.{octets as text-octets}
 use Rattle.text.specs.Refusal.{refusalText, refusedText}
 use Rattle.text.specs.Written.{putting}
@@ -229,6 +239,8 @@ pub record Determinate : Type 0 where
   pub number-bit : (text : List ℕ) → Determined (bitOf (numberOf text))
   pub number-put : (label : List ℕ) (n width : ℕ) (out : List ℕ) (at : ℕ) → Determined (putting (label ++ numberText width n) out at)
   pub number-put-decimal : (label : List ℕ) (n : ℕ) (out : List ℕ) (at : ℕ) → Determined (putting (label ++ decimalText n) out at)
+  pub number-put-hundredths :
+      (label : List ℕ) (below : Bool) (n : ℕ) (out : List ℕ) (at : ℕ) → Determined (putting (label ++ hundredthsText below n) out at)
   pub refusal-put : (n : ℕ) (out : List ℕ) (at : ℕ) → Determined (putting (refusalText n) out at)
   pub refusal-put-line : (n : ℕ) (out : List ℕ) (at : ℕ) → Determined (putting (refusedText n) out at)
   -- site
@@ -238,6 +250,18 @@ pub record Determinate : Type 0 where
   pub handed-up : (a : heard-answer.Answer) → Determined (words.handedUp a)
   pub put-said : (seq : ℕ) (a : spoken-answer.Answer) (pdu out : List ℕ) (at : ℕ) → Determined (putting (words.saidText seq a pdu) out at)
   pub put-answer : (a : heard-answer.Answer) (out : List ℕ) (at : ℕ) → Determined (putting (words.answerText a) out at)
+  -- sensor
+  pub is-status : (message : List ℕ) → Determined (isStatus message)
+  pub properties-none : Determined (properties.noProperties)
+  pub properties-kind-of : (p : Properties) (property : ℕ) → Determined (properties.kindOf p property)
+  pub properties-name : (p : Properties) (property : ℕ) (kind : Kind) → Determined (properties.naming p property kind)
+  pub properties-number : (a : naming-answer.Answer) → Determined (properties.paper a)
+  pub reading-count : (value : List ℕ) → Determined (reading.countOf value)
+  pub reading-humidity : (n : ℕ) → Determined (reading.humidityOf n)
+  pub reading-temperature : (n : ℕ) → Determined (reading.temperatureOf (reading.signed n))
+  pub list-record : (p : Properties) (list : List ℕ) (k : ℕ) → Determined (listed.recorded p list k)
+  pub list-count : (p : Properties) (list : List ℕ) → Determined (listed.counted p list)
+  pub list-number : (r : list-refusal.Refusal) → Determined (sensor-answer.refusalNumber r)
   -- commands
   pub nothing : Determined (nothing)
   pub desk-start : Determined (atStart)
@@ -253,3 +277,4 @@ pub record Determinate : Type 0 where
   pub put-noted : (r : Reply) (out : List ℕ) (at : ℕ) → Determined (putting (notedText r) out at)
   pub put-unread : (out : List ℕ) (at : ℕ) → Determined (putting (text-octets "unread\n") out at)
   pub put-receiver : (r : Receiver) (out : List ℕ) (at : ℕ) → Determined (putting (receiverText r) out at)
+  pub put-readings : (p : Properties) (message out : List ℕ) (at : ℕ) → Determined (putting (readingsText p message) out at)

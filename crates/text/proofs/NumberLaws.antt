@@ -1,9 +1,10 @@
--- Numbers: digit by digit a number of i hex digits is below 16 to the power i, and eight digits fit 32 bits; and the rules of what a text reads as.
+-- Numbers: digit by digit a number of i hex digits is below 16 to the power i, and eight digits fit 32 bits; the rules of what a text reads as; and
+-- numbers put behind a label.
 -- Assumes nothing.
 use mathlib.Core.Path.{_≡_, refl, sym, ap, _∙_}
 use mathlib.Core.Bool.{Bool, true, false, _&&_}
-use mathlib.Core.List.{List, _++_}
-use Prim.Native.Nat.{ℕ, suc, _+_, _-_, _*_, _^_, _≤_, _<_}
+use mathlib.Core.List.{List, _++_, append-assoc}
+use Prim.Native.Nat.{ℕ, suc, _+_, _-_, _*_, _/_, _%_, _^_, _≤_, _<_}
 use native.Mathlib.Nat.{pow-suc, pow-le-pow-right}
 use native.Mathlib.Numerals.{add-one}
 use native.Mathlib.Omega.{arith}
@@ -22,7 +23,8 @@ use Rattle.common.proofs.Tests.{by-test, by-choice, and-first, and-second}
 use Rattle.text.specs.declared.number.Number.{Number}
 use Rattle.text.specs.declared.number.Number.the-variants.{Value, NotHex}
 use Rattle.text.specs.Hex.{hexValue}
-use Rattle.text.specs.Number.{digitsBehind, numberOf, atMost, places}
+use Rattle.text.specs.Number.{digitsBehind, numberOf, atMost, places, decimalText, signText, hundredthsText}
+use Rattle.text.specs.Octets.{octets}
 use Rattle.text.specs.Written.{putting}
 use Rattle.text.proofs.FieldLaws.{drop-past}
 use Rattle.text.proofs.WrittenLaws.{put-then}
@@ -151,3 +153,14 @@ module _ (b m least n k : ℕ) (base : 1 < b) (f : Fewest b least n k) (small : 
   put-number label s out at r1 r2 o1 o2 e1 e2 e =
       put-then label s out at r1 r2 o1 o2 e1 e2
       ∙ ap (λ (l : List ℕ). putting (label ++ l) out at) (e ∙ ap (λ (j : ℕ). digits b j n) places-is)
+
+-- ---- a label, behind it the whole part with its sign, and behind that the point and two digits
+pub put-hundredths :
+    (label out s : List ℕ) (below : Bool) (n at r1 r2 r3 : ℕ) (o1 o2 o3 : List ℕ) → lent r1 o1 ≡ putting label out at
+    → lent r2 o2 ≡ putting (signText below ++ decimalText (n / 100)) o1 r1 → lent r3 o3 ≡ putting s o2 r2 → s ≡ octets "." ++ digits 10 2 (n % 100)
+    → lent r3 o3 ≡ putting (label ++ hundredthsText below n) out at
+unfolding hundredthsText
+put-hundredths label out s below n at r1 r2 r3 o1 o2 o3 e1 e2 e3 e =
+    let whole = signText below ++ decimalText (n / 100) in
+    put-then (label ++ whole) s out at r2 r3 o2 o3 (put-then label whole out at r1 r2 o1 o2 e1 e2) e3
+    ∙ ap (λ (l : List ℕ). putting l out at) (rw e (simp append-assoc))

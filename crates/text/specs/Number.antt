@@ -1,12 +1,13 @@
--- Numbers, read from 1 to 8 hex digits, and written in hex with zeros in front up to a width, or in decimal.
+-- Numbers, read from 1 to 8 hex digits, and written in hex with zeros in front up to a width, in decimal, or as hundredths with a point.
 --   numberOf text    what a text reads as
 --   atMost most f x n   f of a number that is at most so much, and else x
 --   shortOf, octetOf, bitOf   a number that is to have at most 16 bits, 8 bits, 1 bit
 --   numberText w n   n in hex, in at least w digits
 --   decimalText n    n in decimal
-use mathlib.Core.Bool.{_&&_}
-use mathlib.Core.List.{List, [], _∷_}
-use Prim.Native.Nat.{ℕ, _+_, _*_, _^_, min, max}
+--   hundredthsText below n   n hundredths in decimal, with two digits behind the point, and - in front where they are below 0
+use mathlib.Core.Bool.{Bool, _&&_}
+use mathlib.Core.List.{List, [], _∷_, _++_}
+use Prim.Native.Nat.{ℕ, _+_, _*_, _/_, _%_, _^_, min, max}
 use lib.Dec.{eqb, leb, ltb}
 use lib.ListN.{length}
 use Rattle.io.specs.Digits.{digits}
@@ -14,6 +15,7 @@ use Rattle.common.specs.Choice.{if_then_else_}
 use Rattle.common.specs.Lists.{tab}
 use Rattle.common.specs.Search.{first}
 use Rattle.text.specs.Hex.{hexValue}
+use Rattle.text.specs.Octets.{octets}
 use Rattle.text.specs.declared.number.Number.{Number}
 use Rattle.text.specs.declared.number.Number.the-variants as number
 use Rattle.text.specs.declared.number.Short.{Short}
@@ -63,3 +65,11 @@ numberText w n = digits 16 (places 16 17 (min (max w 1) 16) n) n
 -- n in decimal
 abbrev pub decimalText : ℕ → List ℕ
 decimalText n = digits 10 (places 10 21 1 n) n
+
+-- in front of a number: - where it is below 0
+abbrev pub signText : Bool → List ℕ
+signText below = if below then octets "-" else []
+
+-- n hundredths: the whole part, the point, and two digits behind it
+unfoldable pub hundredthsText : Bool → ℕ → List ℕ
+hundredthsText below n = signText below ++ decimalText (n / 100) ++ octets "." ++ digits 10 2 (n % 100)

@@ -10,5 +10,6 @@ put-noted-spec =
     tie.close
     (tie.spec
     (λ c. search needs) (λ c. search needs) (λ c κs. search needs) (λ c. search needs) (λ c κs. search needs) (λ c. search needs)
-    (λ c. search needs) (λ c κs. search needs) (λ c. search needs) (λ c. search noted-rules) (λ c. search needs) (λ c. search noted-rules)
+    (λ c. search needs) (λ c κs. search needs) (λ c. search needs) (λ c κs. search needs) (λ c κs. search needs)
+    (λ c. search needs) (λ c. search noted-rules) (λ c. search needs) (λ c. search noted-rules) (λ c. search needs) (λ c. search noted-rules)
     (λ c. search needs) (λ c. search noted-rules))

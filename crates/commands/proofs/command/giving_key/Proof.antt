@@ -1,4 +1,4 @@
--- `command::giving_key` meets its contract: each word is one test.
+-- `command::giving_key` meets its contract: each word is one test, and behind them stand the words that read what sensors say.
 -- Assumes nothing.
 use borrow.Author.Needs.{needs}
 use Rattle.commands.specs.Command.{givingKey}
@@ -12,4 +12,4 @@ giving-key-spec =
     tie.close
     (tie.spec
     (λ c. search needs) (λ c κs. search needs) (λ c. search choice-rules) (λ c. search needs) (λ c κs. search needs) (λ c. search choice-rules)
-    (λ c. search needs) (λ c κs. search needs) (λ c. search choice-rules) (λ c. search choice-rules))
+    (λ c. search needs) (λ c κs. search needs) (λ c. search choice-rules) (λ c κs. search needs) (λ c. search choice-rules))

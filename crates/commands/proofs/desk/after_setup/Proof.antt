@@ -10,9 +10,9 @@ use Rattle.commands.proofs.desk.after_setup.Tie as tie
 
 returns : tie.Need-returns
 returns c =
-    let is = c .before .if1 .t5 in
-    let before = c .before .before .before .args .d .ready in
-    let ready = c .before .before .before .args .ready in
+    let is = c .before .if1 .t6 in
+    let before = c .before .before .before .before .args .d .ready in
+    let ready = c .before .before .before .before .args .ready in
     let either : is ≡ before || ready =
     ⊎-elim (λ w. ready-before is before ready (w .0 .taken) (w .1)) (λ w. ready-now is before ready (w .0 .left) (w .1)) (c .before .if1 .came) in
     rw (c .nothing .ensures, either)

@@ -1,11 +1,11 @@
--- `desk::start` meets its contract: nothing is given.
+-- `desk::start` meets its contract: nothing is given, and no property is named.
 -- Assumes nothing.
 use borrow.Author.Needs.{needs}
 use Rattle.commands.proofs.desk.start.Statement.{statement}
 use Rattle.commands.proofs.desk.start.Tie as tie
 
 returns : tie.Need-returns
-returns c = rw (c .nothing .ensures)
+returns c = rw (c .before .nothing .ensures, c .none .ensures)
 
 pub start-spec : {M : Type 1} → statement M
-start-spec = tie.close (tie.spec (λ c κs. search needs) returns)
+start-spec = tie.close (tie.spec (λ c κs. search needs) (λ c κs. search needs) returns)

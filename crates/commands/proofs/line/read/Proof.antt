@@ -12,5 +12,6 @@ read-spec =
     tie.close
     (tie.spec
     (λ c. search line-rules) (λ c. search needs) (λ c. search line-rules) (λ c. search line-rules) (λ c κs. search needs) (λ c. search needs)
-    (λ c κs. search needs) (λ c. search needs) (λ c. search needs) (λ c. search needs) (λ c. search needs) (λ c. search line-rules)
-    (λ c. search line-rules) (λ c. search line-rules) (λ c. search line-rules))
+    (λ c κs. search needs) (λ c. search needs) (λ c. search needs) (λ c. search needs) (λ c κs. search needs) (λ c. search needs) (λ c. search needs)
+    (λ c κs. search needs) (λ c. search needs) (λ c. search needs) (λ c. search line-rules) (λ c. search line-rules) (λ c. search line-rules)
+    (λ c. search line-rules) (λ c. search line-rules) (λ c. search needs) (λ c. search line-rules) (λ c. search line-rules))

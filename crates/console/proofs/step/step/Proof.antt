@@ -11,6 +11,8 @@ step-spec =
     tie.close
     (tie.spec
     (λ c. search needs) (λ c κs. search needs) (λ c κs. search needs) (λ c. search needs) (λ c κs. search needs) (λ c. search needs) (λ c κs. search needs)
-    (λ c. search needs) (λ c κs. search needs) (λ c. search needs) (λ c κs. search needs) (λ c κs. search needs) (λ c. search needs) (λ c. (search step-rules, search fits-rules))
-    (λ c. search needs) (λ c. (search step-rules, search fits-rules)) (λ c. search needs) (λ c. (search step-rules, search fits-rules)) (λ c. search needs) (λ c. (search step-rules, search fits-rules))
-    (λ c. search needs) (λ c. (search step-rules, search fits-rules)) (λ c. search needs) (λ c. (search step-rules, search fits-rules)))
+    (λ c. search needs) (λ c κs. search needs) (λ c. search needs) (λ c κs. search needs) (λ c κs. search needs) (λ c. search needs) (λ c κs. search needs)
+    (λ c κs. search needs) (λ c. search needs) (λ c. (search step-rules, search fits-rules)) (λ c. search needs) (λ c. (search step-rules, search fits-rules))
+    (λ c. search needs) (λ c. (search step-rules, search fits-rules)) (λ c. search needs) (λ c. (search step-rules, search fits-rules)) (λ c. search needs)
+    (λ c. (search step-rules, search fits-rules)) (λ c. search needs) (λ c. (search step-rules, search fits-rules)) (λ c. search needs)
+    (λ c. (search step-rules, search fits-rules)))

@@ -1,0 +1,12 @@
+-- `desk::forget` meets its contract: no property is named.
+-- Assumes nothing.
+use borrow.Author.Needs.{needs}
+use Rattle.commands.proofs.DeskLaws.{forgotten}
+use Rattle.commands.proofs.desk.forget.Statement.{statement}
+use Rattle.commands.proofs.desk.forget.Tie as tie
+
+returns : tie.Need-returns
+returns c = forgotten (c .before .args .d) _ (c .none .ensures)
+
+pub forget-spec : {M : Type 1} → statement M
+forget-spec = tie.close (tie.spec (λ c κs. search needs) returns)
