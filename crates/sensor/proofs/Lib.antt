@@ -14,5 +14,6 @@ pub mod Counts
 pub mod Accuracy
 pub mod Recorded
 pub mod Written
+pub mod Forms
 pub mod AnswerLaws
 pub mod Naming
