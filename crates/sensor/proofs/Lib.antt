@@ -15,5 +15,6 @@ pub mod Accuracy
 pub mod Recorded
 pub mod Written
 pub mod Forms
+pub mod Instance
 pub mod AnswerLaws
 pub mod Naming

@@ -7,5 +7,6 @@ pub mod Listed
 pub mod Answer
 pub mod Written
 pub mod Recorded
+pub mod Instance
 pub mod Accuracy
 pub mod Naming
