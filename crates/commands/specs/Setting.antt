@@ -37,9 +37,9 @@ abbrev pub nothing : Setup
 nothing =
     record {
       networks = 0;
-      keys = replicate 4 zeroKey;
+      netkeys = replicate 4 zeroKey;
       applications = 0;
-      secrets = replicate 4 (record { key = replicate 16 0; network = 0 });
+      appkeys = replicate 4 (record { key = replicate 16 0; network = 0 });
       device = replicate 16 0;
       first = 0;
       elements = 0;
@@ -87,12 +87,12 @@ sequencesOf texts =
 
 -- the setup with other keys
 abbrev pub withKeys : Setup → ℕ → List Key → ℕ → List BoundKey → List ℕ → Setup
-withKeys s networks keys applications secrets device =
+withKeys s networks netkeys applications appkeys device =
     record {
       networks = networks;
-      keys = keys;
+      netkeys = netkeys;
       applications = applications;
-      secrets = secrets;
+      appkeys = appkeys;
       device = device;
       first = s .first;
       elements = s .elements;
@@ -109,9 +109,9 @@ abbrev pub withAddresses : Setup → ℕ → ℕ → List ℕ → ℕ → List �
 withAddresses s first elements next listened groups =
     record {
       networks = s .networks;
-      keys = s .keys;
+      netkeys = s .netkeys;
       applications = s .applications;
-      secrets = s .secrets;
+      appkeys = s .appkeys;
       device = s .device;
       first = first;
       elements = elements;
@@ -128,9 +128,9 @@ abbrev pub withIndex : Setup → ℕ → Bool → Bool → Setup
 withIndex s iv flag relay =
     record {
       networks = s .networks;
-      keys = s .keys;
+      netkeys = s .netkeys;
       applications = s .applications;
-      secrets = s .secrets;
+      appkeys = s .appkeys;
       device = s .device;
       first = s .first;
       elements = s .elements;
@@ -145,12 +145,12 @@ withIndex s iv flag relay =
 -- with the next network key: past the last place it is only counted
 abbrev pub withNetworkKey : Setup → List ℕ → Setup
 withNetworkKey s key =
-    withKeys s (counted 4 (s .networks)) (set (s .keys) (s .networks) (record { octets = key })) (s .applications) (s .secrets) (s .device)
+    withKeys s (counted 4 (s .networks)) (set (s .netkeys) (s .networks) (record { octets = key })) (s .applications) (s .appkeys) (s .device)
 
 -- with the next application key, bound to a network key
 abbrev pub withApplicationKey : Setup → ℕ → List ℕ → Setup
 withApplicationKey s network key =
-    withKeys s (s .networks) (s .keys) (counted 4 (s .applications)) (set (s .secrets) (s .applications) (record { key = key; network = network })) (s .device)
+    withKeys s (s .networks) (s .netkeys) (counted 4 (s .applications)) (set (s .appkeys) (s .applications) (record { key = key; network = network })) (s .device)
 
 -- with elements from this address on
 abbrev pub withElements : Setup → ℕ → Sequences → Setup
@@ -179,7 +179,7 @@ givenApplicationKey s octet.Unfit key = unfit s
 
 -- `devkey KEY`: the device key
 abbrev pub givenDeviceKey : Setup → Lent Bool → Given
-givenDeviceKey s key = if key .answer then fit (withKeys s (s .networks) (s .keys) (s .applications) (s .secrets) (key .buffer)) else unfit s
+givenDeviceKey s key = if key .answer then fit (withKeys s (s .networks) (s .netkeys) (s .applications) (s .appkeys) (key .buffer)) else unfit s
 
 -- `elements FIRST SEQ..`: the first element's address, then each element's next SEQ, none or more
 abbrev pub givenElements : Setup → Short → Sequences → Given

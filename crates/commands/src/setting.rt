@@ -53,9 +53,9 @@ pub fn nothing() -> Setup
 {
     Setup {
         networks: 0,
-        keys: [Key { octets: [0u8; 16] }; 4],
+        netkeys: [Key { octets: [0u8; 16] }; 4],
         applications: 0,
-        secrets: [BoundKey {
+        appkeys: [BoundKey {
             key: [0u8; 16],
             network: 0,
         }; 4],
@@ -113,7 +113,7 @@ fn with_network_key(s: Setup, octets: [u8; 16]) -> Setup
     let mut after = s;
     after.networks = counted(n, 4);
     if n < 4 {
-        after.keys[n] = Key { octets };
+        after.netkeys[n] = Key { octets };
         return after;
     }
     after
@@ -141,7 +141,7 @@ fn with_application_key(s: Setup, network: usize, key: [u8; 16]) -> Setup
     let mut after = s;
     after.applications = counted(n, 4);
     if n < 4 {
-        after.secrets[n] = BoundKey { key, network };
+        after.appkeys[n] = BoundKey { key, network };
         return after;
     }
     after

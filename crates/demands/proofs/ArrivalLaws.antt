@@ -67,10 +67,10 @@ has-with x i j low h =
     (λ t. has-with-other x i j (eqb-false j i t) ∙ h)
 
 -- a PDU that no key opens hands up nothing
-foreign-none : (r : Receiver) (pdu fwd msg : List ℕ) → noKeyOpens (opening (r .node .keys) (r .node .networks) (r .node .iv) pdu .answer) ≡ true
+foreign-none : (r : Receiver) (pdu fwd msg : List ℕ) → noKeyOpens (opening (r .node .materials) (r .node .networks) (r .node .iv) pdu .answer) ≡ true
     → handedAs (hearing r pdu fwd msg .heard .answer) (hearing r pdu fwd msg .message) ≡ []
 foreign-none r pdu fwd msg t =
-    let y = heard-unopened r fwd msg pdu (unopened (opening (r .node .keys) (r .node .networks) (r .node .iv) pdu .answer) t) in
+    let y = heard-unopened r fwd msg pdu (unopened (opening (r .node .materials) (r .node .networks) (r .node .iv) pdu .answer) t) in
     ap (λ (o : hear.Outcome). handedAs (o .heard .answer) (o .message)) (y .1 .leaves)
 
 module _ (node : Node) (speeches : List Speech) (spent : Spent) where
@@ -139,14 +139,14 @@ module _ (node : Node) (speeches : List Speech) (spent : Spent) where
       low : i < 32
       low = let l = last-low node s w in let m = sent .segment-there in omega arith
 
-      can : sealable (keyAt (node .keys) (s .network)) h ≡ true
+      can : sealable (keyAt (node .materials) (s .network)) h ≡ true
       can = segment-sealable node s w i (sent .segment-there) seq ttl made (sent .seq-fits) (sent .ttl-fits)
 
-      opens : opening (r .node .keys) (r .node .networks) (r .node .iv) pdu ≡ record { answer = network.Opened; trials = trials; header = h }
+      opens : opening (r .node .materials) (r .node .networks) (r .node .iv) pdu ≡ record { answer = network.Opened; trials = trials; header = h }
       unfolding headerOf
       opens =
           rw (sc .same)
-          (open-seal (node .keys) (node .networks) (node .iv) h can (formed node s w i (sent .segment-there) seq ttl) (sent .own-key-first))
+          (open-seal (node .materials) (node .networks) (node .iv) h can (formed node s w i (sent .segment-there) seq ttl) (sent .own-key-first))
 
       taken-is : takenAs (formOf h) q h msg ≡ t
       taken-is =
@@ -175,7 +175,7 @@ module _ (node : Node) (speeches : List Speech) (spent : Spent) where
       unfolding headerOf
       steps =
           let c = length-remembered (r .cache) (s .src) seq ∙ sc .good .cache-places in
-          let dst = allowed-some (h .ctl) (h .src) (h .dst) (within (keyAt (node .keys) (s .network)) h can .allowed) in
+          let dst = allowed-some (h .ctl) (h .src) (h .dst) (within (keyAt (node .materials) (s .network)) h can .allowed) in
           placed-steps node made s w spoken-of q (sc .same) (good-cache r (sc .good) _ c) (filled k) i (sent .segment-there) msg dst big seq ttl
           (entry-room node speeches spent r filled sc few (s .src)) (session-room node speeches spent r filled sc few k (sent .one-of)) (sc .stages k (sent .one-of))
 
@@ -261,7 +261,7 @@ module _ (node : Node) (speeches : List Speech) (spent : Spent) where
     pub event-next : (e : Event) → Comes node speeches spent e → Next r filled e (callAs node speeches e fwd msg)
     event-next (Segment k i seq ttl) c = segment-next k i seq ttl c
     event-next (Foreign pdu) c =
-        let none : noKeyOpens (opening (r .node .keys) (r .node .networks) (r .node .iv) pdu .answer) ≡ true = rw (sc .same) c in
+        let none : noKeyOpens (opening (r .node .materials) (r .node .networks) (r .node .iv) pdu .answer) ≡ true = rw (sc .same) c in
         let u = unopened-leaves r pdu fwd msg none in
         record { hands = foreign-none r pdu fwd msg none; stores = tt {0}; counts = tt {0}; scenery = rw (u .receiver-stays) sc }
     event-next (Ask net src) c =

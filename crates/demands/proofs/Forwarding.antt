@@ -23,16 +23,16 @@ use Rattle.receiver.proofs.Laws.Heard.{heard-forwarded, heard-kept}
 use Rattle.demands.specs.Forwarding.{Forwards}
 
 -- the keys of a node that setup made are of octets
-pub octet-keys : (node : Node) → WellMade node → (i : ℕ) → i < min (node .networks) 4 → OctetKey (keyAt (node .keys) i)
+pub octet-keys : (node : Node) → WellMade node → (i : ℕ) → i < min (node .networks) 4 → OctetKey (keyAt (node .materials) i)
 octet-keys node w i h =
-    let given = getD (node .given) i (record { octets = [] }) .octets in
+    let given = getD (node .netkeys) i (record { octets = [] }) .octets in
     subst OctetKey (sym (w .derived i (omega arith)))
     (record { encryption-octets = octets-encryption given; privacy-octets = octets-privacy given })
 
 pub forwards-exactly : Forwards
 forwards-exactly r pdu fwd msg trials h g p x =
     let node = r .node in
-    let again = resealed (node .keys) (node .networks) (node .iv) pdu trials h fwd (octet-keys node (g .node-made)) p (x .wide) (x .opens) in
+    let again = resealed (node .materials) (node .networks) (node .iv) pdu trials h fwd (octet-keys node (g .node-made)) p (x .wide) (x .opens) in
     by-test (forwards (node .relay) (isLocal node (h .dst)) h)
     (λ t. rw t
     (heard-forwarded r pdu fwd msg (x .wide) (x .big) h trials (x .opens) (x .new) t

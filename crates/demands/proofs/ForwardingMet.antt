@@ -31,7 +31,7 @@ use Rattle.demands.proofs.Forwarding.{octet-keys}
 use Rattle.demands.proofs.Instance.{ready, node, holds}
 
 abbrev key : NetworkKeys
-key = keyAt (node .keys) 0
+key = keyAt (node .materials) 0
 
 made : WellMade node
 made = good-fresh shed ready .node-made
@@ -51,14 +51,14 @@ can =
     sealable-where key passing nid-fits (omega arith) (omega arith) allowed (omega arith) (omega arith)
 
 -- no key is tried before it
-one-trial : length (candidates (node .keys) 0 (key .nid)) + 1 ≡ 1
+one-trial : length (candidates (node .materials) 0 (key .nid)) + 1 ≡ 1
 unfolding candidates picked
 one-trial = refl
 
-opens : opening (node .keys) (node .networks) (node .iv) passingPdu ≡ record { answer = Opened; trials = 1; header = passing }
+opens : opening (node .materials) (node .networks) (node .iv) passingPdu ≡ record { answer = Opened; trials = 1; header = passing }
 opens =
     let n = holds .one-network in
-    open-seal (node .keys) (node .networks) (node .iv) passing can (record { dst-fits = omega arith; zeros-behind = refl })
+    open-seal (node .materials) (node .networks) (node .iv) passing can (record { dst-fits = omega arith; zeros-behind = refl })
     (record { held = omega arith; near = inl (sym (holds .index)); none-before = λ j h. absurd (omega arith) })
     ∙ ap (λ (t : ℕ). record { answer = Opened; trials = t; header = passing }) one-trial
 

@@ -61,7 +61,7 @@ use Rattle.demands.proofs.WholeSent.{wholeHeader}
 
 -- ---- a transmission that sealing does not refuse is sent
 module _ (r : Receiver) (element : ℕ) (h : Header) (buf : List ℕ) (left-seq : nextSeq r element ≤ 0xFFFFFF) (key : h .key < 4) (wide : 29 ≤ length buf)
-    (can : sealable (keyAt (r .node .keys) (h .key)) (stamped r element h) ≡ true) where
+    (can : sealable (keyAt (r .node .materials) (h .key)) (stamped r element h) ≡ true) where
   sends : Sends r element h buf
   sends = record { seq-left = left-seq; key-there = key; wide = wide; can = can }
 
@@ -96,7 +96,7 @@ module _ (sender : Receiver) (setup : Setup) (q : Request) (words : Words) (buf 
   from-unicast : isUnicast (s .src) ≡ true
   from-unicast = local-is-unicast (sender .node) own (s .src) (address-local (sender .node) own (q .element) there)
 
-  nid-fits : keyAt (node .keys) (q .network) .nid ≤ 127
+  nid-fits : keyAt (node .materials) (q .network) .nid ≤ 127
   nid-fits = let n = held sender node (b .shared) q words a in rw (well .derived (q .network) (omega arith)) (nid-low _)
 
   key-low : q .network < 4
@@ -104,10 +104,10 @@ module _ (sender : Receiver) (setup : Setup) (q : Request) (words : Words) (buf 
 
   -- ---- whole
   whole-can :
-      (ctl : Bool) (pdu : List ℕ) → 1 ≤ length pdu → length pdu ≤ mostTransport ctl → sealable (keyAt (node .keys) (q .network)) (wholeHeader s ctl ttl pdu) ≡ true
+      (ctl : Bool) (pdu : List ℕ) → 1 ≤ length pdu → length pdu ≤ mostTransport ctl → sealable (keyAt (node .materials) (q .network)) (wholeHeader s ctl ttl pdu) ≡ true
   whole-can ctl pdu some most =
       let allowed = addresses-allowed ctl (s .src) (q .dst) from-unicast (for-allowed node well (q .dst) ctl (b .for-here)) in
-      sealable-where (keyAt (node .keys) (q .network)) (wholeHeader s ctl ttl pdu) nid-fits ttl-fits (omega arith) allowed some most
+      sealable-where (keyAt (node .materials) (q .network)) (wholeHeader s ctl ttl pdu) nid-fits ttl-fits (omega arith) allowed some most
 
   whole-made :
       (h : Header) (ctl : Bool) (pdu : List ℕ) → stamped sender (q .element) h ≡ wholeHeader s ctl ttl pdu → 1 ≤ length pdu
@@ -115,10 +115,10 @@ module _ (sender : Receiver) (setup : Setup) (q : Request) (words : Words) (buf 
   whole-made h ctl pdu e some most =
       let k = key-low in
       let ek : h .key ≡ q .network = sym (stamps sender (q .element) h .key-stays) ∙ ap (λ (x : Header). x .key) e in
-      let own-header = subst (λ (x : Header). sealable (keyAt (node .keys) (q .network)) x ≡ true) (sym e) (whole-can ctl pdu some most) in
-      let own-key = subst (λ (n : ℕ). sealable (keyAt (node .keys) n) (stamped sender (q .element) h) ≡ true) (sym ek) own-header in
+      let own-header = subst (λ (x : Header). sealable (keyAt (node .materials) (q .network)) x ≡ true) (sym e) (whole-can ctl pdu some most) in
+      let own-key = subst (λ (n : ℕ). sealable (keyAt (node .materials) n) (stamped sender (q .element) h) ≡ true) (sym ek) own-header in
       saying-made sender (q .element) h buf (omega arith) (omega arith) wide
-      (subst (λ (x : List NetworkKeys). sealable (keyAt x (h .key)) (stamped sender (q .element) h) ≡ true) (sym (b .shared .keys-same)) own-key)
+      (subst (λ (x : List NetworkKeys). sealable (keyAt x (h .key)) (stamped sender (q .element) h) ≡ true) (sym (b .shared .materials-same)) own-key)
 
   -- ---- in segments
   module _ (w : wholeAs sender q words ≡ false) where
@@ -145,17 +145,17 @@ module _ (sender : Receiver) (setup : Setup) (q : Request) (words : Words) (buf 
     -- what stands before segment n makes it
     segment-can :
         (r : Receiver) (n : ℕ) → r .node ≡ sender .node → nextSeq r (q .element) ≡ first + n → n ≤ lastOf node s
-        → sealable (keyAt (r .node .keys) (segmentHeader o n .key)) (stamped r (q .element) (segmentHeader o n)) ≡ true
+        → sealable (keyAt (r .node .materials) (segmentHeader o n .key)) (stamped r (q .element) (segmentHeader o n)) ≡ true
     segment-can r n en es h =
         let low = last-low node s speaks in
         let address = ap (λ (x : Node). addressOf x (q .element)) en in
         let e = header-said sender node (b .shared) q s o keeping r (q .element) n address in
-        let k : keyAt (r .node .keys) (segmentHeader o n .key) ≡ keyAt (node .keys) (s .network) =
-        ap (keyAt (r .node .keys)) (key-said sender node (b .shared) q s o keeping r (q .element) n address)
-        ∙ ap (λ (x : Node). keyAt (x .keys) (q .network)) en ∙ ap (λ (x : List NetworkKeys). keyAt x (q .network)) (b .shared .keys-same) in
+        let k : keyAt (r .node .materials) (segmentHeader o n .key) ≡ keyAt (node .materials) (s .network) =
+        ap (keyAt (r .node .materials)) (key-said sender node (b .shared) q s o keeping r (q .element) n address)
+        ∙ ap (λ (x : Node). keyAt (x .materials) (q .network)) en ∙ ap (λ (x : List NetworkKeys). keyAt x (q .network)) (b .shared .materials-same) in
         let can = segment-sealable node s speaks n h (nextSeq r (q .element)) ttl well (omega arith) ttl-fits in
         subst (λ (x : NetworkKeys). sealable x (stamped r (q .element) (segmentHeader o n)) ≡ true) (sym k)
-        (subst (λ (x : Header). sealable (keyAt (node .keys) (q .network)) x ≡ true) (sym e) can)
+        (subst (λ (x : Header). sealable (keyAt (node .materials) (q .network)) x ≡ true) (sym e) can)
 
     segment-key : (n : ℕ) → segmentHeader o n .key < 4
     segment-key n = subst (λ (k : ℕ). k < 4) (sym (key-said sender node (b .shared) q s o keeping sender (q .element) n refl)) key-low

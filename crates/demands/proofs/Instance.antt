@@ -22,7 +22,7 @@ use Rattle.transport.specs.LeadsBack.{SegmentOf}
 use Rattle.transport.specs.Securing.{applicationKeyAt}
 use Rattle.transport.proofs.SecureOpen.{secured-length}
 use Rattle.node.specs.Addresses.{isLocal, forNode}
-use Rattle.node.specs.Setup.{boundWithin, keysValid, nextWithin, elementsValid, groupsValid, indexValid, valid, givenAt, keysAt, secretAt, nextAt, nodeOf, nextOf, making}
+use Rattle.node.specs.Setup.{boundWithin, keysValid, nextWithin, elementsValid, groupsValid, indexValid, valid, networkKeyAt, materialAt, boundKeyAt, nextAt, nodeOf, nextOf, making}
 use Rattle.node.specs.declared.addresses.Node.{Node}
 use Rattle.receiver.specs.declared.fresh.Answer.the-variants.{Ready}
 use Rattle.receiver.specs.Fresh.{settingUp}
@@ -50,12 +50,12 @@ node = scene.nodeOf shed
 pub record Held : Type 0 where
   pub one-network : node .networks ≡ 1
   pub one-application : node .applications ≡ 1
-  pub bound-there : applicationKeyAt (node .secrets) 0 .bound ≡ 0
+  pub bound-there : applicationKeyAt (node .appkeys) 0 .bound ≡ 0
   pub index : node .iv ≡ 0x12345678
   pub here : forNode node 0x0001 ≡ true
 
 pub holds : Held
-unfolding settingUp making valid keysValid boundWithin elementsValid nextWithin groupsValid indexValid first kindOf nodeOf secretAt forNode isLocal
+unfolding settingUp making valid keysValid boundWithin elementsValid nextWithin groupsValid indexValid first kindOf nodeOf boundKeyAt forNode isLocal
 holds = record { one-network = refl; one-application = refl; bound-there = refl; index = refl; here = refl }
 
 -- ---- the speeches
@@ -90,7 +90,7 @@ speaks-humidity =
             record {
               akf-set = refl;
               held = omega arith;
-              fitting = rw (eq-eqb (applicationKeyAt (node .secrets) 0 .aid) (applicationKeyAt (node .secrets) 0 .aid) refl, holds .bound-there) refl;
+              fitting = rw (eq-eqb (applicationKeyAt (node .appkeys) 0 .aid) (applicationKeyAt (node .appkeys) 0 .aid) refl, holds .bound-there) refl;
               none-before = λ j h. absurd (omega arith);
             },
       );
@@ -162,7 +162,7 @@ arrives : (e : Event) → Comes node boxes spent e → Arrives node boxes spent 
 arrives e c = record { comes = c; room-forward = omega arith; room-message = omega arith }
 
 -- one octet is no PDU
-short-foreign : noKeyOpens (opening (node .keys) (node .networks) (node .iv) (0x68 ∷ []) .answer) ≡ true
+short-foreign : noKeyOpens (opening (node .materials) (node .networks) (node .iv) (0x68 ∷ []) .answer) ≡ true
 unfolding opening
 short-foreign = refl
 
@@ -223,9 +223,9 @@ bench-ready = refl
 
 -- the two nodes differ in their address alone
 same-keys : Shared (start bench .node) node
-unfolding settingUp making valid keysValid boundWithin elementsValid nextWithin groupsValid indexValid first kindOf nodeOf secretAt givenAt keysAt
+unfolding settingUp making valid keysValid boundWithin elementsValid nextWithin groupsValid indexValid first kindOf nodeOf boundKeyAt networkKeyAt materialAt
 same-keys =
-    record { networks-same = refl; keys-same = refl; applications-same = refl; secrets-same = refl; device-same = refl; iv-same = refl }
+    record { networks-same = refl; materials-same = refl; applications-same = refl; appkeys-same = refl; device-same = refl; iv-same = refl }
 
 between : Between (start bench) shed toShed report
 between =
@@ -239,7 +239,7 @@ between =
     }
 
 request-accepted : accepted (start bench) toShed report ≡ true
-unfolding settingUp making valid keysValid boundWithin elementsValid nextWithin groupsValid indexValid first kindOf nodeOf secretAt accessAllowed requestAllowed sizeAllowed isWhole
+unfolding settingUp making valid keysValid boundWithin elementsValid nextWithin groupsValid indexValid first kindOf nodeOf boundKeyAt accessAllowed requestAllowed sizeAllowed isWhole
 request-accepted = refl
 
 numbers-left : nextSeq (start bench) 0 + 31 ≤ 0xFFFFFF

@@ -51,7 +51,7 @@ module _ (r : Receiver) (element : ℕ) (buf : List ℕ) where
     pub header : Header
     pub from-element : header .src ≡ addressOf (r .node) element
     pub with-next : header .seq ≡ nextSeq r element
-    pub made-of : sealing (keyAt (r .node .keys) (header .key)) header buf ≡ lent (Sealed (lengthBy (s .answer .answer))) (s .buffer)
+    pub made-of : sealing (keyAt (r .node .materials) (header .key)) header buf ≡ lent (Sealed (lengthBy (s .answer .answer))) (s .buffer)
     pub raised : element < length (r .next) → nextSeq (s .answer .receiver) element ≡ nextSeq r element + 1
 
   pub record Speaks (s : Lent Spoken) : Type 0 where
@@ -72,7 +72,7 @@ module _ (r : Receiver) (element : ℕ) (buf : List ℕ) where
           header = stamped r element h;
           from-element = s .from-element;
           with-next = s .with-next;
-          made-of = ap (λ (n : ℕ). sealing (keyAt (r .node .keys) n) (stamped r element h) buf) (s .key-stays) ∙ rw long (sealing-is r element h buf c);
+          made-of = ap (λ (n : ℕ). sealing (keyAt (r .node .materials) n) (stamped r element h) buf) (s .key-stays) ∙ rw long (sealing-is r element h buf c);
           raised = λ k. ap (λ (l : List ℕ). getD l element 0) next ∙ used-own r element k;
         }
 

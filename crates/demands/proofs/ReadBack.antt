@@ -98,7 +98,7 @@ module _ (sender : Receiver) (setup : Setup) (q : Request) (words : Words) (buf 
 
   -- what the receiver's keys are to a header of the speech
   receives : (h : Header) (pdu : List ℕ) → allowedAs sender q words ≡ true → h .key ≡ q .network → h .iv ≡ sendingIv (sender .node) → OwnKeyFirst node s pdu
-      → Receives (node .keys) (node .networks) (node .iv) h pdu
+      → Receives (node .materials) (node .networks) (node .iv) h pdu
   receives h pdu a ek ei f =
       record {
         held = rw ek (held sender node (p .between .shared) q words a);
@@ -169,7 +169,7 @@ module _ (sender : Receiver) (setup : Setup) (q : Request) (words : Words) (buf 
     speaks =
         let h = headerOf node s 0 (first + 0) (ttlOf (q .ttl)) in
         record {
-          from-unicast = allowed-source (h .ctl) (h .src) (h .dst) (within (keyAt (node .keys) (q .network)) h can-zero .allowed);
+          from-unicast = allowed-source (h .ctl) (h .src) (h .dst) (within (keyAt (node .materials) (q .network)) h can-zero .allowed);
           for-here = p .between .for-here;
           dst-fits = p .between .dst-fits;
           held = held sender node (p .between .shared) q words a;
@@ -185,11 +185,11 @@ module _ (sender : Receiver) (setup : Setup) (q : Request) (words : Words) (buf 
     unfolding headerOf
     sent n h =
         let low = last-low node s speaks in
-        let can : sealable (keyAt (node .keys) (q .network)) (headerOf node s n (first + n) (ttlOf (q .ttl))) ≡ true =
+        let can : sealable (keyAt (node .materials) (q .network)) (headerOf node s n (first + n) (ttlOf (q .ttl))) ≡ true =
         by-test (eqb n 0)
         (λ t. let z = eqb-true n 0 t in rw z can-zero)
         (λ t. let z = eqb-false n 0 t in rest .can n (omega arith) (omega arith)) in
-        let bounds = within (keyAt (node .keys) (q .network)) (headerOf node s n (first + n) (ttlOf (q .ttl))) can in
+        let bounds = within (keyAt (node .materials) (q .network)) (headerOf node s n (first + n) (ttlOf (q .ttl))) can in
         let key = each-place (OwnKeyFirst node s) pduOfSegment 0 (suc last) (subst (Each (OwnKeyFirst node s)) made-are all-first) n (omega arith) (omega arith) in
         record {
           one-of = omega arith;
@@ -218,13 +218,13 @@ module _ (sender : Receiver) (setup : Setup) (q : Request) (words : Words) (buf 
     h = wholeHeader s ctl (ttlOf (q .ttl)) pdu
 
     abbrev key : NetworkKeys
-    key = keyAt (node .keys) (q .network)
+    key = keyAt (node .materials) (q .network)
 
     -- it is sealed by the receiver's key, which the sender's is
-    own-key : keyAt (sender .node .keys) (headerAs sender q words .key) ≡ key
+    own-key : keyAt (sender .node .materials) (headerAs sender q words .key) ≡ key
     own-key =
         let e = sym (stamps sender (q .element) (headerAs sender q words) .key-stays) ∙ ap (λ (x : Header). x .key) shape in
-        ap (keyAt (sender .node .keys)) e ∙ ap (λ (k : List NetworkKeys). keyAt k (q .network)) (p .between .shared .keys-same)
+        ap (keyAt (sender .node .materials)) e ∙ ap (λ (k : List NetworkKeys). keyAt k (q .network)) (p .between .shared .materials-same)
 
     made-one : madeOf (Said said) ≡ pduOf key h ∷ []
     made-one = rw (b .says) (ap (λ (x : List ℕ). x ∷ []) (b .transmitted-is .pdu ∙ ap₂ pduOf own-key shape))

@@ -84,5 +84,5 @@ unopened a t e = false≢true (rw e at t)
 
 pub unopened-leaves : UnopenedLeaves
 unopened-leaves r pdu fwd msg t =
-    let y = heard-unopened r fwd msg pdu (unopened (opening (r .node .keys) (r .node .networks) (r .node .iv) pdu .answer) t) in
+    let y = heard-unopened r fwd msg pdu (unopened (opening (r .node .materials) (r .node .networks) (r .node .iv) pdu .answer) t) in
     untouched r fwd msg (y .0) _ (y .1)

@@ -54,8 +54,8 @@ module _ (sender : Receiver) (node : Node) (shared : Shared (sender .node) node)
       let four = lt-ltb i 4 (omega arith) in
       record {
         akf-same = rw four refl;
-        aid-same = rw (four, shared .secrets-same) refl;
-        key-same = rw (four, shared .secrets-same) refl;
+        aid-same = rw (four, shared .appkeys-same) refl;
+        key-same = rw (four, shared .appkeys-same) refl;
       }
   key-same Device a = record { akf-same = refl; aid-same = refl; key-same = shared .device-same }
 
@@ -91,14 +91,14 @@ module _ (sender : Receiver) (node : Node) (shared : Shared (sender .node) node)
     -- the receiver holds the key, and it is the first that opens the message
     application-reads :
         (i : ℕ) → key ≡ Application i → OwnMessageFirst node s (Access (Application i) szmic payload) → (msg : List ℕ)
-        → message.Receives (node .secrets) (node .applications) i (envelopeOf node s (Application i) szmic) (octetsOf node s) msg
+        → message.Receives (node .appkeys) (node .applications) i (envelopeOf node s (Application i) szmic) (octetsOf node s) msg
     application-reads i c first msg =
         let k = application-there (sender .node) q i (rw c at keys-allowed) in
-        let aid = applicationKeyAt (node .secrets) i .aid in
+        let aid = applicationKeyAt (node .appkeys) i .aid in
         record {
           akf-set = refl;
           held = rw (sym (shared .applications-same)) (k .0);
-          fitting = rw (eq-eqb aid aid refl, sym (shared .secrets-same)) (eq-eqb _ (q .network) (k .1));
+          fitting = rw (eq-eqb aid aid refl, sym (shared .appkeys-same)) (eq-eqb _ (q .network) (k .1));
           none-before = first msg;
         }
 

@@ -53,7 +53,7 @@ module _ (sender : Receiver) (made-node : WellMade (sender .node)) (node : Node)
   pduAt n = segmentPdu node s n (first + n) ttl
 
   abbrev pub Can : ℕ → Type 0
-  Can n = sealable (keyAt (node .keys) (s .network)) (headerAt n) ≡ true
+  Can n = sealable (keyAt (node .materials) (s .network)) (headerAt n) ≡ true
 
   -- the sender before segment n
   pub record Keeps (r : Receiver) (n : ℕ) : Type 0 where
@@ -82,8 +82,8 @@ module _ (sender : Receiver) (made-node : WellMade (sender .node)) (node : Node)
     header-is : stamped r element (segmentHeader o n) ≡ headerAt n
     header-is = header-said sender node shared q s o kept r element n address ∙ ap (λ (x : ℕ). headerOf node s n x ttl) next-is
 
-    key-is : keyAt (r .node .keys) (segmentHeader o n .key) ≡ keyAt (node .keys) (s .network)
-    key-is = rw (key-said sender node shared q s o kept r element n address, node-is, shared .keys-same) refl
+    key-is : keyAt (r .node .materials) (segmentHeader o n .key) ≡ keyAt (node .materials) (s .network)
+    key-is = rw (key-said sender node shared q s o kept r element n address, node-is, shared .materials-same) refl
 
     pub can-said : Can n
     can-said = rw (← key-is, ← header-is) (t .can)

@@ -33,8 +33,8 @@ use Rattle.demands.specs.Speech.{Words, Access, Control}
 
 -- ---- a transmission
 pub record Transmits (r : Receiver) (element : ℕ) (h : Header) (len : ℕ) (b : List ℕ) : Type 0 where
-  pub can : sealable (keyAt (r .node .keys) (h .key)) (stamped r element h) ≡ true
-  pub pdu : take len b ≡ pduOf (keyAt (r .node .keys) (h .key)) (stamped r element h)
+  pub can : sealable (keyAt (r .node .materials) (h .key)) (stamped r element h) ≡ true
+  pub pdu : take len b ≡ pduOf (keyAt (r .node .materials) (h .key)) (stamped r element h)
 
 transmits : (r : Receiver) (element : ℕ) (h : Header) (buf : List ℕ) → Sends r element h buf → Transmits r element h (length (pduBy r element h)) (onto (pduBy r element h) buf)
 transmits r element h buf c = record { can = c .can; pdu = take-append-seam (pduBy r element h) _ }

@@ -29,7 +29,7 @@ module _ (node : Node) (s : Speech) where
     pub aid-fits : aidOf node key < 64
     pub unicast : akfOf key ≡ false → isUnicast (s .dst) ≡ true
     pub opens-to :
-        unsecuring (node .secrets) (node .applications) (node .device) (envelopeOf node s key szmic) (octetsOf node s) msg
+        unsecuring (node .appkeys) (node .applications) (node .device) (envelopeOf node s key szmic) (octetsOf node s) msg
         ≡ lent (Message key (applicationPlace node s (Access key szmic payload)) (length payload)) (onto payload msg)
 
   module _ (made : WellMade node) (szmic : Bool) (payload msg : List ℕ) (room : 384 ≤ length msg) where
@@ -44,11 +44,11 @@ module _ (node : Node) (s : Speech) where
         let held = k .held in
         let c = cut-is node s (Access (Application j) szmic payload) e in
         record {
-          aid-fits = rw (made .aid-derived j (omega arith)) (aid-low (applicationKeyAt (node .secrets) j .key));
+          aid-fits = rw (made .aid-derived j (omega arith)) (aid-low (applicationKeyAt (node .appkeys) j .key));
           unicast = λ f. absurd (true≢false f);
           opens-to =
               rw c
-              (unsecure-secure (node .secrets) (node .applications) j (node .device) (envelopeOf node s (Application j) szmic) payload msg
+              (unsecure-secure (node .appkeys) (node .applications) j (node .device) (envelopeOf node s (Application j) szmic) payload msg
               (fits-here (Application j) e (q .0)) (rw c at k));
         }
     message-opens Device e q =
@@ -57,5 +57,5 @@ module _ (node : Node) (s : Speech) where
           unicast = λ _. q .1;
           opens-to =
               rw (cut-is node s (Access Device szmic payload) e)
-              (unsecure-secure-device (node .secrets) (node .applications) (node .device) (envelopeOf node s Device szmic) payload msg (fits-here Device e (q .0)) refl);
+              (unsecure-secure-device (node .appkeys) (node .applications) (node .device) (envelopeOf node s Device szmic) payload msg (fits-here Device e (q .0)) refl);
         }

@@ -109,17 +109,17 @@ module _ (node : Node) (s : Speech) (w : Speakable node s) (i : ℕ) (there : i 
     formed = record { dst-fits = w .dst-fits; zeros-behind = ap (padded 16) transport-is }
 
     -- it can be sealed: every number has its bits, and a DST that is for a node may be sent to
-    pub segment-sealable : WellMade node → seq ≤ 0xFFFFFF → ttl ≤ 127 → sealable (keyAt (node .keys) (s .network)) h ≡ true
+    pub segment-sealable : WellMade node → seq ≤ 0xFFFFFF → ttl ≤ 127 → sealable (keyAt (node .materials) (s .network)) h ≡ true
     unfolding headerOf
     segment-sealable made eseq ettl =
         let l = segment-long in
         let p = part-bounds node s w i there in
-        let k : keyAt (node .keys) (s .network) .nid ≤ 127 = let n = w .held in rw (made .derived (s .network) (omega arith)) (nid-low _) in
+        let k : keyAt (node .materials) (s .network) .nid ≤ 127 = let n = w .held in rw (made .derived (s .network) (omega arith)) (nid-low _) in
         let most : length (segmentOf node s i) ≤ mostTransport (isControl (s .words)) =
         let q = p .1 in
         by-test (isControl (s .words)) (λ t. let m : sizeOf s ≡ 8 = ap fullOctets t in rw t (omega arith)) (λ t. let m : sizeOf s ≡ 12 = ap fullOctets t in rw t (omega arith)) in
         let allowed = addresses-allowed (isControl (s .words)) (s .src) (s .dst) (w .from-unicast) (for-allowed node made (s .dst) (isControl (s .words)) (w .for-here)) in
-        sealable-where (keyAt (node .keys) (s .network)) h k ettl eseq allowed (omega arith) most
+        sealable-where (keyAt (node .materials) (s .network)) h k ettl eseq allowed (omega arith) most
 
     carries : (ctl : Bool) → isControl (s .words) ≡ ctl → Carries h ctl front
     unfolding headerOf segmentOf

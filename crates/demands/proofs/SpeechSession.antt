@@ -67,7 +67,7 @@ module _ (node : Node) (made : WellMade node) (s : Speech) (w : Speakable node s
         (key : MessageKey) (szmic : Bool) (payload : List ℕ) → s .words ≡ Access key szmic payload → Opens node s key szmic payload msg → Up msg
     opened-up key szmic payload e o =
         let u :
-        unsecuring (r .node .secrets) (r .node .applications) (r .node .device) (segments.sessionEnvelope session) (take len bytes) msg
+        unsecuring (r .node .appkeys) (r .node .applications) (r .node .device) (segments.sessionEnvelope session) (take len bytes) msg
         ≡ lent (Message key (applicationPlace node s (Access key szmic payload)) (length payload)) (onto payload msg) =
         rw (same, envelope-is key szmic payload e (o .aid-fits), all) (o .opens-to) in
         ap either (ap isControl e) ∙ access-up r session msg key (applicationPlace node s (Access key szmic payload)) (length payload) (onto payload msg) u

@@ -42,11 +42,11 @@ pub record Reads (setup : Setup) (pdu fwd msg : List ℕ) (m : Handed) (n : Trie
   pub hands : handed (step (start setup) (Hear pdu fwd msg)) ≡ m ∷ []
   pub counts : tried (step (start setup) (Hear pdu fwd msg)) ≡ n
 
-module _ (setup : Setup) (h : Header) (sealed : sealable (keyAt (nodeOf setup .keys) (h .key)) h ≡ true) (formed : Formed h)
-    (receives : Receives (nodeOf setup .keys) (nodeOf setup .networks) (nodeOf setup .iv) h (pduOf (keyAt (nodeOf setup .keys) (h .key)) h))
+module _ (setup : Setup) (h : Header) (sealed : sealable (keyAt (nodeOf setup .materials) (h .key)) h ≡ true) (formed : Formed h)
+    (receives : Receives (nodeOf setup .materials) (nodeOf setup .networks) (nodeOf setup .iv) h (pduOf (keyAt (nodeOf setup .materials) (h .key)) h))
     (spoken : h .src ≡ 0 → ⊥) (here : forNode (nodeOf setup) (h .dst) ≡ true) (fwd msg : List ℕ) (wide : 29 ≤ length fwd) (big : 384 ≤ length msg) where
   abbrev pdu : List ℕ
-  pdu = pduOf (keyAt (nodeOf setup .keys) (h .key)) h
+  pdu = pduOf (keyAt (nodeOf setup .materials) (h .key)) h
 
   -- the receiver with the PDU in its cache
   abbrev q : Receiver
@@ -54,7 +54,7 @@ module _ (setup : Setup) (h : Header) (sealed : sealable (keyAt (nodeOf setup .k
 
   -- the place of its network key
   abbrev place : ℕ
-  place = length (candidates (nodeOf setup .keys) (h .key) (keyAt (nodeOf setup .keys) (h .key) .nid)) + 1
+  place = length (candidates (nodeOf setup .materials) (h .key) (keyAt (nodeOf setup .materials) (h .key) .nid)) + 1
 
   -- what is handed up and counted is what the message of its form hands up and counts
   record Whole (t : Lent Taken) : Type 0 where
@@ -63,7 +63,7 @@ module _ (setup : Setup) (h : Header) (sealed : sealable (keyAt (nodeOf setup .k
 
   heard-whole : (t : Lent Taken) → takenAs (formOf h) q h msg ≡ t → Whole t
   heard-whole t e =
-      let l = heard-new (start setup) pdu fwd msg wide big h place (open-seal (nodeOf setup .keys) (nodeOf setup .networks) (nodeOf setup .iv) h sealed formed receives)
+      let l = heard-new (start setup) pdu fwd msg wide big h place (open-seal (nodeOf setup .materials) (nodeOf setup .networks) (nodeOf setup .iv) h sealed formed receives)
       (fresh-unseen setup (h .src) (h .seq) spoken) here
       t e in
       record { hands-as = rw (l .answers, l .message-is) refl; tried-as = rw (l .network-is, l .application-is) refl }
@@ -72,7 +72,7 @@ module _ (setup : Setup) (h : Header) (sealed : sealable (keyAt (nodeOf setup .k
   pub access-heard :
       (akf : Bool) (aid trials : ℕ) (key : MessageKey) (payload : List ℕ) → formOf h ≡ form.Access akf aid
       → (let node = nodeOf setup in
-      unsecuring (node .secrets) (node .applications) (node .device) (whole.wholeEnvelope h akf aid) (drop 1 (transportOf h)) msg
+      unsecuring (node .appkeys) (node .applications) (node .device) (whole.wholeEnvelope h akf aid) (drop 1 (transportOf h)) msg
       ≡ lent (Message key trials (length payload)) (onto payload msg))
       → Reads setup pdu fwd msg (record { answer = answer.Access (h .src) (h .dst) (h .key) key (whole.pairOf h) (length payload); octets = payload })
       (record { network = place; application = trials })

@@ -52,8 +52,8 @@ wholeHeader s ctl ttl pdu =
 
 -- what sending and receiving it needs
 pub record Passes (setup : Setup) (s : Speech) (h : Header) (fwd msg : List ℕ) : Type 0 where
-  pub can : sealable (keyAt (nodeOf setup .keys) (s .network)) h ≡ true
-  pub receives : Receives (nodeOf setup .keys) (nodeOf setup .networks) (nodeOf setup .iv) h (pduOf (keyAt (nodeOf setup .keys) (s .network)) h)
+  pub can : sealable (keyAt (nodeOf setup .materials) (s .network)) h ≡ true
+  pub receives : Receives (nodeOf setup .materials) (nodeOf setup .networks) (nodeOf setup .iv) h (pduOf (keyAt (nodeOf setup .materials) (s .network)) h)
   pub spoken : s .src ≡ 0 → ⊥
   pub here : forNode (nodeOf setup) (s .dst) ≡ true
   pub dst-fits : s .dst < 65536
@@ -67,7 +67,7 @@ module _ (setup : Setup) (s : Speech) (ttl : ℕ) (fwd msg : List ℕ) where
   -- the message is handed up, each of its keys tried at its place
   abbrev pub Heard : Header → Type 0
   Heard h =
-      Reads setup (pduOf (keyAt (node .keys) (s .network)) h) fwd msg (handUp s)
+      Reads setup (pduOf (keyAt (node .materials) (s .network)) h) fwd msg (handUp s)
       (record { network = networkPlace node s; application = applicationPlace node s (s .words) })
 
   -- ---- a transport PDU in its header

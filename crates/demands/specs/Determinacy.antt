@@ -162,7 +162,6 @@ pub record Determinate : Type 0 where
   pub control-octet : (seg : Bool) (opcode : ℕ) → Determined (controlOctet seg opcode)
   pub secure : (key : List ℕ) (e : Envelope) (m buf : List ℕ) → Determined (securing.securing key e m buf)
   pub unsecure : (keys : List ApplicationKey) (count : ℕ) (device : List ℕ) (e : Envelope) (c buf : List ℕ) → Determined (securing.unsecuring keys count device e c buf)
-  pub unsecure-number : (o : Opened) → Determined (securing.paper o)
   -- memory
   pub is-newer : (a b : Pair) → Determined (newer a b)
   pub same-pair : (a b : Pair) → Determined (samePair a b)
@@ -184,7 +183,6 @@ pub record Determinate : Type 0 where
   pub store : (s : Session) (h : Header) (segO : ℕ) → Determined (stored s h segO)
   pub is-complete : (s : Session) → Determined (complete s)
   pub decide : (replay : List Entry) (sessions : List Session) (src : ℕ) (seg : Segment) → Determined (decision.decision replay sessions src seg)
-  pub decision-number : (d : Decision) → Determined (decision.paper d)
   pub no-outgoing : Determined (outgoing.noOutgoing)
   pub acknowledge : (out : Outgoing) (h : Header) (obo : Bool) (seqZero bits : ℕ) → Determined (outgoing.acknowledging out h obo seqZero bits)
   -- node
@@ -193,10 +191,8 @@ pub record Determinate : Type 0 where
   pub make : (s : Setup) → Determined (making s)
   -- receiver
   pub set-up : (s : Setup) → Determined (fresh.settingUp s)
-  pub set-up-number : (a : fresh-answer.Answer) → Determined (fresh.paper a)
   pub hear : (r : Receiver) (pdu fwd msg : List ℕ) → Determined (hearing r pdu fwd msg)
   pub give-up-session : (r : Receiver) (src : ℕ) → Determined (give-up.givingUp r src)
-  pub give-up-number : (a : give-up-answer.Answer) → Determined (give-up.paper a)
   pub refusal-number : (n : Refusal) → Determined (refusalNumber n)
   pub with-outgoing : (r : Receiver) (out : Outgoing) → Determined (withOutgoing r out)
   -- sending
@@ -204,7 +200,6 @@ pub record Determinate : Type 0 where
   pub is-allowed : (node : Node) (q : Request) → Determined (requestAllowed node q)
   pub iv-of : (node : Node) → Determined (sendingIv node)
   pub address-of : (node : Node) (element : ℕ) → Determined (addressOf node element)
-  pub sending-number : (a : spoken-answer.Answer) → Determined (sending-answer.paper a)
   pub send-access : (r : Receiver) (q : Request) (key : MessageKey) (szmic : Bool) (payload buf : List ℕ) → Determined (sendingAccess r q key szmic payload buf)
   pub send-control : (r : Receiver) (q : Request) (opcode : ℕ) (parameters buf : List ℕ) → Determined (sendingControl r q opcode parameters buf)
   pub send-segment : (r : Receiver) (n : ℕ) (buf : List ℕ) → Determined (sendingSegment r n buf)

@@ -24,7 +24,7 @@ use Rattle.receiver.specs.Hearing.{hearing}
 pub record Passes (r : Receiver) (pdu fwd msg : List ℕ) (trials : ℕ) (h : Header) : Type 0 where
   pub wide : 29 ≤ length fwd
   pub big : 384 ≤ length msg
-  pub opens : opening (r .node .keys) (r .node .networks) (r .node .iv) pdu ≡ record { answer = Opened; trials = trials; header = h }
+  pub opens : opening (r .node .materials) (r .node .networks) (r .node .iv) pdu ≡ record { answer = Opened; trials = trials; header = h }
   pub new : seen (r .cache) (h .src) (h .seq) ≡ false
 
 -- the octets forwarded, and the forward buffer
@@ -38,5 +38,5 @@ Forwards =
     → (let o = hearing r pdu fwd msg in
     let node = r .node in
     lent (o .heard .forwarded) (o .forward)
-    ≡ (if forwards (node .relay) (isLocal node (h .dst)) h then lent (length pdu) (onto (pduOf (keyAt (node .keys) (h .key)) (lowered h)) fwd) else
+    ≡ (if forwards (node .relay) (isLocal node (h .dst)) h then lent (length pdu) (onto (pduOf (keyAt (node .materials) (h .key)) (lowered h)) fwd) else
     lent 0 fwd))

@@ -39,9 +39,9 @@ abbrev pub nodeAt : ℕ → Setup
 nodeAt address =
     record {
       networks = 1;
-      keys = record { octets = networkKey } ∷ replicate 3 (record { octets = replicate 16 0 });
+      netkeys = record { octets = networkKey } ∷ replicate 3 (record { octets = replicate 16 0 });
       applications = 1;
-      secrets = record { key = applicationKey; network = 0 } ∷ replicate 3 (record { key = replicate 16 0; network = 0 });
+      appkeys = record { key = applicationKey; network = 0 } ∷ replicate 3 (record { key = replicate 16 0; network = 0 });
       device = deviceKey;
       first = address;
       elements = 1;
@@ -120,7 +120,7 @@ passing =
     }
 
 abbrev pub passingPdu : List ℕ
-passingPdu = pduOf (keyAt (nodeOf shed .keys) 0) passing
+passingPdu = pduOf (keyAt (nodeOf shed .materials) 0) passing
 
 abbrev pub ForwardingMet : Type 0
 ForwardingMet =

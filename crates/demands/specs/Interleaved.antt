@@ -123,11 +123,11 @@ pub record Sent (node : Node) (speeches : List Speech) (spent : Spent) (k i seq 
   pub ttl-fits : ttl ≤ 127
   -- no key tried earlier opens it
   pub own-key-first :
-      network.Receives (node .keys) (node .networks) (node .iv) (headerOf node (speechAt speeches k) i seq ttl) (segmentPdu node (speechAt speeches k) i seq ttl)
+      network.Receives (node .materials) (node .networks) (node .iv) (headerOf node (speechAt speeches k) i seq ttl) (segmentPdu node (speechAt speeches k) i seq ttl)
 
 abbrev pub Comes : Node → List Speech → Spent → Event → Type 0
 Comes node speeches spent (Segment k i seq ttl) = Sent node speeches spent k i seq ttl
-Comes node speeches spent (Foreign pdu) = noKeyOpens (opening (node .keys) (node .networks) (node .iv) pdu .answer) ≡ true
+Comes node speeches spent (Foreign pdu) = noKeyOpens (opening (node .materials) (node .networks) (node .iv) pdu .answer) ≡ true
 Comes node speeches spent (Ask net src) = Unit {0}
 
 pub record Arrives (node : Node) (speeches : List Speech) (spent : Spent) (a : Arrival) : Type 0 where

@@ -92,7 +92,7 @@ pub record Carries (r : Receiver) (c : Call) : Type 0 where
   pub header : Header
   pub from-speaker : header .src ≡ addressOf (r .node) (speaker r c)
   pub with-next : header .seq ≡ nextSeq r (speaker r c)
-  pub sealed : sealing (keyAt (r .node .keys) (header .key)) header (lentFor c) ≡ lent (Sealed (octetsMade (step r c))) (holds (step r c))
+  pub sealed : sealing (keyAt (r .node .materials) (header .key)) header (lentFor c) ≡ lent (Sealed (octetsMade (step r c))) (holds (step r c))
 
 abbrev pub Carried : Type 0
 Carried = (r : Receiver) (c : Call) → made (step r c) ≡ true → Carries r c

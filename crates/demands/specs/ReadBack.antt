@@ -79,23 +79,23 @@ saidBy sender q words =
 -- the same keys and IV Index; flag, relay, elements and groups may differ
 pub record Shared (a b : Node) : Type 0 where
   pub networks-same : a .networks ≡ b .networks
-  pub keys-same : a .keys ≡ b .keys
+  pub materials-same : a .materials ≡ b .materials
   pub applications-same : a .applications ≡ b .applications
-  pub secrets-same : a .secrets ≡ b .secrets
+  pub appkeys-same : a .appkeys ≡ b .appkeys
   pub device-same : a .device ≡ b .device
   pub iv-same : a .iv ≡ b .iv
 
 -- no network key before the message's own opens this PDU
 abbrev pub OwnKeyFirst : Node → Speech → List ℕ → Type 0
 OwnKeyFirst node s pdu =
-    (j : ℕ) → j < s .network → keyAt (node .keys) j .nid ≡ keyAt (node .keys) (s .network) .nid → opens (node .keys) (s .auth .iv) pdu j ≡ false
+    (j : ℕ) → j < s .network → keyAt (node .materials) j .nid ≡ keyAt (node .materials) (s .network) .nid → opens (node .materials) (s .auth .iv) pdu j ≡ false
 
 -- nor an application key before its own the message
 abbrev pub OwnMessageFirst : Node → Speech → Words → Type 0
 OwnMessageFirst node s (Access (Application i) szmic payload) =
     (msg : List ℕ) (j : ℕ) → (let e = envelopeOf node s (Application i) szmic in
-    j < i → fitsKey e (applicationKeyAt (node .secrets) j) ≡ true
-    → openedBy (applicationKeyAt (node .secrets) j .key) e (octetsOf node s) msg .answer ≡ false)
+    j < i → fitsKey e (applicationKeyAt (node .appkeys) j) ≡ true
+    → openedBy (applicationKeyAt (node .appkeys) j .key) e (octetsOf node s) msg .answer ≡ false)
 OwnMessageFirst node s (Access Device szmic payload) = Unit {0}
 OwnMessageFirst node s (Control opcode parameters) = Unit {0}
 

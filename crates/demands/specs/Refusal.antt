@@ -65,7 +65,7 @@ noKeyOpens network.WrongAddress = false
 -- it changes nothing
 abbrev pub UnopenedLeaves : Type 0
 UnopenedLeaves =
-    (r : Receiver) (pdu fwd msg : List ℕ) → noKeyOpens (opening (r .node .keys) (r .node .networks) (r .node .iv) pdu .answer) ≡ true
+    (r : Receiver) (pdu fwd msg : List ℕ) → noKeyOpens (opening (r .node .materials) (r .node .networks) (r .node .iv) pdu .answer) ≡ true
     → Untouched r fwd msg (hearing r pdu fwd msg)
 
 -- the receiver with the PDU of a header in its cache
@@ -95,5 +95,5 @@ LeavesOf q left NoSeqLeft = left ≡ q
 abbrev pub LateLeaves : Type 0
 LateLeaves =
     (r : Receiver) (pdu fwd msg : List ℕ) (n : Refusal) → hearing r pdu fwd msg .heard .answer ≡ Refused n → leavesEverything n ≡ false
-    → (let h = opening (r .node .keys) (r .node .networks) (r .node .iv) pdu .header in
+    → (let h = opening (r .node .materials) (r .node .networks) (r .node .iv) pdu .header in
     LeavesOf (cached r h) (hearing r pdu fwd msg .heard .receiver) n × (hearing r pdu fwd msg .forward ≡ relayed (r .node) h fwd .buffer))

@@ -59,11 +59,11 @@ szmicOf (Control opcode parameters) = false
 
 -- the key's octets and AID; the device key has AID 0
 abbrev pub keyOf : Node → MessageKey → List ℕ
-keyOf node (Application i) = applicationKeyAt (node .secrets) i .key
+keyOf node (Application i) = applicationKeyAt (node .appkeys) i .key
 keyOf node Device = node .device
 
 abbrev pub aidOf : Node → MessageKey → ℕ
-aidOf node (Application i) = applicationKeyAt (node .secrets) i .aid
+aidOf node (Application i) = applicationKeyAt (node .appkeys) i .aid
 aidOf node Device = 0
 
 abbrev pub akfOf : MessageKey → Bool
@@ -127,7 +127,7 @@ headerOf node s i seq ttl =
 
 -- the PDU, sealed by the network key
 abbrev pub segmentPdu : Node → Speech → (i seq ttl : ℕ) → List ℕ
-segmentPdu node s i seq ttl = pduOf (keyAt (node .keys) (s .network)) (headerOf node s i seq ttl)
+segmentPdu node s i seq ttl = pduOf (keyAt (node .materials) (s .network)) (headerOf node s i seq ttl)
 
 -- ---- a speech that this node is to read
 -- there is a payload, and so many octets are cut at most
@@ -141,7 +141,7 @@ abbrev pub WordsRead : Node → Speech → Words → Type 0
 WordsRead node s (Access (Application i) szmic payload) =
     Fits payload (octetsOf node s) 384
     × ((msg : List ℕ) → 384 ≤ length msg
-    → message.Receives (node .secrets) (node .applications) i (envelopeOf node s (Application i) szmic) (octetsOf node s) msg)
+    → message.Receives (node .appkeys) (node .applications) i (envelopeOf node s (Application i) szmic) (octetsOf node s) msg)
 WordsRead node s (Access Device szmic payload) = Fits payload (octetsOf node s) 384 × (isUnicast (s .dst) ≡ true)
 WordsRead node s (Control opcode parameters) = Fits parameters parameters 256 × OpcodeInRange opcode
 
@@ -177,10 +177,10 @@ pub record Tried : Type 0 where
 
 -- the place, from 1, of the message's network key among those with its NID
 abbrev pub networkPlace : Node → Speech → ℕ
-networkPlace node s = length (candidates (node .keys) (s .network) (keyAt (node .keys) (s .network) .nid)) + 1
+networkPlace node s = length (candidates (node .materials) (s .network) (keyAt (node .materials) (s .network) .nid)) + 1
 
 -- that of its application key among those that fit; the device key is not counted, and a control message has none
 abbrev pub applicationPlace : Node → Speech → Words → ℕ
-applicationPlace node s (Access (Application i) szmic payload) = length (applicationCandidates (node .secrets) i (envelopeOf node s (Application i) szmic)) + 1
+applicationPlace node s (Access (Application i) szmic payload) = length (applicationCandidates (node .appkeys) i (envelopeOf node s (Application i) szmic)) + 1
 applicationPlace node s (Access Device szmic payload) = 0
 applicationPlace node s (Control opcode parameters) = 0

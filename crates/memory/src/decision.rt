@@ -4,7 +4,7 @@ use super::replay::Entry;
 use super::session::Segment;
 use super::session::Session;
 ghost use mathlib.Core.Path.{_≡_};
-ghost use Rattle.memory.specs.Decision.{paper, joining, replacing, opening, decision};
+ghost use Rattle.memory.specs.Decision.{joining, replacing, opening, decision};
 
 pub enum Decision {
     // It has come before; the bits report the places filled.
@@ -21,21 +21,6 @@ pub enum Decision {
     NoEntryLeft,
     // 12: eight other sources hold all slots.
     NoSlotLeft,
-}
-
-// Document 01's number of a decision; 0 where nothing is refused.
-pub fn number(decision: Decision) -> u32
-    ensures { λ r. ⌜ r ≡ paper decision ⌝ }
-{
-    match decision {
-        Decision::Repeat(_) => 0,
-        Decision::Join(_) => 0,
-        Decision::Open(_) => 0,
-        Decision::Stale => 9,
-        Decision::Differs => 10,
-        Decision::NoEntryLeft => 11,
-        Decision::NoSlotLeft => 12,
-    }
 }
 
 // It has the SeqAuth of its source's session.

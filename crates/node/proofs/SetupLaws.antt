@@ -14,7 +14,7 @@ use Rattle.keys.specs.Derivation.{k2, k4}
 use Rattle.network.proofs.AddressLaws.{unicast-range}
 use Rattle.node.specs.declared.setup.BoundKey.{BoundKey}
 use Rattle.node.specs.declared.setup.Setup.{Setup}
-use Rattle.node.specs.Setup.{every, boundWithin, keysValid, nextWithin, elementsValid, isGroup, groupsValid, indexValid, valid, givenAt, keysAt, secretAt, nextAt, groupAt, nodeOf, nextOf, making}
+use Rattle.node.specs.Setup.{every, boundWithin, keysValid, nextWithin, elementsValid, isGroup, groupsValid, indexValid, valid, networkKeyAt, materialAt, boundKeyAt, nextAt, groupAt, nodeOf, nextOf, making}
 use Rattle.node.specs.Made.{WellMade, NextWell, MakesWell, LocalIsUnicast}
 use Rattle.node.proofs.AddressesLaws.{local-bounds}
 use Rattle.node.proofs.EveryLaws.{every-each}
@@ -59,20 +59,20 @@ module _ (s : Setup) where
       omega (arith, eqb-false (s .iv) 0 (not-true (eqb (s .iv) 0) n))
 
   -- ---- what stands at a place that is used
-  keys-used : (i : ℕ) → i < s .networks → keysAt s i ≡ k2 (givenAt s i .octets)
-  unfolding keysAt givenAt
+  keys-used : (i : ℕ) → i < s .networks → materialAt s i ≡ k2 (networkKeyAt s i .octets)
+  unfolding materialAt networkKeyAt
   keys-used i h = simp (lt-ltb i (s .networks) h)
 
-  aid-used : (i : ℕ) → i < s .applications → secretAt s i .aid ≡ k4 (secretAt s i .key)
-  unfolding secretAt
+  aid-used : (i : ℕ) → i < s .applications → boundKeyAt s i .aid ≡ k4 (boundKeyAt s i .key)
+  unfolding boundKeyAt
   aid-used i h = simp (lt-ltb i (s .applications) h)
 
-  bound-used : boundWithin s ≡ true → (i : ℕ) → i < s .applications → secretAt s i .bound < s .networks
-  unfolding boundWithin secretAt
+  bound-used : boundWithin s ≡ true → (i : ℕ) → i < s .applications → boundKeyAt s i .bound < s .networks
+  unfolding boundWithin boundKeyAt
   bound-used v i h =
       let d : BoundKey = record { key = []; network = 0 } in
-      let b = every-each (λ (b : BoundKey). ltb (b .network) (s .networks)) (s .applications) (s .secrets) v i d h in
-      rw (lt-ltb i (s .applications) h) (ltb-true (getD (s .secrets) i d .network) (s .networks) b)
+      let b = every-each (λ (b : BoundKey). ltb (b .network) (s .networks)) (s .applications) (s .appkeys) v i d h in
+      rw (lt-ltb i (s .applications) h) (ltb-true (getD (s .appkeys) i d .network) (s .networks) b)
 
   next-used : nextWithin s ≡ true → (i : ℕ) → i < s .elements → nextAt s i ≤ 0x1000000
   unfolding nextWithin nextAt
@@ -107,15 +107,15 @@ module _ (s : Setup) where
           elements-least = e1;
           elements-most = e8;
           listened-most = l8;
-          given-places = length-tab (givenAt s) 4;
-          keys-places = length-tab (keysAt s) 4;
-          secrets-places = length-tab (secretAt s) 4;
+          netkeys-places = length-tab (networkKeyAt s) 4;
+          materials-places = length-tab (materialAt s) 4;
+          appkeys-places = length-tab (boundKeyAt s) 4;
           groups-places = length-tab (groupAt s) 8;
           derived =
               λ i h.
-              rw (getD-tab (keysAt s) 4 i _ (omega (arith, h, n4)), getD-tab (givenAt s) 4 i _ (omega (arith, h, n4))) (keys-used i h);
-          aid-derived = λ i h. rw (getD-tab (secretAt s) 4 i _ (omega (arith, h, a4))) (aid-used i h);
-          bound = λ i h. rw (getD-tab (secretAt s) 4 i _ (omega (arith, h, a4))) (bound-used b i h);
+              rw (getD-tab (materialAt s) 4 i _ (omega (arith, h, n4)), getD-tab (networkKeyAt s) 4 i _ (omega (arith, h, n4))) (keys-used i h);
+          aid-derived = λ i h. rw (getD-tab (boundKeyAt s) 4 i _ (omega (arith, h, a4))) (aid-used i h);
+          bound = λ i h. rw (getD-tab (boundKeyAt s) 4 i _ (omega (arith, h, a4))) (bound-used b i h);
           first-least = f1;
           last-most = omega (arith, f8);
           groups-only = λ i h. rw (getD-tab (groupAt s) 8 i 0 (omega (arith, h, l8))) (group-used g i h);

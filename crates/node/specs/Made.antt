@@ -26,16 +26,16 @@ pub record WellMade (node : Node) : Type 0 where
   -- group addresses listened to: 0 to 8
   pub listened-most : node .listened ≤ 8
   -- each array has all its places
-  pub given-places : length (node .given) ≡ 4
-  pub keys-places : length (node .keys) ≡ 4
-  pub secrets-places : length (node .secrets) ≡ 4
+  pub netkeys-places : length (node .netkeys) ≡ 4
+  pub materials-places : length (node .materials) ≡ 4
+  pub appkeys-places : length (node .appkeys) ≡ 4
   pub groups-places : length (node .groups) ≡ 8
   -- NID, encryption key and privacy key are derived from the network key
-  pub derived : (i : ℕ) → i < node .networks → keyAt (node .keys) i ≡ k2 (getD (node .given) i (record { octets = [] }) .octets)
+  pub derived : (i : ℕ) → i < node .networks → keyAt (node .materials) i ≡ k2 (getD (node .netkeys) i (record { octets = [] }) .octets)
   -- AID is derived from the application key
-  pub aid-derived : (i : ℕ) → i < node .applications → applicationKeyAt (node .secrets) i .aid ≡ k4 (applicationKeyAt (node .secrets) i .key)
+  pub aid-derived : (i : ℕ) → i < node .applications → applicationKeyAt (node .appkeys) i .aid ≡ k4 (applicationKeyAt (node .appkeys) i .key)
   -- each application key is bound to one network key
-  pub bound : (i : ℕ) → i < node .applications → applicationKeyAt (node .secrets) i .bound < node .networks
+  pub bound : (i : ℕ) → i < node .applications → applicationKeyAt (node .appkeys) i .bound < node .networks
   -- consecutive unicast addresses, all at most 0x7FFF
   pub first-least : 1 ≤ node .first
   pub last-most : node .first + node .elements ≤ 0x8000

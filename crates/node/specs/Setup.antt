@@ -29,7 +29,7 @@ every p n l = leb n (first (λ x. not (p x)) l)
 
 -- each application key is bound to one network key
 unfoldable pub boundWithin : Setup → Bool
-boundWithin s = every (λ (b : BoundKey). ltb (b .network) (s .networks)) (s .applications) (s .secrets)
+boundWithin s = every (λ (b : BoundKey). ltb (b .network) (s .networks)) (s .applications) (s .appkeys)
 
 -- network keys 1 to 4, application keys 0 to 4
 unfoldable pub keysValid : Setup → Bool
@@ -68,26 +68,26 @@ valid s = keysValid s && (elementsValid s && (groupsValid s && indexValid s))
 abbrev pub zeroKey : Key
 zeroKey = record { octets = replicate 16 0 }
 
-abbrev pub zeroKeys : NetworkKeys
-zeroKeys = record { nid = 0; encryption = replicate 16 0; privacy = replicate 16 0 }
+abbrev pub zeroMaterial : NetworkKeys
+zeroMaterial = record { nid = 0; encryption = replicate 16 0; privacy = replicate 16 0 }
 
-abbrev pub zeroSecret : ApplicationKey
-zeroSecret = record { key = replicate 16 0; aid = 0; bound = 0 }
+abbrev pub zeroApplicationKey : ApplicationKey
+zeroApplicationKey = record { key = replicate 16 0; aid = 0; bound = 0 }
 
 -- the places of each array: those used, and zeros behind them
-unfoldable pub givenAt : Setup → ℕ → Key
-givenAt s i = if ltb i (s .networks) then getD (s .keys) i (record { octets = [] }) else zeroKey
+unfoldable pub networkKeyAt : Setup → ℕ → Key
+networkKeyAt s i = if ltb i (s .networks) then getD (s .netkeys) i (record { octets = [] }) else zeroKey
 
 -- NID, encryption key and privacy key are derived once
-unfoldable pub keysAt : Setup → ℕ → NetworkKeys
-keysAt s i = if ltb i (s .networks) then k2 (getD (s .keys) i (record { octets = [] }) .octets) else zeroKeys
+unfoldable pub materialAt : Setup → ℕ → NetworkKeys
+materialAt s i = if ltb i (s .networks) then k2 (getD (s .netkeys) i (record { octets = [] }) .octets) else zeroMaterial
 
 -- and so is AID
-unfoldable pub secretAt : Setup → ℕ → ApplicationKey
-secretAt s i =
-    let b = getD (s .secrets) i (record { key = []; network = 0 }) in
+unfoldable pub boundKeyAt : Setup → ℕ → ApplicationKey
+boundKeyAt s i =
+    let b = getD (s .appkeys) i (record { key = []; network = 0 }) in
     if ltb i (s .applications) then record { key = b .key; aid = k4 (b .key); bound = b .network } else
-    zeroSecret
+    zeroApplicationKey
 
 unfoldable pub nextAt : Setup → ℕ → ℕ
 nextAt s i = if ltb i (s .elements) then getD (s .next) i 0 else 0
@@ -99,10 +99,10 @@ unfoldable pub nodeOf : Setup → Node
 nodeOf s =
     record {
       networks = s .networks;
-      given = tab (givenAt s) 4;
-      keys = tab (keysAt s) 4;
+      netkeys = tab (networkKeyAt s) 4;
+      materials = tab (materialAt s) 4;
       applications = s .applications;
-      secrets = tab (secretAt s) 4;
+      appkeys = tab (boundKeyAt s) 4;
       device = s .device;
       first = s .first;
       elements = s .elements;
@@ -121,10 +121,10 @@ abbrev pub noNode : Node
 noNode =
     record {
       networks = 0;
-      given = replicate 4 zeroKey;
-      keys = replicate 4 zeroKeys;
+      netkeys = replicate 4 zeroKey;
+      materials = replicate 4 zeroMaterial;
       applications = 0;
-      secrets = replicate 4 zeroSecret;
+      appkeys = replicate 4 zeroApplicationKey;
       device = replicate 16 0;
       first = 0;
       elements = 0;

@@ -11,13 +11,13 @@ pub struct Key {
 
 // Each number of keys, elements or groups is read as at most the places that its array has.
 pub struct Node {
-    // How many network keys there are, in their fixed order; the keys as given, and what is derived from them.
+    // How many network keys there are, in their fixed order; and the security material that is derived from each: NID, encryption key and privacy key.
     pub networks: usize,
-    pub given: [Key; 4],
-    pub keys: [NetworkKeys; 4],
+    pub netkeys: [Key; 4],
+    pub materials: [NetworkKeys; 4],
     // How many application keys there are.
     pub applications: usize,
-    pub secrets: [ApplicationKey; 4],
+    pub appkeys: [ApplicationKey; 4],
     pub device: [u8; 16],
     // The first element's address, and how many elements there are.
     pub first: u16,

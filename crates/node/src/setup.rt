@@ -7,7 +7,7 @@ use transport::securing::ApplicationKey;
 ghost use mathlib.Core.Path.{_≡_};
 ghost use Prim.Native.Nat.{_<_, _≤_};
 ghost use Rattle.common.specs.Lists.{tab};
-ghost use Rattle.node.specs.Setup.{groupKind, boundWithin, keysValid, nextWithin, elementsValid, groupsValid, indexValid, valid, givenAt, keysAt, secretAt, nextAt, groupAt, nodeOf, nextOf, noNode, making};
+ghost use Rattle.node.specs.Setup.{groupKind, boundWithin, keysValid, nextWithin, elementsValid, groupsValid, indexValid, valid, networkKeyAt, materialAt, boundKeyAt, nextAt, groupAt, nodeOf, nextOf, noNode, making};
 
 // An application key, and the place of the network key that it is bound to.
 pub struct BoundKey {
@@ -18,10 +18,10 @@ pub struct BoundKey {
 pub struct Setup {
     // How many network keys there are: 1 to 4.
     pub networks: usize,
-    pub keys: [Key; 4],
+    pub netkeys: [Key; 4],
     // How many application keys there are: 0 to 4.
     pub applications: usize,
-    pub secrets: [BoundKey; 4],
+    pub appkeys: [BoundKey; 4],
     pub device: [u8; 16],
     // The first element's address, and how many elements there are: 1 to 8, each with its next SEQ.
     pub first: u16,
@@ -48,10 +48,10 @@ fn is_bound(s: Setup) -> bool
     requires { ⌜ s .applications ≤ 4 ⌝ }
     ensures { λ r. ⌜ r ≡ boundWithin s ⌝ }
 {
-    let secrets = s.secrets;
+    let appkeys = s.appkeys;
     let mut i: usize = 0;
     while i < s.applications {
-        let b = secrets[i];
+        let b = appkeys[i];
         if s.networks <= b.network {
             return false;
         }
@@ -162,24 +162,24 @@ fn is_valid(s: Setup) -> bool
     index_valid(s)
 }
 
-fn given_at(s: Setup, i: usize) -> Key
+fn network_key_at(s: Setup, i: usize) -> Key
     requires { ⌜ i < 4 ⌝ }
-    ensures { λ r. ⌜ r ≡ givenAt s i ⌝ }
+    ensures { λ r. ⌜ r ≡ networkKeyAt s i ⌝ }
 {
-    let keys = s.keys;
+    let netkeys = s.netkeys;
     if i < s.networks {
-        return keys[i];
+        return netkeys[i];
     }
     Key { octets: [0u8; 16] }
 }
 
-fn keys_at(s: Setup, i: usize) -> NetworkKeys
+fn material_at(s: Setup, i: usize) -> NetworkKeys
     requires { ⌜ i < 4 ⌝ }
-    ensures { λ r. ⌜ r ≡ keysAt s i ⌝ }
+    ensures { λ r. ⌜ r ≡ materialAt s i ⌝ }
 {
-    let given = s.keys;
+    let netkeys = s.netkeys;
     if i < s.networks {
-        let key = given[i];
+        let key = netkeys[i];
         let octets = key.octets;
         return keys::k2(octets);
     }
@@ -190,13 +190,13 @@ fn keys_at(s: Setup, i: usize) -> NetworkKeys
     }
 }
 
-fn secret_at(s: Setup, i: usize) -> ApplicationKey
+fn application_key_at(s: Setup, i: usize) -> ApplicationKey
     requires { ⌜ i < 4 ⌝ }
-    ensures { λ r. ⌜ r ≡ secretAt s i ⌝ }
+    ensures { λ r. ⌜ r ≡ boundKeyAt s i ⌝ }
 {
-    let secrets = s.secrets;
+    let appkeys = s.appkeys;
     if i < s.applications {
-        let b = secrets[i];
+        let b = appkeys[i];
         let key = b.key;
         return ApplicationKey {
             key,
@@ -228,31 +228,36 @@ fn group_at(s: Setup, i: usize) -> u16
 }
 
 // The places of each array together.
-fn given_of(s: Setup) -> [Key; 4]
-    ensures { λ r. ⌜ r ≡ tab (givenAt s) 4 ⌝ }
+fn network_keys_of(s: Setup) -> [Key; 4]
+    ensures { λ r. ⌜ r ≡ tab (networkKeyAt s) 4 ⌝ }
 {
     [
-        given_at(s, 0),
-        given_at(s, 1),
-        given_at(s, 2),
-        given_at(s, 3),
+        network_key_at(s, 0),
+        network_key_at(s, 1),
+        network_key_at(s, 2),
+        network_key_at(s, 3),
     ]
 }
 
-fn keys_of(s: Setup) -> [NetworkKeys; 4]
-    ensures { λ r. ⌜ r ≡ tab (keysAt s) 4 ⌝ }
-{
-    [keys_at(s, 0), keys_at(s, 1), keys_at(s, 2), keys_at(s, 3)]
-}
-
-fn secrets_of(s: Setup) -> [ApplicationKey; 4]
-    ensures { λ r. ⌜ r ≡ tab (secretAt s) 4 ⌝ }
+fn materials_of(s: Setup) -> [NetworkKeys; 4]
+    ensures { λ r. ⌜ r ≡ tab (materialAt s) 4 ⌝ }
 {
     [
-        secret_at(s, 0),
-        secret_at(s, 1),
-        secret_at(s, 2),
-        secret_at(s, 3),
+        material_at(s, 0),
+        material_at(s, 1),
+        material_at(s, 2),
+        material_at(s, 3),
+    ]
+}
+
+fn application_keys_of(s: Setup) -> [ApplicationKey; 4]
+    ensures { λ r. ⌜ r ≡ tab (boundKeyAt s) 4 ⌝ }
+{
+    [
+        application_key_at(s, 0),
+        application_key_at(s, 1),
+        application_key_at(s, 2),
+        application_key_at(s, 3),
     ]
 }
 
@@ -277,10 +282,10 @@ fn node_of(s: Setup) -> Node
     let device = s.device;
     Node {
         networks: s.networks,
-        given: given_of(s),
-        keys: keys_of(s),
+        netkeys: network_keys_of(s),
+        materials: materials_of(s),
         applications: s.applications,
-        secrets: secrets_of(s),
+        appkeys: application_keys_of(s),
         device,
         first: s.first,
         elements: s.elements,
@@ -296,22 +301,22 @@ fn zero_node() -> Node
     ensures { λ r. ⌜ r ≡ noNode ⌝ }
 {
     let key = Key { octets: [0u8; 16] };
-    let derived = NetworkKeys {
+    let material = NetworkKeys {
         nid: 0,
         encryption: [0u8; 16],
         privacy: [0u8; 16],
     };
-    let secret = ApplicationKey {
+    let application_key = ApplicationKey {
         key: [0u8; 16],
         aid: 0,
         bound: 0,
     };
     Node {
         networks: 0,
-        given: [key; 4],
-        keys: [derived; 4],
+        netkeys: [key; 4],
+        materials: [material; 4],
         applications: 0,
-        secrets: [secret; 4],
+        appkeys: [application_key; 4],
         device: [0u8; 16],
         first: 0,
         elements: 0,

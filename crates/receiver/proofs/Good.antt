@@ -96,7 +96,7 @@ good-hear r pdu fwd msg g =
     let o = openingOf r pdu in
     ⊎-elim (λ y. subst LeftHeard (sym (y .1 .leaves)) g)
     (λ p.
-    let c : Clear (o .header) = subst (λ (a : Answer). ClearIn a (o .header)) (p .opens) (opening-clear (r .node .keys) (r .node .networks) (r .node .iv) pdu) in
+    let c : Clear (o .header) = subst (λ (a : Answer). ClearIn a (o .header)) (p .opens) (opening-clear (r .node .materials) (r .node .networks) (r .node .iv) pdu) in
     subst LeftHeard (sym (p .passes)) (good-passed r g (o .header) c (o .trials) fwd msg))
     (heard-either r fwd msg pdu)
 

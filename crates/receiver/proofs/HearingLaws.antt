@@ -37,7 +37,7 @@ module _ (node : Node) (h : Header) (fwd : List ℕ) (local : Bool) (el : local 
   unfolding relayed
   relayed-not t = rw (← el, ← eo, not-true on t)
 
-  module _ (t : not on ≡ false) (a : sealing-answer.Answer) (left : List ℕ) (ea : lent a left ≡ forwarding (node .keys) h fwd) where
+  module _ (t : not on ≡ false) (a : sealing-answer.Answer) (left : List ℕ) (ea : lent a left ≡ forwarding (node .materials) h fwd) where
     pub relayed-sealed : (n : ℕ) → a ≡ sealing.Sealed n → lent n left ≡ relayed node h fwd
     unfolding relayed
     relayed-sealed n k = rw (← el, ← eo, not-false on t, ← ea, k)
@@ -141,7 +141,7 @@ module _ (r : Receiver) (pdu fwd msg : List ℕ) (t : Heard) where
     unfolding hearing
     hear-short-message l et = rw (le-ltb (length fwd) 29 lf, lt-ltb (length msg) 384 l, et)
 
-    module _ (lm : 384 ≤ length msg) (o : Opening) (e : o ≡ opening (r .node .keys) (r .node .networks) (r .node .iv) pdu) where
+    module _ (lm : 384 ≤ length msg) (o : Opening) (e : o ≡ opening (r .node .materials) (r .node .networks) (r .node .iv) pdu) where
       pub hear-length : o .answer ≡ network.WrongLength → t ≡ refusedHeard r refusal.WrongLength (o .trials) → outcome t fwd msg ≡ hearing r pdu fwd msg
       unfolding hearing openedAs
       hear-length k et = rw (le-ltb (length fwd) 29 lf, le-ltb (length msg) 384 lm, ← e, k, et)

@@ -88,13 +88,13 @@ control-up r s msg n left e q eq =
 -- it is opened as it stands there
 pub message-opened :
     (s : Session) (node : Node) (msg : List ℕ) (n : ℕ) → n ≡ length (messageOf s) → (e : Envelope) → e ≡ sessionEnvelope s
-    → (o : Opened) (left : List ℕ) → lent o left ≡ unsecuring (node .secrets) (node .applications) (node .device) e (take n (s .bytes)) msg
-    → lent o left ≡ unsecuring (node .secrets) (node .applications) (node .device) (sessionEnvelope s) (messageOf s) msg
+    → (o : Opened) (left : List ℕ) → lent o left ≡ unsecuring (node .appkeys) (node .applications) (node .device) e (take n (s .bytes)) msg
+    → lent o left ≡ unsecuring (node .appkeys) (node .applications) (node .device) (sessionEnvelope s) (messageOf s) msg
 message-opened s node msg n en e ee o left eo = rw (← ee, ← message-part s n en) eo
 
 -- ---- 13, or handed up
 module _ (r : Receiver) (s : Session) (msg : List ℕ) (o : Opened) (left : List ℕ)
-    (e : lent o left ≡ unsecuring (r .node .secrets) (r .node .applications) (r .node .device) (sessionEnvelope s) (messageOf s) msg) where
+    (e : lent o left ≡ unsecuring (r .node .appkeys) (r .node .applications) (r .node .device) (sessionEnvelope s) (messageOf s) msg) where
   pub up-message :
       (key : MessageKey) (trials len : ℕ) → o ≡ Message key trials len → (q : Receiver) → q ≡ upgraded r s
       → lent (record { answer = answer.Access (s .src) (s .terms .dst) (s .terms .key) key (s .auth) len; trials = trials; receiver = q }) left ≡ accessUp r s msg

@@ -75,7 +75,7 @@ module _ (r : Receiver) (h : Header) (a : Admission) (e : a ≡ admission (r .re
 
     pub access-admitted :
         a ≡ Admitted → (left : List ℕ)
-        → lent t left ≡ openedWhole r h (unsecuring (r .node .secrets) (r .node .applications) (r .node .device) (wholeEnvelope h akf aid) (drop 1 (transportOf h)) msg)
+        → lent t left ≡ openedWhole r h (unsecuring (r .node .appkeys) (r .node .applications) (r .node .device) (wholeEnvelope h akf aid) (drop 1 (transportOf h)) msg)
         → lent t left ≡ wholeAccess r h akf aid msg
     unfolding wholeAccess
     access-admitted k left et = et ∙ unless-admitted _ _ e k
@@ -151,8 +151,8 @@ module _ (h : Header) (l : length (h .transport) ≡ 16) where
 pub octets-opened :
     (h : Header) (node : Node) (akf : Bool) (aid : ℕ) (msg : List ℕ) (n : ℕ) → n ≡ 1 + length (drop 1 (transportOf h))
     → (e : Envelope) → e ≡ wholeEnvelope h akf aid
-    → (o : Opened) (left : List ℕ) → lent o left ≡ unsecuring (node .secrets) (node .applications) (node .device) e (take (n - 1) (drop 1 (h .transport))) msg
-    → lent o left ≡ unsecuring (node .secrets) (node .applications) (node .device) (wholeEnvelope h akf aid) (drop 1 (transportOf h)) msg
+    → (o : Opened) (left : List ℕ) → lent o left ≡ unsecuring (node .appkeys) (node .applications) (node .device) e (take (n - 1) (drop 1 (h .transport))) msg
+    → lent o left ≡ unsecuring (node .appkeys) (node .applications) (node .device) (wholeEnvelope h akf aid) (drop 1 (transportOf h)) msg
 octets-opened h node akf aid msg n en e ee o left eo = rw (← ee, ← part-of 1 (h .len) n (h .transport) en) eo
 
 pub control-up :

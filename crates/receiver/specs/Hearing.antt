@@ -46,7 +46,7 @@ refusedHeard r n trials = record { answer = Refused n; network = trials; applica
 -- forwarded exactly when relay is on, TTL is at least 2 and DST is no local unicast address; else the forward buffer stays
 unfoldable pub relayed : Node → Header → List ℕ → Lent ℕ
 relayed node h fwd =
-    let f = forwarding (node .keys) h fwd in
+    let f = forwarding (node .materials) h fwd in
     if forwards (node .relay) (isLocal node (h .dst)) h then lent (sealedLength (f .answer)) (f .buffer) else
     lent 0 fwd
 
@@ -106,7 +106,7 @@ openedAs network.Opened r h trials fwd msg = uncached r h trials fwd msg
 -- 16: a buffer lent for writing is shorter than 29 (PDU) or 384 (message)
 unfoldable pub hearing : Receiver → List ℕ → List ℕ → List ℕ → Outcome
 hearing r pdu fwd msg =
-    let o = opening (r .node .keys) (r .node .networks) (r .node .iv) pdu in
+    let o = opening (r .node .materials) (r .node .networks) (r .node .iv) pdu in
     if ltb (length fwd) 29 then outcome (refusedHeard r refusal.ShortBuffer 0) fwd msg else
     if ltb (length msg) 384 then outcome (refusedHeard r refusal.ShortBuffer 0) fwd msg else
     openedAs (o .answer) r (o .header) (o .trials) fwd msg

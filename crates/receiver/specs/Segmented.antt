@@ -81,7 +81,7 @@ accessUpAs r s ShortBuffer = refusedAt r refusal.ShortBuffer 0
 
 unfoldable pub accessUp : Receiver → Session → List ℕ → Lent Taken
 accessUp r s msg =
-    let o = unsecuring (r .node .secrets) (r .node .applications) (r .node .device) (sessionEnvelope s) (messageOf s) msg in
+    let o = unsecuring (r .node .appkeys) (r .node .applications) (r .node .device) (sessionEnvelope s) (messageOf s) msg in
     lent (accessUpAs r s (o .answer)) (o .buffer)
 
 -- the last missing segment completes it, and the slot is freed, whatever becomes of the message; else it is stored

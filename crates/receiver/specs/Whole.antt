@@ -73,7 +73,7 @@ unless Admitted refuse t = t
 unfoldable pub wholeAccess : Receiver → Header → Bool → ℕ → List ℕ → Lent Taken
 wholeAccess r h akf aid msg =
     unless (admission (r .replay) h) (λ n. lent (refusedAt r n 0) msg)
-    (openedWhole r h (unsecuring (r .node .secrets) (r .node .applications) (r .node .device) (wholeEnvelope h akf aid) (drop 1 (transportOf h)) msg))
+    (openedWhole r h (unsecuring (r .node .appkeys) (r .node .applications) (r .node .device) (wholeEnvelope h akf aid) (drop 1 (transportOf h)) msg))
 
 -- the parameters of a control message are handed up
 unfoldable pub wholeControlUp : Receiver → Header → ℕ → List ℕ → Lent Taken

@@ -4,7 +4,7 @@ use super::state::Receiver;
 use node::addresses::Node;
 use node::setup::Setup;
 ghost use mathlib.Core.Path.{_≡_};
-ghost use Rattle.receiver.specs.Fresh.{paper, fresh, settingUp};
+ghost use Rattle.receiver.specs.Fresh.{fresh, settingUp};
 
 pub enum Answer {
     // The receiver stands beside.
@@ -15,16 +15,6 @@ pub enum Answer {
 pub struct Ready {
     pub answer: Answer,
     pub receiver: Receiver,
-}
-
-// Document 01's number of an answer; 0 where nothing is refused.
-pub fn number(answer: Answer) -> u32
-    ensures { λ r. ⌜ r ≡ paper answer ⌝ }
-{
-    match answer {
-        Answer::Ready => 0,
-        Answer::Refused(refusal) => super::answer::number(refusal),
-    }
 }
 
 // A receiver that has heard and sent nothing.

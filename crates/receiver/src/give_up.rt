@@ -2,7 +2,7 @@
 use super::answer::Refusal;
 use super::state::Receiver;
 ghost use mathlib.Core.Path.{_≡_};
-ghost use Rattle.receiver.specs.GiveUp.{paper, givingUp};
+ghost use Rattle.receiver.specs.GiveUp.{givingUp};
 
 pub enum Answer {
     // What was there is given up.
@@ -13,16 +13,6 @@ pub enum Answer {
 pub struct GivenUp {
     pub answer: Answer,
     pub receiver: Receiver,
-}
-
-// Document 01's number of an answer; 0 where nothing is refused.
-pub fn number(answer: Answer) -> u32
-    ensures { λ r. ⌜ r ≡ paper answer ⌝ }
-{
-    match answer {
-        Answer::Done => 0,
-        Answer::Refused(refusal) => super::answer::number(refusal),
-    }
 }
 
 // Gives up the session of a source; its slot is zeroed.

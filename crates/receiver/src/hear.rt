@@ -37,7 +37,7 @@ fn relay(node: Node, h: Header, forward: &mut [u8]) -> usize
     if !network::sealing::is_forwarded(node.relay, local, h) {
         return 0;
     }
-    let held = node.keys;
+    let held = node.materials;
     match network::sealing::forward(held, h, forward) {
         Sealing::Sealed(n) => n,
         Sealing::OutsideRules => 0,
@@ -55,22 +55,22 @@ fn has_long_mic(form: Form) -> bool
         Form::Control { opcode: _ } => false,
         Form::Acknowledgement {
             obo: _,
-            seq_zero: _,
+            seqzero: _,
             bits: _,
         } => false,
         Form::AccessSegment {
             akf: _,
             aid: _,
             szmic,
-            seq_zero: _,
-            seg_o: _,
-            seg_n: _,
+            seqzero: _,
+            sego: _,
+            segn: _,
         } => szmic,
         Form::ControlSegment {
             opcode: _,
-            seq_zero: _,
-            seg_o: _,
-            seg_n: _,
+            seqzero: _,
+            sego: _,
+            segn: _,
         } => false,
     }
 }
@@ -85,27 +85,27 @@ fn take_form(r: Receiver, h: Header, message: &mut [u8]) -> Taken
         Form::Wrong => super::whole::refuse(r, Refusal::WrongForm, 0),
         Form::Access { akf, aid } => super::whole::access(r, h, akf, aid, message),
         Form::Control { opcode } => super::whole::control(r, h, opcode, message),
-        Form::Acknowledgement {
+        Form::Acknowledgement { obo, seqzero, bits } => super::whole::acknowledgement(
+            r,
+            h,
             obo,
-            seq_zero,
+            seqzero,
             bits,
-        } => super::whole::acknowledgement(r, h, obo, seq_zero, bits),
+        ),
         Form::AccessSegment {
             akf: _,
             aid: _,
             szmic: _,
-            seq_zero,
-            seg_o,
-            seg_n,
+            seqzero,
+            sego,
+            segn,
         }
         | Form::ControlSegment {
             opcode: _,
-            seq_zero,
-            seg_o,
-            seg_n,
-        } => {
-            super::segmented::segment(r, h, has_long_mic(form), seq_zero, seg_o, seg_n, message)
-        }
+            seqzero,
+            sego,
+            segn,
+        } => { super::segmented::segment(r, h, has_long_mic(form), seqzero, sego, segn, message) }
     }
 }
 
@@ -167,7 +167,7 @@ pub fn hear(r: Receiver, pdu: &[u8], forward: &mut [u8], message: &mut [u8]) -> 
         return refuse(r, Refusal::ShortBuffer, 0);
     }
     let node = r.node;
-    let held = node.keys;
+    let held = node.materials;
     let o = network::opening::open(held, node.networks, node.iv, pdu);
     let trials = o.trials;
     let answer = o.answer;

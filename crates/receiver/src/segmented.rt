@@ -117,14 +117,14 @@ fn envelope(s: Session) -> Envelope
 
 // Opens the message of a session into the message buffer.
 fn open(s: Session, node: Node, message: &mut [u8]) -> Opened
-    ensures { λ r. ⌜ lent r (now (message .exit)) ≡ unsecuring (node .secrets) (node .applications) (node .device) (sessionEnvelope s) (messageOf s) (now (message .entry)) ⌝ }
+    ensures { λ r. ⌜ lent r (now (message .exit)) ≡ unsecuring (node .appkeys) (node .applications) (node .device) (sessionEnvelope s) (messageOf s) (now (message .entry)) ⌝ }
 {
     let bytes = s.bytes;
     let n = octets(s);
-    let secrets = node.secrets;
+    let appkeys = node.appkeys;
     let device = node.device;
     transport::securing::open(
-        secrets,
+        appkeys,
         node.applications,
         device,
         envelope(s),

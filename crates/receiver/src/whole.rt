@@ -96,19 +96,19 @@ fn envelope(h: Header, akf: bool, aid: u8) -> Envelope
 
 // Opens a whole access message into the message buffer.
 fn open(h: Header, node: Node, akf: bool, aid: u8, message: &mut [u8]) -> Opened
-    ensures { λ r. ⌜ lent r (now (message .exit)) ≡ unsecuring (node .secrets) (node .applications) (node .device) (wholeEnvelope h akf aid) (drop 1 (transportOf h)) (now (message .entry)) ⌝ }
+    ensures { λ r. ⌜ lent r (now (message .exit)) ≡ unsecuring (node .appkeys) (node .applications) (node .device) (wholeEnvelope h akf aid) (drop 1 (transportOf h)) (now (message .entry)) ⌝ }
 {
     let t = h.transport;
     let n = octets_end(h);
-    let secrets = node.secrets;
+    let appkeys = node.appkeys;
     let device = node.device;
     let e = envelope(h, akf, aid);
-    transport::securing::open(secrets, node.applications, device, e, &t[1..n], message)
+    transport::securing::open(appkeys, node.applications, device, e, &t[1..n], message)
 }
 
 // An access message that may be accepted.
 fn open_access(r: Receiver, h: Header, akf: bool, aid: u8, message: &mut [u8]) -> Taken
-    ensures { λ t. ⌜ lent t (now (message .exit)) ≡ openedWhole r h (unsecuring (r .node .secrets) (r .node .applications) (r .node .device) (wholeEnvelope h akf aid) (drop 1 (transportOf h)) (now (message .entry))) ⌝ }
+    ensures { λ t. ⌜ lent t (now (message .exit)) ≡ openedWhole r h (unsecuring (r .node .appkeys) (r .node .applications) (r .node .device) (wholeEnvelope h akf aid) (drop 1 (transportOf h)) (now (message .entry))) ⌝ }
 {
     let node = r.node;
     match open(h, node, akf, aid, message) {

@@ -12,7 +12,7 @@ pub(crate) fn request(line: &[u8], out: &mut [u8]) -> usize {
         return salt(line, out);
     }
     if common::equal(word, b"k2") {
-        return network_keys(line, out);
+        return netkeys(line, out);
     }
     if common::equal(word, b"k4") {
         return aid(line, out);
@@ -30,7 +30,7 @@ fn salt(line: &[u8], out: &mut [u8]) -> usize {
 }
 
 // `k2 KEY`: NID, encryption key and privacy key.
-fn network_keys(line: &[u8], out: &mut [u8]) -> usize {
+fn netkeys(line: &[u8], out: &mut [u8]) -> usize {
     let mut key = [0u8; 16];
     if !hex::fill(field::last(line, 1), &mut key) {
         return 0;

@@ -40,7 +40,7 @@ use Rattle.sending.specs.Transmission.{transmitted}
 module _ (node : Node) (key : MessageKey) where
   module _ (i : ℕ) (k : key ≡ Application i) where
     pub used-application :
-        i < 4 → record { akf = true; aid = applicationKeyAt (node .secrets) i .aid; key = applicationKeyAt (node .secrets) i .key } ≡ keyed node key
+        i < 4 → record { akf = true; aid = applicationKeyAt (node .appkeys) i .aid; key = applicationKeyAt (node .appkeys) i .key } ≡ keyed node key
     used-application h = rw (k, lt-ltb i 4 h)
 
     pub used-past : 4 ≤ i → record { akf = true; aid = 0; key = replicate 16 0 } ≡ keyed node key
@@ -58,7 +58,7 @@ module _ (node : Node) (key : MessageKey) where
         pub key-absent : node .applications ≤ i → false ≡ keyAllowed node q key
         key-absent n = rw (k, le-ltb i (min (node .applications) 4) (omega arith))
 
-        pub key-bound : i < node .applications → eqb (applicationKeyAt (node .secrets) i .bound) (q .network) ≡ keyAllowed node q key
+        pub key-bound : i < node .applications → eqb (applicationKeyAt (node .appkeys) i .bound) (q .network) ≡ keyAllowed node q key
         key-bound n = rw (k, lt-ltb i (min (node .applications) 4) (omega arith))
 
     pub key-device : key ≡ Device → (u : Bool) → u ≡ isUnicast (q .dst) → u ≡ keyAllowed node q key

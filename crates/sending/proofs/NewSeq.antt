@@ -38,7 +38,7 @@ sides : (r : Receiver) (element : ℕ) (h : Header) (buf : List ℕ) → Sides r
 unfolding transmitted Sides
 sides r element h buf =
     let P : Lent Transmitted → Type 0 = λ t. Sides r element (t .answer) in
-    let s = sealing (keyAt (r .node .keys) (h .key)) (stamped r element h) buf in
+    let s = sealing (keyAt (r .node .materials) (h .key)) (stamped r element h) buf in
     by-choice P (ltb 0xFFFFFF (nextSeq r element)) (λ t. inr (refl, refl))
     (λ t. by-choice P (ltb (h .key) 4) (λ u. sides-sealed (s .answer) r element) (λ u. inr (refl, refl)))
 
@@ -108,7 +108,7 @@ sealed-of sealed.ShortBuffer r element len e = absurd (false≢true (ap isSent e
 
 module _ (r : Receiver) (element : ℕ) (h : Header) (buf : List ℕ) (len : ℕ) where
   sealing-made : Lent sealing-answer.Answer
-  sealing-made = sealing (keyAt (r .node .keys) (h .key)) (stamped r element h) buf
+  sealing-made = sealing (keyAt (r .node .materials) (h .key)) (stamped r element h) buf
 
   Made : Lent Transmitted → Type 0
   Made t = t .answer .answer ≡ Sent len → (nextSeq r element ≤ 0xFFFFFF) × (sealing-made ≡ lent (sealed.Sealed len) (t .buffer))

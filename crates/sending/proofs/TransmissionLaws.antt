@@ -36,7 +36,7 @@ module _ (r : Receiver) (element : ℕ) (h : Header) (buf : List ℕ) where
     transmit-no-key k = rw (le-ltb 0xFFFFFF (nextSeq r element) n, le-ltb (h .key) 4 k)
 
     module _ (k : h .key < 4) (s : Header) (es : s ≡ stamped r element h) (a : sealing-answer.Answer) (left : List ℕ)
-        (ea : lent a left ≡ sealing (keyAt (r .node .keys) (h .key)) s buf) where
+        (ea : lent a left ≡ sealing (keyAt (r .node .materials) (h .key)) s buf) where
       pub transmit-sent :
           (len : ℕ) → a ≡ sealed.Sealed len → (q : Receiver) → q ≡ withNext r element
           → lent (record { answer = Sent len; receiver = q }) left ≡ transmitted r element h buf

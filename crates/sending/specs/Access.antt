@@ -34,13 +34,13 @@ use Rattle.sending.specs.Transmission.{sendingIv, addressOf, nextSeq, tr
 -- the key that a request names: AKF, AID and its octets; past the four places of application keys there is none
 abbrev pub keyed : Node → MessageKey → KeyUsed
 keyed node (Application i) =
-    if ltb i 4 then record { akf = true; aid = applicationKeyAt (node .secrets) i .aid; key = applicationKeyAt (node .secrets) i .key } else
+    if ltb i 4 then record { akf = true; aid = applicationKeyAt (node .appkeys) i .aid; key = applicationKeyAt (node .appkeys) i .key } else
     record { akf = true; aid = 0; key = replicate 16 0 }
 keyed node Device = record { akf = false; aid = 0; key = node .device }
 
 -- an application key that is there, bound to the network key named; the device key needs a unicast DST
 abbrev pub keyAllowed : Node → Request → MessageKey → Bool
-keyAllowed node q (Application i) = ltb i (min (node .applications) 4) && eqb (applicationKeyAt (node .secrets) i .bound) (q .network)
+keyAllowed node q (Application i) = ltb i (min (node .applications) 4) && eqb (applicationKeyAt (node .appkeys) i .bound) (q .network)
 keyAllowed node q Device = isUnicast (q .dst)
 
 -- 1 to 11 octets with the 4-octet TransMIC go unsegmented

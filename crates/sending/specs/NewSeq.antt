@@ -33,7 +33,7 @@ pub record SentWithNext (r : Receiver) (element : ℕ) (h : Header) (buf : List 
   -- the header that is sealed has it
   pub stamp : stamped r element h .seq ≡ nextSeq r element
   -- and the buffer holds what sealing made
-  pub made : sealing (keyAt (r .node .keys) (h .key)) (stamped r element h) buf ≡ lent (Sealed len) (transmitted r element h buf .buffer)
+  pub made : sealing (keyAt (r .node .materials) (h .key)) (stamped r element h) buf ≡ lent (Sealed len) (transmitted r element h buf .buffer)
 
 abbrev pub UsesNext : Type 0
 UsesNext =

@@ -65,7 +65,7 @@ sentAs ShortBuffer r element = noTransmission Unsealed r
 -- 15: the transmission needs an SEQ above 0xFFFFFF; else the PDU fills the first octets of the buffer
 unfoldable pub transmitted : Receiver → ℕ → Header → List ℕ → Lent Transmitted
 transmitted r element h buf =
-    let s = sealing (keyAt (r .node .keys) (h .key)) (stamped r element h) buf in
+    let s = sealing (keyAt (r .node .materials) (h .key)) (stamped r element h) buf in
     if ltb 0xFFFFFF (nextSeq r element) then lent (noTransmission NoSeqLeft r) buf else
     if ltb (h .key) 4 then lent (sentAs (s .answer) r element) (s .buffer) else
     lent (noTransmission Unsealed r) buf

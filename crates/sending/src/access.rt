@@ -31,12 +31,12 @@ pub struct KeyUsed {
 fn key_used(node: Node, key: MessageKey) -> KeyUsed
     ensures { λ k. ⌜ k ≡ keyed node key ⌝ }
 {
-    let secrets = node.secrets;
+    let appkeys = node.appkeys;
     let device = node.device;
     match key {
         MessageKey::Application(i) => {
             if i < 4 {
-                let s = secrets[i];
+                let s = appkeys[i];
                 let octets = s.key;
                 return KeyUsed {
                     akf: true,
@@ -62,7 +62,7 @@ fn key_used(node: Node, key: MessageKey) -> KeyUsed
 fn key_allowed(node: Node, q: Request, key: MessageKey) -> bool
     ensures { λ b. ⌜ b ≡ keyAllowed node q key ⌝ }
 {
-    let secrets = node.secrets;
+    let appkeys = node.appkeys;
     match key {
         MessageKey::Application(i) => {
             if 4 <= i {
@@ -71,7 +71,7 @@ fn key_allowed(node: Node, q: Request, key: MessageKey) -> bool
             if node.applications <= i {
                 return false;
             }
-            let s = secrets[i];
+            let s = appkeys[i];
             s.bound == q.network
         }
         MessageKey::Device => network::address::is_unicast(q.dst),

@@ -4,7 +4,7 @@ use super::transmission::Transmitted;
 use receiver::answer::Refusal;
 use receiver::state::Receiver;
 ghost use mathlib.Core.Path.{_≡_};
-ghost use Rattle.sending.specs.Answer.{paper, refusedAt, spoken};
+ghost use Rattle.sending.specs.Answer.{refusedAt, spoken};
 
 pub enum Answer {
     // One PDU is made: so many octets of the buffer.
@@ -21,17 +21,6 @@ pub enum Answer {
 pub struct Spoken {
     pub answer: Answer,
     pub receiver: Receiver,
-}
-
-// Document 01's number of an answer; 0 where nothing is refused.
-pub fn number(answer: Answer) -> u32
-    ensures { λ r. ⌜ r ≡ paper answer ⌝ }
-{
-    match answer {
-        Answer::Sent(_) => 0,
-        Answer::Started { .. } => 0,
-        Answer::Refused(refusal) => receiver::answer::number(refusal),
-    }
 }
 
 // A refusal that leaves everything.

@@ -68,7 +68,7 @@ pub(crate) fn transmit(r: Receiver, element: usize, h: Header, out: &mut [u8]) -
 {
     let next = r.next;
     let node = r.node;
-    let held = node.keys;
+    let held = node.materials;
     let place = h.key;
     if 0xFFFFFF < next[element] {
         return Transmitted {

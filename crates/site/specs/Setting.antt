@@ -26,9 +26,9 @@ abbrev pub setting : ℕ → ℕ → ℕ → Bool → Setup
 setting address next iv flag =
     record {
       networks = 1;
-      keys = replicate 4 (record { octets = networkKey });
+      netkeys = replicate 4 (record { octets = networkKey });
       applications = 1;
-      secrets = replicate 4 (record { key = applicationKey; network = 0 });
+      appkeys = replicate 4 (record { key = applicationKey; network = 0 });
       device = deviceKey;
       first = address;
       elements = 1;

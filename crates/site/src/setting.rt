@@ -72,9 +72,9 @@ pub fn setup(address: u16, next: u32, iv: u32, flag: bool) -> Setup
     let device = DEVICE_KEY;
     Setup {
         networks: 1,
-        keys: [Key { octets }; 4],
+        netkeys: [Key { octets }; 4],
         applications: 1,
-        secrets: [BoundKey { key, network: 0 }; 4],
+        appkeys: [BoundKey { key, network: 0 }; 4],
         device,
         first: address,
         elements: 1,

@@ -49,7 +49,7 @@ row-more r pdus msg i p ep q ea = rw (add-one i, ← p, ← ep, ← q, ea)
 
 pub opened-more :
     (node : Node) (pdu : List ℕ) (i : ℕ) {count : ℕ} → count ≡ openedOver node pdu i → {o : Opening}
-    → o ≡ opening (node .keys) (node .networks) (node .iv) pdu → {a : ℕ} → a ≡ opened (o .answer) → count + a ≡ openedOver node pdu (i + 1)
+    → o ≡ opening (node .materials) (node .networks) (node .iv) pdu → {a : ℕ} → a ≡ opened (o .answer) → count + a ≡ openedOver node pdu (i + 1)
 unfolding openedOver
 opened-more node pdu i p e ea = rw (add-one i, ← p, ← e, ea)
 

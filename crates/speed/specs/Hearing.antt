@@ -34,9 +34,9 @@ abbrev pub setupOf : List ℕ → ℕ → ℕ → Setup
 setupOf keys first iv =
     record {
       networks = 1;
-      keys = replicate 4 (record { octets = keyAt keys 0 });
+      netkeys = replicate 4 (record { octets = keyAt keys 0 });
       applications = 1;
-      secrets = replicate 4 (record { key = keyAt keys 1; network = 0 });
+      appkeys = replicate 4 (record { key = keyAt keys 1; network = 0 });
       device = keyAt keys 2;
       first = first;
       elements = 1;
@@ -124,7 +124,7 @@ opened network.WrongAddress = 0
 unfoldable pub openedOver : Node → List ℕ → ℕ → ℕ
 openedOver node pdu zero = 0
 openedOver node pdu (suc n) =
-    openedOver node pdu n + opened (opening (node .keys) (node .networks) (node .iv) pdu .answer)
+    openedOver node pdu n + opened (opening (node .materials) (node .networks) (node .iv) pdu .answer)
 
 -- none where keys is not 48 octets
 unfoldable pub openedTimes : List ℕ → ℕ → ℕ → List ℕ → ℕ → ℕ

@@ -29,14 +29,14 @@ fn setup(keys: &[u8], first: u16, iv: u32) -> Setup
     ensures { λ s. ⌜ s ≡ setupOf (now (keys .entry)) first iv ⌝ }
 {
     let octets = key(keys, 0);
-    let secret = key(keys, 1);
+    let application_key = key(keys, 1);
     let device = key(keys, 2);
     Setup {
         networks: 1,
-        keys: [Key { octets }; 4],
+        netkeys: [Key { octets }; 4],
         applications: 1,
-        secrets: [BoundKey {
-            key: secret,
+        appkeys: [BoundKey {
+            key: application_key,
             network: 0,
         }; 4],
         device,
@@ -204,7 +204,7 @@ fn open(answer: Network) -> u32
 fn open_over(node: Node, pdu: &[u8], times: u32) -> u32
     ensures { λ n. ⌜ n ≡ openedOver node (now (pdu .entry)) times ⌝ }
 {
-    let keys = node.keys;
+    let keys = node.materials;
     let mut count: u32 = 0;
     let mut i: u32 = 0;
     while i < times {

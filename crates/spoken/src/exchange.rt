@@ -108,7 +108,7 @@ fn acknowledge(node: Receiver) -> Receiver {
 
 // Opens a PDU under the network keys of a node, and writes its transport PDU.
 fn show_transport(node: Node, pdu: &[u8]) {
-    let keys = node.keys;
+    let keys = node.materials;
     let opened = network::opening::open(keys, node.networks, node.iv, pdu);
     write_transport(opened.header);
 }

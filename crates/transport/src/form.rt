@@ -18,9 +18,9 @@ pub enum Form {
         akf: bool,
         aid: u8,
         szmic: bool,
-        seq_zero: u16,
-        seg_o: u8,
-        seg_n: u8,
+        seqzero: u16,
+        sego: u8,
+        segn: u8,
     },
     // A whole control message.
     Control {
@@ -29,14 +29,14 @@ pub enum Form {
     // A segment of a control message.
     ControlSegment {
         opcode: u8,
-        seq_zero: u16,
-        seg_o: u8,
-        seg_n: u8,
+        seqzero: u16,
+        sego: u8,
+        segn: u8,
     },
     // An acknowledgement, with its BlockAck.
     Acknowledgement {
         obo: bool,
-        seq_zero: u16,
+        seqzero: u16,
         bits: u32,
     },
     // 7: the transport form is wrong.
@@ -116,21 +116,21 @@ fn access_segment(h: Header) -> Form
     let akf = akf_of(t[0]);
     let aid = t[0] % 64;
     let n = number(0, t[1], t[2], t[3]);
-    let seg_o = (n / 32 % 32) as u8;
-    let seg_n = (n % 32) as u8;
+    let sego = (n / 32 % 32) as u8;
+    let segn = (n % 32) as u8;
     if !key_fits(akf, aid, h.dst) {
         return Form::Wrong;
     }
-    if !segment_fits(seg_o, seg_n, h.len, 16) {
+    if !segment_fits(sego, segn, h.len, 16) {
         return Form::Wrong;
     }
     Form::AccessSegment {
         akf,
         aid,
         szmic: 8388608 <= n,
-        seq_zero: (n / 1024 % 8192) as u16,
-        seg_o,
-        seg_n,
+        seqzero: (n / 1024 % 8192) as u16,
+        sego,
+        segn,
     }
 }
 
@@ -148,7 +148,7 @@ fn control(h: Header) -> Form
             let n = number(0, 0, t[1], t[2]);
             Form::Acknowledgement {
                 obo: 32768 <= n,
-                seq_zero: (n / 4 % 8192) as u16,
+                seqzero: (n / 4 % 8192) as u16,
                 bits: number(t[3], t[4], t[5], t[6]),
             }
         }
@@ -164,19 +164,19 @@ fn control_segment(h: Header) -> Form
     let t = h.transport;
     let opcode = t[0] % 128;
     let n = number(0, t[1], t[2], t[3]);
-    let seg_o = (n / 32 % 32) as u8;
-    let seg_n = (n % 32) as u8;
+    let sego = (n / 32 % 32) as u8;
+    let segn = (n % 32) as u8;
     match super::opcode::kind(opcode) {
         OpcodeKind::OfAcknowledgement => Form::Wrong,
         OpcodeKind::OfControl => {
-            if !segment_fits(seg_o, seg_n, h.len, 12) {
+            if !segment_fits(sego, segn, h.len, 12) {
                 return Form::Wrong;
             }
             Form::ControlSegment {
                 opcode,
-                seq_zero: (n / 1024 % 8192) as u16,
-                seg_o,
-                seg_n,
+                seqzero: (n / 1024 % 8192) as u16,
+                sego,
+                segn,
             }
         }
         OpcodeKind::NoOpcode => Form::Wrong,

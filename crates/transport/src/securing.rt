@@ -5,7 +5,7 @@ ghost use Prim.Native.Nat.{_+_, _-_, _≤_};
 ghost use lib.ListN.{length};
 ghost use Rattle.common.specs.Lent.{lent};
 ghost use Rattle.modes.specs.Ccm.{micOctets};
-ghost use Rattle.transport.specs.Securing.{transMic, messageNonceOf, openedBy, fitsKey, byApplicationKeys, byDeviceKey, paper, securing, unsecuring};
+ghost use Rattle.transport.specs.Securing.{transMic, messageNonceOf, openedBy, fitsKey, byApplicationKeys, byDeviceKey, securing, unsecuring};
 
 // An application key, its AID, and the place of the network key that it is bound to.
 pub struct ApplicationKey {
@@ -48,17 +48,6 @@ pub enum Opened {
     },
     // 16: the buffer is shorter than 384.
     ShortBuffer,
-}
-
-// Document 01's number of an answer; 0 where nothing is refused.
-pub fn number(answer: Opened) -> u32
-    ensures { λ r. ⌜ r ≡ paper answer ⌝ }
-{
-    match answer {
-        Opened::Message { .. } => 0,
-        Opened::NotOpened { .. } => 13,
-        Opened::ShortBuffer => 16,
-    }
 }
 
 // The size of the TransMIC.

@@ -65,8 +65,8 @@ abbrev AfterTaken : Receiver → List ℕ → Lent Taken → Type 0
 AfterTaken q msg t = After q msg (t .answer .answer) (t .answer .receiver) (t .buffer)
 
 module _ (q : Receiver) (msg : List ℕ) (room : 384 ≤ length msg) where
-  long-enough : (e : Envelope) (c : List ℕ) → unsecuring (q .node .secrets) (q .node .applications) (q .node .device) e c msg .answer ≡ ShortBuffer → ⊥
-  long-enough e c s = omega (arith, unsecuring-short (q .node .secrets) (q .node .applications) (q .node .device) e c msg s)
+  long-enough : (e : Envelope) (c : List ℕ) → unsecuring (q .node .appkeys) (q .node .applications) (q .node .device) e c msg .answer ≡ ShortBuffer → ⊥
+  long-enough e c s = omega (arith, unsecuring-short (q .node .appkeys) (q .node .applications) (q .node .device) e c msg s)
 
   -- ---- whole messages
   after-unless : (a : Admission) (t : Lent Taken) → AfterTaken q msg t → AfterTaken q msg (whole.unless a (λ n. lent (whole.refusedAt q n 0) msg) t)
@@ -86,7 +86,7 @@ module _ (q : Receiver) (msg : List ℕ) (room : 384 ≤ length msg) where
   after-access : (h : Header) (akf : Bool) (aid : ℕ) → AfterTaken q msg (whole.wholeAccess q h akf aid msg)
   unfolding whole.wholeAccess whole.openedWhole
   after-access h akf aid =
-      let keys = q .node .secrets in
+      let keys = q .node .appkeys in
       let e = whole.wholeEnvelope h akf aid in
       let c = drop 1 (transportOf h) in
       let u = unsecuring keys (q .node .applications) (q .node .device) e c msg in
@@ -121,7 +121,7 @@ module _ (q : Receiver) (msg : List ℕ) (room : 384 ≤ length msg) where
   after-access-up : (slot : ℕ) (s : Session) → AfterTaken q msg (accessUp (withSession q slot noSession) s msg)
   unfolding accessUp
   after-access-up slot s =
-      let keys = q .node .secrets in
+      let keys = q .node .appkeys in
       let e = sessionEnvelope s in
       let c = messageOf s in
       let u = unsecuring keys (q .node .applications) (q .node .device) e c msg in

@@ -37,7 +37,7 @@ module _ (r : Receiver) (h : Header) (msg : List ℕ) where
   -- a whole message that is admitted
   pub taken-access :
       (akf : Bool) (aid trials len : ℕ) (key : MessageKey) (left : List ℕ) → formOf h ≡ form.Access akf aid → whole.admission (r .replay) h ≡ admission.Admitted
-      → unsecuring (r .node .secrets) (r .node .applications) (r .node .device) (whole.wholeEnvelope h akf aid) (drop 1 (transportOf h)) msg
+      → unsecuring (r .node .appkeys) (r .node .applications) (r .node .device) (whole.wholeEnvelope h akf aid) (drop 1 (transportOf h)) msg
       ≡ lent (Message key trials len) left
       → takenAs (formOf h) r h msg
       ≡ lent (record { answer = answer.Access (h .src) (h .dst) (h .key) key (whole.pairOf h) len; trials = trials; receiver = whole.admitted r h }) left

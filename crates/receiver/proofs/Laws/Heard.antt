@@ -47,7 +47,7 @@ abbrev pub Early : Receiver → List ℕ → List ℕ → Outcome → Type 0
 Early r fwd msg o = (n : Refusal) × Refuses r fwd msg n o
 
 abbrev pub openingOf : Receiver → List ℕ → Opening
-openingOf r pdu = opening (r .node .keys) (r .node .networks) (r .node .iv) pdu
+openingOf r pdu = opening (r .node .materials) (r .node .networks) (r .node .iv) pdu
 
 -- the receiver with the PDU of a header in its cache
 abbrev pub caching : Receiver → Header → Receiver
@@ -98,7 +98,7 @@ module _ (r : Receiver) (fwd msg : List ℕ) where
 
 -- ---- a PDU that opens
 module _ (r : Receiver) (pdu fwd msg : List ℕ) (wide : 29 ≤ length fwd) (big : 384 ≤ length msg) (h : Header) (trials : ℕ)
-    (opens : opening (r .node .keys) (r .node .networks) (r .node .iv) pdu ≡ record { answer = network.Opened; trials = trials; header = h }) where
+    (opens : opening (r .node .materials) (r .node .networks) (r .node .iv) pdu ≡ record { answer = network.Opened; trials = trials; header = h }) where
   pub heard-opened : hearing r pdu fwd msg ≡ uncached r h trials fwd msg
   unfolding hearing openedAs
   heard-opened = rw (le-ltb (length fwd) 29 wide, le-ltb (length msg) 384 big, opens) refl
@@ -116,7 +116,7 @@ module _ (r : Receiver) (pdu fwd msg : List ℕ) (wide : 29 ≤ length fwd) (big
 
   pub heard-forwarded :
       seen (r .cache) (h .src) (h .seq) ≡ false → goesOn ≡ true
-      → (let f = forwarding (r .node .keys) h fwd in forwardedIs (lent (sealedLength (f .answer)) (f .buffer)))
+      → (let f = forwarding (r .node .materials) h fwd in forwardedIs (lent (sealedLength (f .answer)) (f .buffer)))
   unfolding uncached passed relayed
   heard-forwarded e t = rw (heard-opened, e, t) refl
 

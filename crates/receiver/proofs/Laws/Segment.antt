@@ -98,7 +98,7 @@ module _ (r : Receiver) (slot : ℕ) (s : Session) (msg : List ℕ) where
 module _ (r : Receiver) (s : Session) (msg : List ℕ) where
   pub access-up :
       (key : MessageKey) (trials len : ℕ) (left : List ℕ)
-      → unsecuring (r .node .secrets) (r .node .applications) (r .node .device) (sessionEnvelope s) (take (s .len) (s .bytes)) msg
+      → unsecuring (r .node .appkeys) (r .node .applications) (r .node .device) (sessionEnvelope s) (take (s .len) (s .bytes)) msg
       ≡ lent (Message key trials len) left
       → accessUp r s msg
       ≡ lent (record { answer = answer.Access (s .src) (s .terms .dst) (s .terms .key) key (s .auth) len; trials = trials; receiver = upgraded r s }) left

@@ -85,10 +85,10 @@ access-allows r q key szmic len e =
 -- an application key that may be used is there, and bound to the network key named
 pub application-there :
     (node : Node) (q : Request) (i : ℕ) → keyAllowed node q (Application i) ≡ true
-    → (i < min (node .applications) 4) × (applicationKeyAt (node .secrets) i .bound ≡ q .network)
+    → (i < min (node .applications) 4) × (applicationKeyAt (node .appkeys) i .bound ≡ q .network)
 application-there node q i e =
     let there = ltb i (min (node .applications) 4) in
-    let bound = applicationKeyAt (node .secrets) i .bound in
+    let bound = applicationKeyAt (node .appkeys) i .bound in
     (ltb-true i (min (node .applications) 4) (and-first there _ e), eqb-true bound (q .network) (and-second there _ e))
 
 -- one that goes whole has the TransMIC of 4 octets, and 11 octets at most

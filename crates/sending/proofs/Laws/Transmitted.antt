@@ -59,18 +59,18 @@ saying r element h buf = let t = transmitted r element h buf in lent (spoken (t 
 
 -- the PDU that is sent
 abbrev pub pduBy : Receiver → ℕ → Header → List ℕ
-pduBy r element h = pduOf (keyAt (r .node .keys) (h .key)) (stamped r element h)
+pduBy r element h = pduOf (keyAt (r .node .materials) (h .key)) (stamped r element h)
 
 -- an SEQ is left, the key has a place, the buffer is long enough, and the PDU can be sealed
 pub record Sends (r : Receiver) (element : ℕ) (h : Header) (buf : List ℕ) : Type 0 where
   pub seq-left : nextSeq r element ≤ 0xFFFFFF
   pub key-there : h .key < 4
   pub wide : 29 ≤ length buf
-  pub can : sealable (keyAt (r .node .keys) (h .key)) (stamped r element h) ≡ true
+  pub can : sealable (keyAt (r .node .materials) (h .key)) (stamped r element h) ≡ true
 
 module _ (r : Receiver) (element : ℕ) (h : Header) (buf : List ℕ) where
   abbrev key : NetworkKeys
-  key = keyAt (r .node .keys) (h .key)
+  key = keyAt (r .node .materials) (h .key)
 
   abbrev pdu : List ℕ
   pdu = pduBy r element h

@@ -16,9 +16,9 @@ returns c = rw (c .before .counted .ensures)
 returns-2 : tie.Need-returns-2
 returns-2 c =
     let s = c .before .before .args .s in
-    let long : length (s .secrets) ≡ 4 = search (needs, length-mapped) in
+    let long : length (s .appkeys) ≡ 4 = search (needs, length-mapped) in
     let k : BoundKey = record { key = c .before .before .args .key; network = c .before .before .args .network } in
-    rw (c .before .counted .ensures, set-out (s .secrets) (s .applications) k (omega arith))
+    rw (c .before .counted .ensures, set-out (s .appkeys) (s .applications) k (omega arith))
 
 pub with-application-key-spec : {M : Type 1} → statement M
 with-application-key-spec = tie.close (tie.spec (λ c κs. search needs) (λ c. search needs) (λ c. search needs) returns returns-2)

@@ -15,8 +15,8 @@ returns c = rw (c .before .counted .ensures)
 returns-2 : tie.Need-returns-2
 returns-2 c =
     let s = c .before .before .args .s in
-    let long : length (s .keys) ≡ 4 = search (needs, length-mapped) in
-    rw (c .before .counted .ensures, set-out (s .keys) (s .networks) (record { octets = c .before .before .args .octets }) (omega arith))
+    let long : length (s .netkeys) ≡ 4 = search (needs, length-mapped) in
+    rw (c .before .counted .ensures, set-out (s .netkeys) (s .networks) (record { octets = c .before .before .args .octets }) (omega arith))
 
 pub with-network-key-spec : {M : Type 1} → statement M
 with-network-key-spec = tie.close (tie.spec (λ c κs. search needs) (λ c. search needs) (λ c. search needs) returns returns-2)

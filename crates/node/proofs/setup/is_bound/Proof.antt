@@ -15,10 +15,10 @@ use Rattle.node.proofs.setup.is_bound.Statement.{statement}
 use Rattle.node.proofs.setup.is_bound.Tie as tie
 
 abbrev Inv-loop : tie.InvT-loop
-Inv-loop s secrets i₀ i = (length secrets ≡ 4) × EachBefore (λ (b : BoundKey). ltb (b .network) (s .networks)) secrets i
+Inv-loop s keys i₀ i = (length keys ≡ 4) × EachBefore (λ (b : BoundKey). ltb (b .network) (s .networks)) keys i
 
 abbrev μ-loop : tie.MeasureT-loop
-μ-loop s secrets i₀ i = s .applications - i
+μ-loop s keys i₀ i = s .applications - i
 
 loop-holds : tie.Need-loop-holds Inv-loop μ-loop
 loop-holds c = (search (needs, length-mapped), every-start)

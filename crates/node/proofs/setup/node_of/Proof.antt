@@ -8,7 +8,7 @@ use Rattle.node.proofs.setup.node_of.Tie as tie
 returns : tie.Need-returns
 unfolding nodeOf
 returns c =
-    simp (c .before .before .before .given-of .ensures, c .before .before .keys-of .ensures, c .before .secrets-of .ensures, c .groups-of .ensures)
+    simp (c .before .before .before .network-keys-of .ensures, c .before .before .materials-of .ensures, c .before .application-keys-of .ensures, c .groups-of .ensures)
 
 pub node-of-spec : {M : Type 1} → statement M
 node-of-spec =
