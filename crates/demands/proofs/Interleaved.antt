@@ -25,9 +25,8 @@ use Rattle.common.proofs.Tests.{by-test}
 use Rattle.network.proofs.AddressLaws.{unicast-some}
 use Rattle.memory.specs.declared.replay.Entry.{Entry}
 use Rattle.memory.specs.declared.session.Session.{Session}
-use Rattle.memory.specs.Decision.{sessionAt}
 use Rattle.memory.specs.Replay.{lookUp}
-use Rattle.memory.specs.Session.{noSession, noSessions, sessionPlace}
+use Rattle.memory.specs.Session.{sessionAt, noSession, noSessions, sessionPlace}
 use Rattle.memory.proofs.Apart.{past}
 use Rattle.memory.proofs.SessionSlots.{place-upto}
 use Rattle.node.specs.declared.addresses.Node.{Node}

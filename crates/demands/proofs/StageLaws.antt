@@ -9,9 +9,8 @@ use Rattle.common.specs.Bits.{allBits}
 use Rattle.memory.specs.declared.replay.Entry.{Entry}
 use Rattle.memory.specs.declared.session.Segment.{Segment}
 use Rattle.memory.specs.declared.session.Session.{Session}
-use Rattle.memory.specs.Decision.{sessionAt}
 use Rattle.memory.specs.Replay.{noEntry, lookUp}
-use Rattle.memory.specs.Session.{sessionPlace}
+use Rattle.memory.specs.Session.{sessionAt, sessionPlace}
 use Rattle.memory.proofs.SessionSlots.{place-set-other, session-set-other}
 use Rattle.node.specs.declared.addresses.Node.{Node}
 use Rattle.demands.specs.Speech.{Speech, lastOf}

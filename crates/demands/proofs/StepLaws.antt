@@ -20,9 +20,8 @@ use Rattle.common.proofs.Tests.{by-test}
 use Rattle.network.specs.declared.header.Header.{Header}
 use Rattle.memory.specs.declared.replay.Entry.{Entry}
 use Rattle.memory.specs.declared.session.Session.{Session}
-use Rattle.memory.specs.Decision.{sessionAt}
 use Rattle.memory.specs.Replay.{noEntry, lookUp, hasRoom, handedUp}
-use Rattle.memory.specs.Session.{noSession, sessionPlace, begun, stored}
+use Rattle.memory.specs.Session.{sessionAt, noSession, sessionPlace, begun, stored}
 use Rattle.memory.proofs.Apart.{past}
 use Rattle.memory.proofs.ReplayMap.{handedUp-sets, lookUp-handedUp-first, lookUp-handedUp-other}
 use Rattle.memory.proofs.SessionSlots.{session-source, place-upto, place-set-own, session-set-own, freed-none}

@@ -1,72 +1,83 @@
--- What the cache holds after an entry more: as many places, the newest entry among them, and else only what was there. An empty one holds nothing of a source.
+-- What the cache holds after an entry more: as many places, the newest entry among them, and else only what was there. An empty one holds nothing of a source. Its entries are their own keys.
 -- Assumes nothing.
 use mathlib.Core.Bool.{true, false}
 use mathlib.Core.Logic.{_⊎_, inl, inr}
-use mathlib.Core.Path.{_≡_, refl, sym, ap, _∙_, subst}
+use mathlib.Core.Path.{_≡_, refl, sym, ap, ap₂, _∙_}
 use Prim.Native.Nat.{ℕ, _%_, _<_}
 use native.Mathlib.Omega.{arith}
 use borrow.Author.Tests.{eq-eqb, eqb-true, eqb-false, lt-ltb, ltb-true}
 use lib.Dec.{eqb, ltb}
 use lib.ListN.{length, getD, set, replicate, length-set, length-replicate, getD-replicate}
 use lib.Seq.{getD-set-same, getD-set-other}
-use Rattle.common.specs.Search.{first}
-use Rattle.common.proofs.Search.{first-passes, first-upto}
 use Rattle.common.proofs.Tests.{by-test, and-first, and-second}
+use Rattle.network.specs.declared.header.Header.{Header}
 use Rattle.memory.specs.declared.cache.Cache.{Cache}
 use Rattle.memory.specs.declared.cache.Seen.{Seen}
-use Rattle.memory.specs.Cache.{noSeen, noCache, isEntry, seen, remembered}
+use Rattle.memory.specs.Cache.{cacheEntries, noSeen, noCache, seenOf, sameSeen, seen, remembered}
+use Rattle.memory.proofs.Keyed.{Keyed, place, found-key, place-upto}
 
-module _ (c : Cache) (src seq : ℕ) where
-  pub length-remembered : length (remembered c src seq .entries) ≡ length (c .entries)
+same-told : (a b : Seen) → sameSeen a b ≡ true → a ≡ b
+same-told a b e =
+    let src = eqb-true (a .src) (b .src) (and-first (eqb (a .src) (b .src)) (eqb (a .seq) (b .seq)) e) in
+    let seq = eqb-true (a .seq) (b .seq) (and-second (eqb (a .src) (b .src)) (eqb (a .seq) (b .seq)) e) in
+    ap₂ (λ (s q : ℕ). record { src = s; seq = q }) src seq
+
+abbrev entriesKeyed : Keyed Seen Seen
+entriesKeyed =
+    record {
+      key = λ e. e;
+      same = sameSeen;
+      none = λ e. eqb (e .src) 0;
+      same-told = same-told;
+      same-self = λ a. rw (eq-eqb (a .src) (a .src) refl, eq-eqb (a .seq) (a .seq) refl) refl;
+    }
+
+module _ (c : Cache) (h : Header) where
+  pub length-remembered : length (remembered c h .entries) ≡ length (c .entries)
   unfolding remembered
-  length-remembered = length-set (c .entries) (c .next % 16) (record { src = src; seq = seq })
+  length-remembered = length-set (c .entries) (c .next % cacheEntries) (seenOf h)
 
-  pub next-remembered : remembered c src seq .next < 16
+  pub next-remembered : remembered c h .next < cacheEntries
   unfolding remembered
   next-remembered = omega arith
 
-  pub seen-remembered : length (c .entries) ≡ 16 → seen (remembered c src seq) src seq ≡ true
-  unfolding seen remembered
-  seen-remembered e =
-      let at = c .next % 16 in
-      let l = set (c .entries) at (record { src = src; seq = seq }) in
-      let there : isEntry src seq (getD l at noSeen) ≡ true
-      = rw (getD-set-same (c .entries) at (record { src = src; seq = seq }) noSeen (omega arith)) (rw (eq-eqb src src refl, eq-eqb seq seq refl)) in
-      let n = first-upto (isEntry src seq) l at noSeen there in
-      lt-ltb (first (isEntry src seq) l) 16 (omega arith)
+  module _ (long : length (c .entries) ≡ cacheEntries) where
+    pub seen-remembered : seen (remembered c h) h ≡ true
+    unfolding seen remembered
+    seen-remembered =
+        let at = c .next % cacheEntries in
+        let l = set (c .entries) at (seenOf h) in
+        let upto = place-upto entriesKeyed noSeen l (seenOf h) at (getD-set-same (c .entries) at (seenOf h) noSeen (omega arith)) in
+        lt-ltb (place entriesKeyed noSeen l (seenOf h)) cacheEntries (omega arith)
 
--- one of the entries of a cache with one more is the new one, or was there
-pub seen-or-new :
-    (c : Cache) (src seq a q : ℕ) → length (c .entries) ≡ 16 → seen (remembered c src seq) a q ≡ true → (seen c a q ≡ true) ⊎ ((a ≡ src) × (q ≡ seq))
-unfolding seen remembered
-seen-or-new c src seq a q long e =
-    let l = c .entries in
-    let p = c .next % 16 in
-    let x : Seen = record { src = src; seq = seq } in
-    let j = first (isEntry a q) (set l p x) in
-    let h = ltb-true j 16 e in
-    let there = first-passes (isEntry a q) (set l p x) noSeen (rw (length-set l p x) (omega arith)) in
-    by-test (eqb j p)
-    (λ t.
-    let same = eqb-true j p t in
-    let here : isEntry a q x ≡ true =
-    subst (λ (y : Seen). isEntry a q y ≡ true) (ap (λ (n : ℕ). getD (set l p x) n noSeen) same ∙ getD-set-same l p x noSeen (omega arith)) there in
-    inr (sym (eqb-true src a (and-first (eqb src a) (eqb seq q) here)), sym (eqb-true seq q (and-second (eqb src a) (eqb seq q) here))))
-    (λ t.
-    let old : isEntry a q (getD l j noSeen) ≡ true = subst (λ (y : Seen). isEntry a q y ≡ true) (getD-set-other l p j x noSeen (eqb-false j p t)) there in
-    let u = first-upto (isEntry a q) l j noSeen old in
-    inl (lt-ltb (first (isEntry a q) l) 16 (omega arith)))
+    -- what is seen with one entry more is the new one, or was seen before
+    pub seen-or-new : (k : Header) → seen (remembered c h) k ≡ true → (seen c k ≡ true) ⊎ (seenOf k ≡ seenOf h)
+    unfolding seen remembered
+    seen-or-new k e =
+        let p = c .next % cacheEntries in
+        let l = set (c .entries) p (seenOf h) in
+        let j = place entriesKeyed noSeen l (seenOf k) in
+        let low = ltb-true j cacheEntries e in
+        let there = found-key entriesKeyed noSeen l (seenOf k) (rw (length-set (c .entries) p (seenOf h)) (omega arith)) in
+        by-test (eqb j p)
+        (λ t.
+        let q = eqb-true j p t in
+        let here : getD l j noSeen ≡ seenOf h = rw q (getD-set-same (c .entries) p (seenOf h) noSeen (omega arith)) in
+        inr (sym there ∙ here))
+        (λ t.
+        let old = sym (getD-set-other (c .entries) p j (seenOf h) noSeen (eqb-false j p t)) ∙ there in
+        let upto = place-upto entriesKeyed noSeen (c .entries) (seenOf k) j old in
+        inl (lt-ltb (place entriesKeyed noSeen (c .entries) (seenOf k)) cacheEntries (omega arith)))
 
 -- an empty one has seen nothing of a source
-pub seen-none : (a q : ℕ) → (a ≡ 0 → ⊥) → seen noCache a q ≡ false
+pub seen-none : (h : Header) → (h .src ≡ 0 → ⊥) → seen noCache h ≡ false
 unfolding seen
-seen-none a q z =
-    let l = replicate 16 noSeen in
-    let j = first (isEntry a q) l in
-    by-test (ltb j 16)
+seen-none h z =
+    let l = replicate cacheEntries noSeen in
+    let j = place entriesKeyed noSeen l (seenOf h) in
+    by-test (ltb j cacheEntries)
     (λ t.
-    let h = ltb-true j 16 t in
-    let there = first-passes (isEntry a q) l noSeen (rw (length-replicate 16 noSeen) h) in
-    let here : isEntry a q noSeen ≡ true = subst (λ (y : Seen). isEntry a q y ≡ true) (getD-replicate 16 j noSeen noSeen h) there in
-    absurd (z (sym (eqb-true 0 a (and-first (eqb 0 a) (eqb 0 q) here)))))
+    let low = ltb-true j cacheEntries t in
+    let there = found-key entriesKeyed noSeen l (seenOf h) (rw (length-replicate cacheEntries noSeen) low) in
+    absurd (z (ap (λ (e : Seen). e .src) (sym there ∙ getD-replicate cacheEntries j noSeen noSeen low))))
     (λ t. t)

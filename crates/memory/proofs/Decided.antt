@@ -1,8 +1,8 @@
 -- The decision on a segment, by what entry and session its source has: each is read off the definition, since a pair and terms are the same as themselves.
 -- Assumes nothing.
 --   decide-last     the last message handed up is the segment's: a repeat
---   decide-open     no entry and no session: it opens one in the lowest free slot
---   decide-repeat, decide-join   no entry, and a session of its SeqAuth and terms: its place is filled, or not
+--   decide-open     the entry is not as new, and there is no session: it opens one in the lowest free slot
+--   decide-repeat, decide-join   a session of its SeqAuth and terms: its place is filled, or not
 use mathlib.Core.Bool.{Bool, true, false}
 use mathlib.Core.List.{List}
 use mathlib.Core.Path.{_≡_, refl}
@@ -16,10 +16,10 @@ use Rattle.memory.specs.declared.replay.Entry.{Entry}
 use Rattle.memory.specs.declared.session.Segment.{Segment}
 use Rattle.memory.specs.declared.session.Session.{Session}
 use Rattle.memory.specs.declared.session.Terms.{Terms}
-use Rattle.memory.specs.Decision.{sessionAt, joining, opening, decision}
+use Rattle.memory.specs.Decision.{joining, opening, decision}
 use Rattle.memory.specs.Pair.{samePair}
 use Rattle.memory.specs.Replay.{noEntry, lookUp, stale, hasRoom, isLast}
-use Rattle.memory.specs.Session.{sessionPlace, sameBit, sameTerms}
+use Rattle.memory.specs.Session.{sessionSlots, sessionAt, segmentKey, sessionPlace, freePlace, sameBit, sameTerms}
 
 -- ---- what is equal to itself
 same-bit : (b : Bool) → sameBit b b ≡ true
@@ -47,19 +47,21 @@ module _ (replay : List Entry) (sessions : List Session) (src : ℕ) (seg : Segm
   decide-last z e =
       rw (e, ne-eqb (seg .terms .dst) 0 z, same-pair (seg .auth), eq-eqb (seg .terms .segn) (seg .terms .segn) refl, eq-eqb (seg .terms .dst) (seg .terms .dst) refl) refl
 
-  -- no entry, and room for one
-  module _ (none : lookUp replay src ≡ noEntry) (room : hasRoom replay src ≡ true) where
-    pub decide-open : 8 ≤ sessionPlace sessions src → sessionPlace sessions 0 < 8 → decided ≡ Open (sessionPlace sessions 0)
-    unfolding decision isLast opening stale
-    decide-open out free = rw (none, le-ltb (sessionPlace sessions src) 8 out, room, lt-ltb (sessionPlace sessions 0) 8 free) refl
+  abbrev own : ℕ
+  own = sessionPlace sessions (segmentKey src seg)
 
-    -- and the session s in its source's slot is of the segment's SeqAuth and terms
-    module _ (s : Session) (own : sessionPlace sessions src < 8) (held : sessionAt sessions (sessionPlace sessions src) ≡ s)
-        (auth : s .auth ≡ seg .auth) (terms : s .terms ≡ seg .terms) where
+  -- it is not of the last message handed up, and there is room for an entry
+  module _ (other : isLast (lookUp replay src .last) (seg .auth) (seg .terms .segn) (seg .terms .dst) ≡ false) (room : hasRoom replay src ≡ true) where
+    pub decide-open : stale (lookUp replay src) (seg .auth) ≡ false → sessionSlots ≤ own → freePlace sessions < sessionSlots → decided ≡ Open (freePlace sessions)
+    unfolding decision opening
+    decide-open old out free = rw (other, le-ltb own sessionSlots out, old, room, lt-ltb (freePlace sessions) sessionSlots free) refl
+
+    -- and the session s in the slot of its key is of its SeqAuth and terms
+    module _ (s : Session) (within : own < sessionSlots) (held : sessionAt sessions own ≡ s) (auth : s .auth ≡ seg .auth) (terms : s .terms ≡ seg .terms) where
       pub decide-repeat : hasBit (s .filled) (seg .sego) ≡ true → decided ≡ Repeat (s .filled)
-      unfolding decision isLast joining
-      decide-repeat b = rw (none, lt-ltb (sessionPlace sessions src) 8 own, held, auth, same-pair (seg .auth), terms, same-terms (seg .terms), room, b) refl
+      unfolding decision joining
+      decide-repeat b = rw (other, lt-ltb own sessionSlots within, held, auth, same-pair (seg .auth), terms, same-terms (seg .terms), room, b) refl
 
-      pub decide-join : hasBit (s .filled) (seg .sego) ≡ false → decided ≡ Join (sessionPlace sessions src)
-      unfolding decision isLast joining
-      decide-join b = rw (none, lt-ltb (sessionPlace sessions src) 8 own, held, auth, same-pair (seg .auth), terms, same-terms (seg .terms), room, b) refl
+      pub decide-join : hasBit (s .filled) (seg .sego) ≡ false → decided ≡ Join own
+      unfolding decision joining
+      decide-join b = rw (other, lt-ltb own sessionSlots within, held, auth, same-pair (seg .auth), terms, same-terms (seg .terms), room, b) refl

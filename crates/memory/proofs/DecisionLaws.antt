@@ -10,12 +10,13 @@ use Rattle.memory.specs.declared.pair.Pair.{Pair}
 use Rattle.memory.specs.declared.replay.Entry.{Entry}
 use Rattle.memory.specs.declared.session.Segment.{Segment}
 use Rattle.memory.specs.declared.session.Session.{Session}
+use Rattle.memory.specs.declared.session.SessionKey.{SessionKey}
 use Rattle.memory.specs.declared.decision.Decision.{Decision}
 use Rattle.memory.specs.declared.decision.Decision.the-variants.{Repeat, Join, Open, Stale, Differs, NoEntryLeft, NoSlotLeft}
 use Rattle.memory.specs.Pair.{newer, samePair}
 use Rattle.memory.specs.Replay.{lookUp, stale, hasRoom, isLast}
-use Rattle.memory.specs.Session.{sessionPlace, sameTerms}
-use Rattle.memory.specs.Decision.{sessionAt, joining, replacing, opening, decision}
+use Rattle.memory.specs.Session.{sessionSlots, sessionAt, segmentKey, sessionPlace, freePlace, sameTerms}
+use Rattle.memory.specs.Decision.{joining, replacing, opening, decision}
 
 -- ---- it joins
 module _ (s : Session) (own : ℕ) (room : Bool) (seg : Segment) (t : Bool) (e : t ≡ sameTerms (s .terms) (seg .terms)) where
@@ -71,13 +72,13 @@ module _ (e : Entry) (room : Bool) (auth : Pair) (t : Bool) (et : t ≡ stale e 
       opens-unlisted h = rw (← et, h1, not-true room h)
 
       module _ (h2 : not room ≡ false) where
-        pub opens-free : free < 8 → Open free ≡ opening e free room auth
+        pub opens-free : free < sessionSlots → Open free ≡ opening e free room auth
         unfolding opening
-        opens-free h = rw (← et, h1, not-false room h2, lt-ltb free 8 h)
+        opens-free h = rw (← et, h1, not-false room h2, lt-ltb free sessionSlots h)
 
-        pub opens-none : 8 ≤ free → NoSlotLeft ≡ opening e free room auth
+        pub opens-none : sessionSlots ≤ free → NoSlotLeft ≡ opening e free room auth
         unfolding opening
-        opens-none h = rw (← et, h1, not-false room h2, le-ltb free 8 h)
+        opens-none h = rw (← et, h1, not-false room h2, le-ltb free sessionSlots h)
 
 pub ruleset replacing-rules = (replaces-stale, replaces-newer, replaces-unlisted, replaces-older)
 
@@ -90,18 +91,18 @@ module _ (replay : List Entry) (sessions : List Session) (src : ℕ) (seg : Segm
     unfolding decision
     of-last h {bits} q = rw (← ee, ← eb, h, q)
 
-    module _ (h1 : b ≡ false) {room : Bool} (er : room ≡ hasRoom replay src) {own : ℕ} (eo : own ≡ sessionPlace sessions src) {d : Decision} where
-      module _ (h2 : own < 8) {same : Bool} (es : same ≡ samePair (sessionAt sessions own .auth) (seg .auth)) where
+    module _ (h1 : b ≡ false) {room : Bool} (er : room ≡ hasRoom replay src) {key : SessionKey} (ek : key ≡ segmentKey src seg) {own : ℕ} (eo : own ≡ sessionPlace sessions key) {d : Decision} where
+      module _ (h2 : own < sessionSlots) {same : Bool} (es : same ≡ samePair (sessionAt sessions own .auth) (seg .auth)) where
         pub of-session : same ≡ true → d ≡ joining (sessionAt sessions own) own room seg → d ≡ decision replay sessions src seg
         unfolding decision
-        of-session h q = rw (← ee, ← eb, h1, ← eo, lt-ltb own 8 h2, ← es, h, ← er, q)
+        of-session h q = rw (← ee, ← eb, h1, ← ek, ← eo, lt-ltb own sessionSlots h2, ← es, h, ← er, q)
 
         pub of-another : same ≡ false → d ≡ replacing e (sessionAt sessions own .auth) own room (seg .auth) → d ≡ decision replay sessions src seg
         unfolding decision
-        of-another h q = rw (← ee, ← eb, h1, ← eo, lt-ltb own 8 h2, ← es, h, ← er, q)
+        of-another h q = rw (← ee, ← eb, h1, ← ek, ← eo, lt-ltb own sessionSlots h2, ← es, h, ← er, q)
 
-      pub of-none : 8 ≤ own → {free : ℕ} → free ≡ sessionPlace sessions 0 → d ≡ opening e free room (seg .auth) → d ≡ decision replay sessions src seg
+      pub of-none : sessionSlots ≤ own → {free : ℕ} → free ≡ freePlace sessions → d ≡ opening e free room (seg .auth) → d ≡ decision replay sessions src seg
       unfolding decision
-      of-none h2 {free} f q = rw (← ee, ← eb, h1, ← eo, le-ltb own 8 h2, ← er, ← f, q)
+      of-none h2 {free} f q = rw (← ee, ← eb, h1, ← ek, ← eo, le-ltb own sessionSlots h2, ← er, ← f, q)
 
 pub ruleset decision-rules = (of-last, of-session, of-another, of-none)

@@ -10,4 +10,6 @@ pub mod SessionSlots
 pub mod Stored
 pub mod Within
 pub mod Decided
-pub mod Apart
+pub mod Keyed
+pub mod Pigeonhole
+pub mod Room

@@ -12,7 +12,7 @@ use Rattle.memory.specs.declared.pair.Pair.{Pair}
 use Rattle.memory.specs.declared.replay.Last.{Last}
 use Rattle.memory.specs.declared.replay.Entry.{Entry}
 use Rattle.memory.specs.Pair.{newer, samePair, greater}
-use Rattle.memory.specs.Replay.{noEntry, entryPlace, lookUp, stale, hasRoom, inserted, raised, isLast}
+use Rattle.memory.specs.Replay.{replayEntries, noEntry, entryPlace, lookUp, stale, hasRoom, inserted, raised, isLast}
 
 -- ---- a source's entry
 module _ (l : List Entry) (src : ℕ) (i : ℕ) (e : i ≡ entryPlace l src) where
@@ -24,26 +24,26 @@ module _ (l : List Entry) (src : ℕ) (i : ℕ) (e : i ≡ entryPlace l src) whe
   unfolding lookUp
   look-none h = rw (← e) (sym (List·getD-eq-default l noEntry h))
 
-  pub room-own : i < 32 → true ≡ hasRoom l src
+  pub room-own : i < replayEntries → true ≡ hasRoom l src
   unfolding hasRoom
-  room-own h = rw (← e, lt-ltb i 32 h)
+  room-own h = rw (← e, lt-ltb i replayEntries h)
 
-  pub room-free : 32 ≤ i → (j : ℕ) → j ≡ entryPlace l 0 → ltb j 32 ≡ hasRoom l src
+  pub room-free : replayEntries ≤ i → (j : ℕ) → j ≡ entryPlace l 0 → ltb j replayEntries ≡ hasRoom l src
   unfolding hasRoom
-  room-free h j f = rw (← e, ← f, le-ltb i 32 h)
+  room-free h j f = rw (← e, ← f, le-ltb i replayEntries h)
 
 pub ruleset room-rules = (room-own, room-free)
 
 -- ---- an entry's new place
 module _ (l : List Entry) (e : Entry) (i : ℕ) (p : i ≡ entryPlace l (e .src)) where
-  pub insert-own : i < 32 → set l i e ≡ inserted l e
+  pub insert-own : i < replayEntries → set l i e ≡ inserted l e
   unfolding inserted
-  insert-own h = rw (← p, lt-ltb i 32 h)
+  insert-own h = rw (← p, lt-ltb i replayEntries h)
 
-  module _ (h : 32 ≤ i) (j : ℕ) (q : j ≡ entryPlace l 0) where
+  module _ (h : replayEntries ≤ i) (j : ℕ) (q : j ≡ entryPlace l 0) where
     pub insert-free : set l j e ≡ inserted l e
     unfolding inserted
-    insert-free = rw (← p, le-ltb i 32 h, ← q)
+    insert-free = rw (← p, le-ltb i replayEntries h, ← q)
 
     pub insert-none : length l ≤ j → l ≡ inserted l e
     insert-none k = rw (set-out l j e k) at insert-free

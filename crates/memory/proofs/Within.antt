@@ -14,11 +14,12 @@ use Rattle.memory.specs.declared.decision.Decision.the-variants.{Repeat,
 use Rattle.memory.specs.declared.replay.Entry.{Entry}
 use Rattle.memory.specs.declared.session.Segment.{Segment}
 use Rattle.memory.specs.declared.session.Session.{Session}
+use Rattle.memory.specs.declared.session.SessionKey.{SessionKey}
 use Rattle.memory.specs.declared.session.Terms.{Terms}
-use Rattle.memory.specs.Decision.{sessionAt, joining, replacing, opening, decision}
+use Rattle.memory.specs.Decision.{joining, replacing, opening, decision}
 use Rattle.memory.specs.Pair.{newer, samePair}
 use Rattle.memory.specs.Replay.{lookUp, stale, hasRoom, isLast}
-use Rattle.memory.specs.Session.{sessionPlace, sameBit, sameTerms}
+use Rattle.memory.specs.Session.{sessionSlots, sessionAt, segmentKey, sessionPlace, freePlace, sameBit, sameTerms}
 
 -- equal terms have one SegN
 pub same-last : (a b : Terms) → sameTerms a b ≡ true → a .segn ≡ b .segn
@@ -31,24 +32,24 @@ same-last a b e =
 
 -- a slot where a segment joins
 pub record Joins (sessions : List Session) (src : ℕ) (seg : Segment) (slot : ℕ) : Type 0 where
-  pub within : slot < 8
-  pub own : slot ≡ sessionPlace sessions src
+  pub within : slot < sessionSlots
+  pub own : slot ≡ sessionPlace sessions (segmentKey src seg)
   pub same : sameTerms (sessionAt sessions slot .terms) (seg .terms) ≡ true
 
 -- a slot where a segment opens a session
-pub record Opens (sessions : List Session) (src slot : ℕ) : Type 0 where
-  pub within : slot < 8
-  pub own : sessionPlace sessions src < 8 → slot ≡ sessionPlace sessions src
+pub record Opens (sessions : List Session) (key : SessionKey) (slot : ℕ) : Type 0 where
+  pub within : slot < sessionSlots
+  pub own : sessionPlace sessions key < sessionSlots → slot ≡ sessionPlace sessions key
 
 -- where it joins it might have opened one
-pub joins-opens : {sessions : List Session} {src : ℕ} {seg : Segment} {slot : ℕ} → Joins sessions src seg slot → Opens sessions src slot
+pub joins-opens : {sessions : List Session} {src : ℕ} {seg : Segment} {slot : ℕ} → Joins sessions src seg slot → Opens sessions (segmentKey src seg) slot
 joins-opens j = record { within = j .within; own = λ h. j .own }
 
 -- the slot that a decision names is such a one
 abbrev pub Within : List Session → ℕ → Segment → Decision → Type 0
 Within sessions src seg (Repeat bits) = Unit {0}
 Within sessions src seg (Join slot) = Joins sessions src seg slot
-Within sessions src seg (Open slot) = Opens sessions src slot
+Within sessions src seg (Open slot) = Opens sessions (segmentKey src seg) slot
 Within sessions src seg Stale = Unit {0}
 Within sessions src seg Differs = Unit {0}
 Within sessions src seg NoEntryLeft = Unit {0}
@@ -59,7 +60,7 @@ module _ (replay : List Entry) (sessions : List Session) (src : ℕ) (seg : Segm
   Here d = Within sessions src seg d
 
   abbrev own : ℕ
-  own = sessionPlace sessions src
+  own = sessionPlace sessions (segmentKey src seg)
 
   abbrev entry : Entry
   entry = lookUp replay src
@@ -68,7 +69,7 @@ module _ (replay : List Entry) (sessions : List Session) (src : ℕ) (seg : Segm
   held = sessionAt sessions own
 
   module _ (room : Bool) where
-    joining-within : own < 8 → Here (joining held own room seg)
+    joining-within : own < sessionSlots → Here (joining held own room seg)
     unfolding joining
     joining-within h =
         by-test (sameTerms (held .terms) (seg .terms))
@@ -79,21 +80,21 @@ module _ (replay : List Entry) (sessions : List Session) (src : ℕ) (seg : Segm
         (λ u. rw (t, u) (tt {0})))
         (λ t. rw t (tt {0}))
 
-    replacing-within : own < 8 → Here (replacing entry (held .auth) own room (seg .auth))
+    replacing-within : own < sessionSlots → Here (replacing entry (held .auth) own room (seg .auth))
     unfolding replacing
     replacing-within h =
         by-test (stale entry (seg .auth)) (λ t. rw t (tt {0}))
         (λ t. by-test (newer (held .auth) (seg .auth)) (λ u. rw (t, u) (tt {0}))
         (λ u. by-test room (λ v. rw (t, u, v) (record { within = h; own = λ k. refl })) (λ v. rw (t, u, v) (tt {0}))))
 
-    opening-within : 8 ≤ own → Here (opening entry (sessionPlace sessions 0) room (seg .auth))
+    opening-within : sessionSlots ≤ own → Here (opening entry (freePlace sessions) room (seg .auth))
     unfolding opening
     opening-within h =
-        let free = sessionPlace sessions 0 in
+        let free = freePlace sessions in
         by-test (stale entry (seg .auth)) (λ t. rw t (tt {0}))
         (λ t. by-test room
-        (λ u. by-test (ltb free 8)
-        (λ v. rw (t, u, v) (record { within = ltb-true free 8 v; own = λ k. absurd (omega arith) }))
+        (λ u. by-test (ltb free sessionSlots)
+        (λ v. rw (t, u, v) (record { within = ltb-true free sessionSlots v; own = λ k. absurd (omega arith) }))
         (λ v. rw (t, u, v) (tt {0})))
         (λ u. rw (t, u) (tt {0})))
 
@@ -102,13 +103,13 @@ module _ (replay : List Entry) (sessions : List Session) (src : ℕ) (seg : Segm
   decision-within =
       let room = hasRoom replay src in
       by-test (isLast (entry .last) (seg .auth) (seg .terms .segn) (seg .terms .dst)) (λ t. rw t (tt {0}))
-      (λ t. by-test (ltb own 8)
-      (λ u. let h = ltb-true own 8 u in
+      (λ t. by-test (ltb own sessionSlots)
+      (λ u. let h = ltb-true own sessionSlots u in
       by-test (samePair (held .auth) (seg .auth)) (λ v. rw (t, u, v) (joining-within room h)) (λ v. rw (t, u, v) (replacing-within room h)))
-      (λ u. rw (t, u) (opening-within room (ltb-false own 8 u))))
+      (λ u. rw (t, u) (opening-within room (ltb-false own sessionSlots u))))
 
-  pub join-within : (slot : ℕ) → decision replay sessions src seg ≡ Join slot → slot < 8
+  pub join-within : (slot : ℕ) → decision replay sessions src seg ≡ Join slot → slot < sessionSlots
   join-within slot e = let w : Joins sessions src seg slot = subst (Within sessions src seg) e decision-within in w .within
 
-  pub open-within : (slot : ℕ) → decision replay sessions src seg ≡ Open slot → slot < 8
-  open-within slot e = let w : Opens sessions src slot = subst (Within sessions src seg) e decision-within in w .within
+  pub open-within : (slot : ℕ) → decision replay sessions src seg ≡ Open slot → slot < sessionSlots
+  open-within slot e = let w : Opens sessions (segmentKey src seg) slot = subst (Within sessions src seg) e decision-within in w .within

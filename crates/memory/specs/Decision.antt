@@ -2,10 +2,9 @@
 --   paper d                            the number of a decision
 --   decision replay sessions src seg   the decision
 use mathlib.Core.Bool.{Bool}
-use mathlib.Core.List.{List, []}
+use mathlib.Core.List.{List}
 use Prim.Native.Nat.{ℕ}
 use lib.Dec.{ltb}
-use lib.ListN.{getD}
 use Rattle.common.specs.Bits.{hasBit, allBits}
 use Rattle.common.specs.Choice.{if_then_else_}
 use Rattle.memory.specs.declared.pair.Pair.{Pair}
@@ -16,7 +15,7 @@ use Rattle.memory.specs.declared.decision.Decision.{Decision}
 use Rattle.memory.specs.declared.decision.Decision.the-variants.{Repeat, Join, Open, Stale, Differs, NoEntryLeft, NoSlotLeft}
 use Rattle.memory.specs.Pair.{newer, samePair}
 use Rattle.memory.specs.Replay.{lookUp, stale, hasRoom, isLast}
-use Rattle.memory.specs.Session.{noSession, sessionPlace, sameTerms}
+use Rattle.memory.specs.Session.{sessionSlots, sessionAt, segmentKey, sessionPlace, freePlace, sameTerms}
 
 -- this paper's number of each decision; 0 where nothing is refused
 abbrev pub paper : Decision → ℕ
@@ -27,10 +26,6 @@ paper Stale = 9
 paper Differs = 10
 paper NoEntryLeft = 11
 paper NoSlotLeft = 12
-
--- the slot's session; past the last slot nothing is held
-abbrev pub sessionAt : List Session → ℕ → Session
-sessionAt l i = getD l i (record { src = 0; auth = noSession .auth; terms = noSession .terms; filled = 0; len = 0; bytes = [] })
 
 -- a segment of the same SeqAuth joins: 10, 11, a place already filled, or its place is empty
 unfoldable pub joining : Session → ℕ → Bool → Segment → Decision
@@ -52,17 +47,17 @@ replacing e held own room auth =
 unfoldable pub opening : Entry → ℕ → Bool → Pair → Decision
 opening e free room auth =
     if stale e auth then Stale else
-    if room then (if ltb free 8 then Open free else NoSlotLeft) else
+    if room then (if ltb free sessionSlots then Open free else NoSlotLeft) else
     NoEntryLeft
 
 -- a segment of the last message handed up is a repeat with all bits set, open session or not
 unfoldable pub decision : List Entry → List Session → ℕ → Segment → Decision
 decision replay sessions src seg =
     let e = lookUp replay src in
-    let own = sessionPlace sessions src in
+    let own = sessionPlace sessions (segmentKey src seg) in
     let s = sessionAt sessions own in
     let room = hasRoom replay src in
     if isLast (e .last) (seg .auth) (seg .terms .segn) (seg .terms .dst) then Repeat (allBits (seg .terms .segn)) else
-    if ltb own 8 then
+    if ltb own sessionSlots then
     (if samePair (s .auth) (seg .auth) then joining s own room seg else replacing e (s .auth) own room (seg .auth)) else
-    opening e (sessionPlace sessions 0) room (seg .auth)
+    opening e (freePlace sessions) room (seg .auth)

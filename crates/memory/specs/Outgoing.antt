@@ -14,11 +14,11 @@ use Rattle.memory.specs.declared.outgoing.Acknowledged.{Acknowledged}
 use Rattle.memory.specs.declared.outgoing.Effect.{Effect}
 use Rattle.memory.specs.declared.outgoing.Effect.the-variants.{Nothing, Marked, Completed, Cancelled}
 use Rattle.memory.specs.Pair.{noPair}
-use Rattle.memory.specs.Session.{noTerms}
+use Rattle.memory.specs.Session.{messageOctets, noTerms}
 
 -- nothing is kept: zeros
 abbrev pub noOutgoing : Outgoing
-noOutgoing = record { src = 0; auth = noPair; terms = noTerms; ttl = 0; heard = 0; len = 0; bytes = replicate 384 0 }
+noOutgoing = record { src = 0; auth = noPair; terms = noTerms; ttl = 0; heard = 0; len = 0; bytes = replicate messageOctets 0 }
 
 -- a message is kept, DST is the sending element, SeqZero fits, and SRC is the destination or OBO is 1
 unfoldable pub fitsOutgoing : Outgoing → Header → Bool → ℕ → Bool

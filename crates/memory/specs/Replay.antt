@@ -5,17 +5,23 @@
 --   isLast last auth segN dst         a segment of the last segmented message handed up
 --   accepted l src pair               the list after a whole message was accepted
 --   handedUp l src auth segN dst      the list after a segmented message was handed up
-use mathlib.Core.Bool.{Bool, _&&_, _||_, not}
+--   ReplayKept l                      all its places are there, and a source has at most one entry
+use mathlib.Core.Bool.{Bool, false, _&&_, _||_, not}
 use mathlib.Core.List.{List}
-use Prim.Native.Nat.{ℕ}
+use mathlib.Core.Path.{_≡_}
+use Prim.Native.Nat.{ℕ, _<_}
 use lib.Dec.{eqb, ltb}
-use lib.ListN.{getD, replicate, set}
+use lib.ListN.{length, getD, replicate, set}
 use Rattle.common.specs.Choice.{if_then_else_}
 use Rattle.common.specs.Search.{first}
 use Rattle.memory.specs.declared.pair.Pair.{Pair}
 use Rattle.memory.specs.declared.replay.Last.{Last}
 use Rattle.memory.specs.declared.replay.Entry.{Entry}
 use Rattle.memory.specs.Pair.{noPair, newer, samePair, greater}
+
+-- how many entries there are
+abbrev pub replayEntries : ℕ
+replayEntries = 32
 
 -- no segmented message was handed up: DST 0
 abbrev pub noLast : Last
@@ -27,9 +33,9 @@ noEntry = record { src = 0; pair = noPair; last = noLast }
 
 -- a list with no entry
 abbrev pub noEntries : List Entry
-noEntries = replicate 32 noEntry
+noEntries = replicate replayEntries noEntry
 
--- the place of a source's entry, and of the first empty place where src is 0; 32 where there is none
+-- the place of a source's entry, and of the first empty place where src is 0; their number where there is none
 unfoldable pub entryPlace : List Entry → ℕ → ℕ
 entryPlace l src = first (λ e. eqb (e .src) src) l
 
@@ -43,12 +49,12 @@ stale e pair = not (eqb (e .src) 0) && not (newer pair (e .pair))
 
 -- the source has an entry, or a place is empty
 unfoldable pub hasRoom : List Entry → ℕ → Bool
-hasRoom l src = ltb (entryPlace l src) 32 || ltb (entryPlace l 0) 32
+hasRoom l src = ltb (entryPlace l src) replayEntries || ltb (entryPlace l 0) replayEntries
 
 -- an entry goes to its source's place, or to the first empty one
 unfoldable pub inserted : List Entry → Entry → List Entry
 inserted l e =
-    if ltb (entryPlace l (e .src)) 32 then set l (entryPlace l (e .src)) e else
+    if ltb (entryPlace l (e .src)) replayEntries then set l (entryPlace l (e .src)) e else
     set l (entryPlace l 0) e
 
 -- the entry becomes the greater of the two
@@ -67,3 +73,10 @@ accepted l src pair = inserted l (record { src = src; pair = raised (lookUp l sr
 unfoldable pub handedUp : List Entry → ℕ → Pair → ℕ → ℕ → List Entry
 handedUp l src auth segN dst =
     inserted l (record { src = src; pair = raised (lookUp l src) auth; last = record { auth = auth; segn = segN; dst = dst } })
+
+-- ---- what holds of every list that is kept so
+-- all its places are there, and a source has at most one entry
+pub record ReplayKept (l : List Entry) : Type 0 where
+  pub places : length l ≡ replayEntries
+  pub one-entry :
+      (i j : ℕ) → i < replayEntries → j < replayEntries → eqb (getD l i noEntry .src) 0 ≡ false → getD l i noEntry .src ≡ getD l j noEntry .src → i ≡ j

@@ -1,15 +1,19 @@
--- Sessions gather segments (document 01, "Transport"): a source has at most one, and a freed slot is zeroed.
---   sessionPlace l src      the slot of a source's session
+-- Sessions gather segments (document 01, "Transport"): each is found by its key, a source has at most one, and a freed slot is zeroed.
+--   sessionKey s, segmentKey src seg   the key of a session, and of the session that a segment is for
+--   sessionPlace l key      the slot of the session with that key
+--   freePlace l             the lowest free slot
+--   SessionsApart l         no two sessions have one key
 --   sameTerms a b           not 10: equal in CTL, octet 0, SZMIC, SegN, DST and opening key
 --   begun src seg           a session with no segment yet
 --   stored s h segO         the session with a segment in its place
 --   complete s              no segment is missing
 --   blockAck s              bits 0 to SegN report places filled
 use mathlib.Core.Bool.{Bool, true, false, _&&_}
-use mathlib.Core.List.{List, _++_}
-use Prim.Native.Nat.{ℕ, _+_, _*_, _%_}
+use mathlib.Core.List.{List, [], _++_}
+use mathlib.Core.Path.{_≡_}
+use Prim.Native.Nat.{ℕ, _+_, _*_, _%_, _<_}
 use lib.Dec.{eqb}
-use lib.ListN.{length, take, drop, replicate}
+use lib.ListN.{length, getD, take, drop, replicate}
 use Rattle.common.specs.Bits.{withBit, allBits}
 use Rattle.common.specs.Choice.{if_then_else_}
 use Rattle.common.specs.Lists.{onto}
@@ -20,22 +24,62 @@ use Rattle.transport.specs.Segment.{fullOctets}
 use Rattle.memory.specs.declared.session.Terms.{Terms}
 use Rattle.memory.specs.declared.session.Segment.{Segment}
 use Rattle.memory.specs.declared.session.Session.{Session}
+use Rattle.memory.specs.declared.session.SessionKey.{SessionKey}
 use Rattle.memory.specs.Pair.{noPair}
+
+-- how many slots there are
+abbrev pub sessionSlots : ℕ
+sessionSlots = 8
+
+-- the octets of the longest message
+abbrev pub messageOctets : ℕ
+messageOctets = 384
 
 abbrev pub noTerms : Terms
 noTerms = record { ctl = false; first = 0; szmic = false; segn = 0; dst = 0; key = 0 }
 
 -- a free slot: zeros
 abbrev pub noSession : Session
-noSession = record { src = 0; auth = noPair; terms = noTerms; filled = 0; len = 0; bytes = replicate 384 0 }
+noSession = record { src = 0; auth = noPair; terms = noTerms; filled = 0; len = 0; bytes = replicate messageOctets 0 }
 
 -- all slots free
 abbrev pub noSessions : List Session
-noSessions = replicate 8 noSession
+noSessions = replicate sessionSlots noSession
 
--- the slot of a source's session, and the lowest free slot where src is 0; 8 where there is none
-unfoldable pub sessionPlace : List Session → ℕ → ℕ
-sessionPlace l src = first (λ s. eqb (s .src) src) l
+-- the slot's session; past the last slot nothing is held
+abbrev pub sessionAt : List Session → ℕ → Session
+sessionAt l i = getD l i (record { src = 0; auth = noPair; terms = noTerms; filled = 0; len = 0; bytes = [] })
+
+-- ---- what a session is found by: its source
+abbrev pub sessionKey : Session → SessionKey
+sessionKey s = record { src = s .src }
+
+abbrev pub segmentKey : ℕ → Segment → SessionKey
+segmentKey src seg = record { src = src }
+
+abbrev pub sameKey : SessionKey → SessionKey → Bool
+sameKey a b = eqb (a .src) (b .src)
+
+-- no session has it
+abbrev pub noKey : SessionKey → Bool
+noKey k = eqb (k .src) 0
+
+-- the slot of the session with that key; the number of slots where there is none
+unfoldable pub sessionPlace : List Session → SessionKey → ℕ
+sessionPlace l k = first (λ s. sameKey (sessionKey s) k) l
+
+-- a slot that holds no session
+abbrev pub isFree : Session → Bool
+isFree s = noKey (sessionKey s)
+
+-- the lowest of them; the number of slots where there is none
+unfoldable pub freePlace : List Session → ℕ
+freePlace l = first isFree l
+
+-- no two slots hold sessions with one key
+abbrev pub SessionsApart : List Session → Type 0
+SessionsApart l =
+    (i j : ℕ) → i < sessionSlots → j < sessionSlots → isFree (sessionAt l i) ≡ false → sessionKey (sessionAt l i) ≡ sessionKey (sessionAt l j) → i ≡ j
 
 -- both are set, or neither
 abbrev pub sameBit : Bool → Bool → Bool
@@ -51,7 +95,7 @@ sameTerms a b =
 
 -- a session with no segment yet: every octet is zero
 unfoldable pub begun : ℕ → Segment → Session
-begun src seg = record { src = src; auth = seg .auth; terms = seg .terms; filled = 0; len = 0; bytes = replicate 384 0 }
+begun src seg = record { src = src; auth = seg .auth; terms = seg .terms; filled = 0; len = 0; bytes = replicate messageOctets 0 }
 
 -- where the octets of segment SegO begin: every segment before it is full. SegO has 5 bits
 unfoldable pub octetPlace : Bool → ℕ → ℕ

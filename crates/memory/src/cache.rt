@@ -1,7 +1,11 @@
 // The message cache: what was heard lately, by SRC and SEQ. A full cache replaces its oldest entry.
+use network::header::Header;
 ghost use mathlib.Core.Path.{_≡_};
 ghost use Rattle.common.specs.Search.{first};
-ghost use Rattle.memory.specs.Cache.{noCache, isEntry, seen, remembered};
+ghost use Rattle.memory.specs.Cache.{noCache, seenOf, sameSeen, seen, remembered};
+
+// How many entries there are.
+pub const ENTRIES: usize = 16;
 
 // A cache entry; SRC 0 marks an empty place.
 pub struct Seen {
@@ -10,8 +14,8 @@ pub struct Seen {
 }
 
 pub struct Cache {
-    pub entries: [Seen; 16],
-    // The place that is filled next: an empty one, or that of the oldest entry. Of a number past 15 its remainder counts.
+    pub entries: [Seen; ENTRIES],
+    // The place that is filled next: an empty one, or that of the oldest entry. Of a number past the last its remainder counts.
     pub next: usize,
 }
 
@@ -20,41 +24,51 @@ pub fn none() -> Cache
     ensures { λ r. ⌜ r ≡ noCache ⌝ }
 {
     Cache {
-        entries: [Seen { src: 0, seq: 0 }; 16],
+        entries: [Seen { src: 0, seq: 0 }; ENTRIES],
         next: 0,
     }
 }
 
-// The place of the entry with this SRC and SEQ, or 16.
-fn place(entries: [Seen; 16], src: u16, seq: u32) -> usize
-    ensures { λ r. ⌜ r ≡ first (isEntry src seq) entries ⌝ }
+// The entry of a PDU.
+fn entry(h: Header) -> Seen
+    ensures { λ r. ⌜ r ≡ seenOf h ⌝ }
+{
+    Seen {
+        src: h.src,
+        seq: h.seq,
+    }
+}
+
+// The place of an entry, or their number.
+fn place(entries: [Seen; ENTRIES], x: Seen) -> usize
+    ensures { λ r. ⌜ r ≡ first (λ e. sameSeen e x) entries ⌝ }
 {
     let mut i: usize = 0;
-    while i < 16 {
+    while i < ENTRIES {
         let e = entries[i];
-        if e.src == src && e.seq == seq {
+        if e.src == x.src && e.seq == x.seq {
             return i;
         }
         i += 1;
     }
-    16
+    ENTRIES
 }
 
-// Whether a PDU with this SRC and SEQ is in the cache.
-pub fn is_seen(cache: Cache, src: u16, seq: u32) -> bool
-    ensures { λ r. ⌜ r ≡ seen cache src seq ⌝ }
+// Whether a PDU with this header is in the cache.
+pub fn is_seen(cache: Cache, h: Header) -> bool
+    ensures { λ r. ⌜ r ≡ seen cache h ⌝ }
 {
     let entries = cache.entries;
-    place(entries, src, seq) < 16
+    place(entries, entry(h)) < ENTRIES
 }
 
-// The cache with this SRC and SEQ as its newest entry.
-pub fn remember(cache: Cache, src: u16, seq: u32) -> Cache
-    ensures { λ r. ⌜ r ≡ remembered cache src seq ⌝ }
+// The cache with the PDU of this header as its newest entry.
+pub fn remember(cache: Cache, h: Header) -> Cache
+    ensures { λ r. ⌜ r ≡ remembered cache h ⌝ }
 {
-    let at = cache.next % 16;
+    let at = cache.next % ENTRIES;
     let mut after = cache;
-    after.entries[at] = Seen { src, seq };
-    after.next = (at + 1) % 16;
+    after.entries[at] = entry(h);
+    after.next = (at + 1) % ENTRIES;
     after
 }

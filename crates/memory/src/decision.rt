@@ -1,6 +1,8 @@
 // What becomes of a segment: repeat, join, replace, open, or refusals 9 to 12, in their order.
 use super::pair::Pair;
+use super::replay::ENTRIES;
 use super::replay::Entry;
+use super::session::SLOTS;
 use super::session::Segment;
 use super::session::Session;
 ghost use mathlib.Core.Path.{_≡_};
@@ -65,14 +67,19 @@ fn open(e: Entry, free: usize, room: bool, auth: Pair) -> Decision
     if !room {
         return Decision::NoEntryLeft;
     }
-    if 8 <= free {
+    if SLOTS <= free {
         return Decision::NoSlotLeft;
     }
     Decision::Open(free)
 }
 
 // What becomes of a segment of a source.
-pub fn decide(replay: [Entry; 32], sessions: [Session; 8], src: u16, seg: Segment) -> Decision
+pub fn decide(
+    replay: [Entry; ENTRIES],
+    sessions: [Session; SLOTS],
+    src: u16,
+    seg: Segment,
+) -> Decision
     ensures { λ r. ⌜ r ≡ decision replay sessions src seg ⌝ }
 {
     let e = super::replay::look_up(replay, src);
@@ -81,13 +88,13 @@ pub fn decide(replay: [Entry; 32], sessions: [Session; 8], src: u16, seg: Segmen
         return Decision::Repeat(common::bits::all(terms.segn as u32));
     }
     let room = super::replay::has_room(replay, src);
-    let own = super::session::place(sessions, src);
-    if own < 8 {
+    let own = super::session::place(sessions, super::session::key_for(src, seg));
+    if own < SLOTS {
         let s = sessions[own];
         if super::pair::same(s.auth, seg.auth) {
             return join(s, own, room, seg);
         }
         return replace(e, s.auth, own, room, seg.auth);
     }
-    open(e, super::session::place(sessions, 0), room, seg.auth)
+    open(e, super::session::free(sessions), room, seg.auth)
 }

@@ -1,5 +1,6 @@
 // The one outgoing segmented message that is kept, and what a heard acknowledgement does to it.
 use super::pair::Pair;
+use super::session::MESSAGE;
 use super::session::Terms;
 use network::header::Header;
 ghost use mathlib.Core.Path.{_≡_};
@@ -17,7 +18,7 @@ pub struct Outgoing {
     pub heard: u32,
     // The octets of the whole message.
     pub len: usize,
-    pub bytes: [u8; 384],
+    pub bytes: [u8; MESSAGE],
 }
 
 // What a heard acknowledgement does.
@@ -48,7 +49,7 @@ pub fn none() -> Outgoing
         ttl: 0,
         heard: 0,
         len: 0,
-        bytes: [0u8; 384],
+        bytes: [0u8; MESSAGE],
     }
 }
 

@@ -3,6 +3,9 @@ use super::pair::Pair;
 ghost use mathlib.Core.Path.{_≡_};
 ghost use Rattle.memory.specs.Replay.{noEntry, entryPlace, lookUp, stale, hasRoom, inserted, raised, isLast, accepted, handedUp};
 
+// How many entries there are.
+pub const ENTRIES: usize = 32;
+
 // The last segmented message of a source that was handed up; DST 0 marks that there is none.
 pub struct Last {
     pub auth: Pair,
@@ -32,27 +35,27 @@ pub fn none() -> Entry
     }
 }
 
-// The place of a source's entry, or 32.
-fn place(replay: [Entry; 32], src: u16) -> usize
+// The place of a source's entry, or their number.
+fn place(replay: [Entry; ENTRIES], src: u16) -> usize
     ensures { λ r. ⌜ r ≡ entryPlace replay src ⌝ }
 {
     let mut i: usize = 0;
-    while i < 32 {
+    while i < ENTRIES {
         let e = replay[i];
         if e.src == src {
             return i;
         }
         i += 1;
     }
-    32
+    ENTRIES
 }
 
 // A source's entry, or an empty one.
-pub fn look_up(replay: [Entry; 32], src: u16) -> Entry
+pub fn look_up(replay: [Entry; ENTRIES], src: u16) -> Entry
     ensures { λ r. ⌜ r ≡ lookUp replay src ⌝ }
 {
     let i = place(replay, src);
-    if i < 32 {
+    if i < ENTRIES {
         return replay[i];
     }
     none()
@@ -69,27 +72,27 @@ pub fn is_stale(e: Entry, pair: Pair) -> bool
 }
 
 // Whether the source has an entry, or there is a place for one.
-pub fn has_room(replay: [Entry; 32], src: u16) -> bool
+pub fn has_room(replay: [Entry; ENTRIES], src: u16) -> bool
     ensures { λ r. ⌜ r ≡ hasRoom replay src ⌝ }
 {
-    if place(replay, src) < 32 {
+    if place(replay, src) < ENTRIES {
         return true;
     }
-    place(replay, 0) < 32
+    place(replay, 0) < ENTRIES
 }
 
 // The list with an entry in its source's place, or in the first empty one.
-fn insert(replay: [Entry; 32], e: Entry) -> [Entry; 32]
+fn insert(replay: [Entry; ENTRIES], e: Entry) -> [Entry; ENTRIES]
     ensures { λ r. ⌜ r ≡ inserted replay e ⌝ }
 {
     let mut after = replay;
     let own = place(replay, e.src);
-    if own < 32 {
+    if own < ENTRIES {
         after[own] = e;
         return after;
     }
     let free = place(replay, 0);
-    if free < 32 {
+    if free < ENTRIES {
         after[free] = e;
     }
     after
@@ -122,7 +125,7 @@ pub fn is_last(last: Last, auth: Pair, segn: u8, dst: u16) -> bool
 }
 
 // The list after a whole message of a source was accepted.
-pub fn accept(replay: [Entry; 32], src: u16, pair: Pair) -> [Entry; 32]
+pub fn accept(replay: [Entry; ENTRIES], src: u16, pair: Pair) -> [Entry; ENTRIES]
     ensures { λ r. ⌜ r ≡ accepted replay src pair ⌝ }
 {
     let e = look_up(replay, src);
@@ -139,7 +142,13 @@ pub fn accept(replay: [Entry; 32], src: u16, pair: Pair) -> [Entry; 32]
 }
 
 // The list after a segmented message of a source was handed up.
-pub fn hand_up(replay: [Entry; 32], src: u16, auth: Pair, segn: u8, dst: u16) -> [Entry; 32]
+pub fn hand_up(
+    replay: [Entry; ENTRIES],
+    src: u16,
+    auth: Pair,
+    segn: u8,
+    dst: u16,
+) -> [Entry; ENTRIES]
     ensures { λ r. ⌜ r ≡ handedUp replay src auth segn dst ⌝ }
 {
     let raised = raise(look_up(replay, src), auth);

@@ -6,7 +6,13 @@ ghost use mathlib.Core.List.{_++_};
 ghost use Prim.Native.Nat.{_+_, _≤_};
 ghost use lib.ListN.{length, take, drop};
 ghost use Rattle.common.specs.Lists.{onto};
-ghost use Rattle.memory.specs.Session.{noSession, sessionPlace, sameTerms, begun, octetPlace, segmentOctets, lengthWith, stored, complete};
+ghost use Rattle.memory.specs.Session.{noSession, segmentKey, sessionPlace, freePlace, sameTerms, begun, octetPlace, segmentOctets, lengthWith, stored, complete};
+
+// How many slots there are.
+pub const SLOTS: usize = 8;
+
+// The octets of the longest message.
+pub const MESSAGE: usize = 384;
 
 // What all segments of a message share: a segment that joins a session may differ in none of it.
 pub struct Terms {
@@ -28,6 +34,11 @@ pub struct Segment {
     pub sego: u8,
 }
 
+// What a session is found by.
+pub struct SessionKey {
+    pub src: u16,
+}
+
 // SRC 0 marks a free slot.
 pub struct Session {
     pub src: u16,
@@ -37,7 +48,7 @@ pub struct Session {
     pub filled: u32,
     // The octets of the whole message, known when its last segment has come.
     pub len: usize,
-    pub bytes: [u8; 384],
+    pub bytes: [u8; MESSAGE],
 }
 
 // No terms: zeros.
@@ -60,23 +71,45 @@ pub fn none() -> Session
         terms: NO_TERMS,
         filled: 0,
         len: 0,
-        bytes: [0u8; 384],
+        bytes: [0u8; MESSAGE],
     }
 }
 
-// The slot of a source's session, or 8; of source 0 the lowest free slot.
-pub fn place(sessions: [Session; 8], src: u16) -> usize
-    ensures { λ r. ⌜ r ≡ sessionPlace sessions src ⌝ }
+// The key of the session that a segment of a source is for.
+pub(crate) fn key_for(src: u16, seg: Segment) -> SessionKey
+    ensures { λ r. ⌜ r ≡ segmentKey src seg ⌝ }
+{
+    SessionKey { src }
+}
+
+// The slot of the session with this key, or the number of slots.
+pub fn place(sessions: [Session; SLOTS], key: SessionKey) -> usize
+    ensures { λ r. ⌜ r ≡ sessionPlace sessions key ⌝ }
 {
     let mut i: usize = 0;
-    while i < 8 {
+    while i < SLOTS {
         let s = sessions[i];
-        if s.src == src {
+        if s.src == key.src {
             return i;
         }
         i += 1;
     }
-    8
+    SLOTS
+}
+
+// The lowest free slot, or the number of slots.
+pub fn free(sessions: [Session; SLOTS]) -> usize
+    ensures { λ r. ⌜ r ≡ freePlace sessions ⌝ }
+{
+    let mut i: usize = 0;
+    while i < SLOTS {
+        let s = sessions[i];
+        if s.src == 0 {
+            return i;
+        }
+        i += 1;
+    }
+    SLOTS
 }
 
 // Whether two segments share what those of one message do.
@@ -139,7 +172,7 @@ fn octets_end(transport: [u8; 16], len: usize) -> usize
 }
 
 // The message's octets with those of a segment in their place.
-fn put_octets(bytes: [u8; 384], at: usize, h: Header) -> [u8; 384]
+fn put_octets(bytes: [u8; MESSAGE], at: usize, h: Header) -> [u8; MESSAGE]
     requires { ⌜ at ≤ 372 ⌝ }
     ensures { λ r. ⌜ r ≡ take at bytes ++ onto (segmentOctets h) (drop at bytes) ⌝ }
 {

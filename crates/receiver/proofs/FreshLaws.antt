@@ -7,7 +7,7 @@ use Rattle.node.specs.declared.setup.Made.{Made}
 use Rattle.node.specs.declared.setup.Setup.{Setup}
 use Rattle.node.specs.Setup.{making}
 use Rattle.memory.specs.declared.session.Session.{Session}
-use Rattle.memory.specs.Session.{noSession, sessionPlace}
+use Rattle.memory.specs.Session.{sessionSlots, noSession, sessionPlace}
 use Rattle.receiver.specs.declared.answer.Refusal.the-variants.{OutsideRules}
 use Rattle.receiver.specs.declared.fresh.Answer.the-variants as fresh-answer
 use Rattle.receiver.specs.declared.give_up.Answer.the-variants as give-up-answer
@@ -32,15 +32,15 @@ module _ (r : Receiver) (src : ℕ) where
   unfolding givingUp
   give-up-zero z = rw (eq-eqb src 0 z)
 
-  module _ (z : src ≡ 0 → ⊥) (slot : ℕ) (e : slot ≡ sessionPlace (r .sessions) src) where
+  module _ (z : src ≡ 0 → ⊥) (slot : ℕ) (e : slot ≡ sessionPlace (r .sessions) (record { src = src })) where
     pub give-up-done :
-        slot < 8 → (s : Session) → s ≡ noSession → (q : Receiver) → q ≡ withSession r slot s
+        slot < sessionSlots → (s : Session) → s ≡ noSession → (q : Receiver) → q ≡ withSession r slot s
         → record { answer = give-up-answer.Done; receiver = q } ≡ givingUp r src
     unfolding givingUp
-    give-up-done h s es q eq = rw (ne-eqb src 0 z, ← e, lt-ltb slot 8 h, eq, es)
+    give-up-done h s es q eq = rw (ne-eqb src 0 z, ← e, lt-ltb slot sessionSlots h, eq, es)
 
-    pub give-up-none : 8 ≤ slot → record { answer = give-up-answer.Refused OutsideRules; receiver = r } ≡ givingUp r src
+    pub give-up-none : sessionSlots ≤ slot → record { answer = give-up-answer.Refused OutsideRules; receiver = r } ≡ givingUp r src
     unfolding givingUp
-    give-up-none h = rw (ne-eqb src 0 z, ← e, le-ltb slot 8 h)
+    give-up-none h = rw (ne-eqb src 0 z, ← e, le-ltb slot sessionSlots h)
 
 pub ruleset give-up-rules = (give-up-zero, give-up-done, give-up-none)

@@ -1,6 +1,6 @@
 -- `GoodFresh`, `GoodHear` and `GoodGiveUp`: what setup makes is good; hearing leaves the receiver as it was, or with one PDU more in the cache and what the
 -- message of its form leaves; giving up zeroes a slot. Assumes nothing.
-use mathlib.Core.Bool.{false}
+use mathlib.Core.Bool.{true, false, true≢false}
 use mathlib.Core.List.{List}
 use mathlib.Core.Logic.{⊎-elim}
 use mathlib.Core.Path.{_≡_, sym, ap, _∙_, subst}
@@ -16,13 +16,10 @@ use Rattle.transport.specs.Form.{formOf}
 use Rattle.transport.specs.Ranges.{Kept}
 use Rattle.transport.proofs.Ranges.{keeps-to-ranges}
 use Rattle.transport.proofs.ReadsBack.{segO-fits}
-use Rattle.memory.specs.declared.replay.Entry.{Entry}
-use Rattle.memory.specs.declared.session.Session.{Session}
-use Rattle.memory.specs.Cache.{noSeen, remembered}
-use Rattle.memory.specs.Decision.{sessionAt}
-use Rattle.memory.specs.Replay.{noEntry}
-use Rattle.memory.specs.Session.{noSession, noSessions}
+use Rattle.memory.specs.Cache.{cacheEntries, noSeen, remembered}
+use Rattle.memory.specs.Session.{sessionSlots, noSession, noSessions, sessionAt, isFree}
 use Rattle.memory.proofs.CacheLaws.{length-remembered}
+use Rattle.memory.proofs.ReplayMap.{kept-none}
 use Rattle.node.specs.declared.addresses.Node.{Node}
 use Rattle.node.specs.Addresses.{forNode}
 use Rattle.node.specs.Made.{WellMade, NextWell}
@@ -44,17 +41,17 @@ use Rattle.receiver.proofs.GoodSegmented.{good-segmented}
 -- ---- setup
 good-fresh-of : (node : Node) (next : List ℕ) → WellMade node → NextWell (node .elements) next → Good (fresh node next)
 good-fresh-of node next w n =
-    let session : (i : ℕ) → i < 8 → sessionAt noSessions i ≡ noSession = λ i h. getD-replicate 8 i noSession _ h in
+    let session : (i : ℕ) → i < sessionSlots → sessionAt noSessions i ≡ noSession = λ i h. getD-replicate sessionSlots i noSession _ h in
+    let none : (i : ℕ) → i < sessionSlots → isFree (sessionAt noSessions i) ≡ true = λ i h. ap isFree (session i h) in
     record {
       node-made = w;
       next-well = n;
-      cache-places = length-replicate 16 noSeen;
-      entry-places = length-replicate 32 noEntry;
-      session-places = length-replicate 8 noSession;
-      one-entry = λ i j hi hj z e. absurd (z (ap (λ (e : Entry). e .src) (getD-replicate 32 i noEntry noEntry hi)));
-      one-session = λ i j hi hj z e. absurd (z (ap (λ (s : Session). s .src) (session i hi)));
+      cache-places = length-replicate cacheEntries noSeen;
+      replay-kept = kept-none;
+      session-places = length-replicate sessionSlots noSession;
+      one-session = λ i j hi hj z e. absurd (true≢false (sym (none i hi) ∙ z));
       free-zero = λ i h z. session i h;
-      gathering = λ i h z. absurd (z (ap (λ (s : Session). s .src) (session i h)));
+      gathering = λ i h z. absurd (true≢false (sym (none i h) ∙ z));
     }
 
 pub good-fresh : GoodFresh
@@ -88,8 +85,8 @@ LeftHeard o = Good (o .heard .receiver)
 good-passed : (r : Receiver) → Good r → (h : Header) → Clear h → (trials : ℕ) (fwd msg : List ℕ) → LeftHeard (passed r h trials fwd msg)
 unfolding passed
 good-passed r g h c trials fwd msg =
-    let cache = remembered (r .cache) (h .src) (h .seq) in
-    good-taken (withCache r cache) (good-cache r g cache (length-remembered (r .cache) (h .src) (h .seq) ∙ g .cache-places)) h c msg
+    let cache = remembered (r .cache) h in
+    good-taken (withCache r cache) (good-cache r g cache (length-remembered (r .cache) h ∙ g .cache-places)) h c msg
 
 pub good-hear : GoodHear
 good-hear r pdu fwd msg g =

@@ -2,9 +2,10 @@
 -- the replay entry. Assumes nothing.
 use mathlib.Core.Bool.{Bool}
 use mathlib.Core.List.{List}
-use mathlib.Core.Path.{_≡_, refl, sym, subst, _∙_}
+use mathlib.Core.Path.{_≡_, refl, sym, ap, subst, _∙_}
 use Prim.Native.Nat.{ℕ, _≤_, _<_}
 use native.Mathlib.Omega.{arith}
+use borrow.Author.Tests.{ne-eqb}
 use Rattle.common.proofs.Tests.{by-choice}
 use Rattle.network.specs.declared.header.Header.{Header}
 use Rattle.transport.specs.declared.securing.Opened.{Opened}
@@ -16,9 +17,10 @@ use Rattle.memory.specs.declared.decision.Decision.{Decision}
 use Rattle.memory.specs.declared.decision.Decision.the-variants.{Repeat, Join, Open, Stale, Differs, NoEntryLeft, NoSlotLeft}
 use Rattle.memory.specs.declared.session.Segment.{Segment}
 use Rattle.memory.specs.declared.session.Session.{Session}
-use Rattle.memory.specs.Decision.{sessionAt, decision}
-use Rattle.memory.specs.Session.{noSession, begun, stored, complete}
-use Rattle.memory.proofs.SessionSlots.{session-source}
+use Rattle.memory.specs.declared.session.SessionKey.{SessionKey}
+use Rattle.memory.specs.Decision.{decision}
+use Rattle.memory.specs.Session.{noSession, sessionAt, sessionKey, segmentKey, begun, stored, complete}
+use Rattle.memory.proofs.SessionSlots.{session-key}
 use Rattle.memory.proofs.Within.{same-last, Opens, joins-opens, Within, decision-within}
 use Rattle.receiver.specs.declared.state.Receiver.{Receiver}
 use Rattle.receiver.specs.Good.{Gathering, Good}
@@ -43,7 +45,7 @@ good-up r g s msg = (good-upgraded r g s, good-access-up-as r g s _)
 module _ (r : Receiver) (g : Good r) (h : Header) (c : Clear h) (msg : List ℕ) where
   -- a complete session is freed; one that gathers is kept
   good-gathered :
-      (slot : ℕ) (s : Session) → Gathering s → s .src ≡ h .src → Opens (r .sessions) (h .src) slot → (segO : ℕ) → segO ≤ s .terms .segn
+      (slot : ℕ) (s : Session) → Gathering s → s .src ≡ h .src → Opens (r .sessions) (sessionKey s) slot → (segO : ℕ) → segO ≤ s .terms .segn
       → Left (gathered r slot (stored s h segO) msg)
   unfolding gathered stored
   good-gathered slot s k e o segO b =
@@ -51,7 +53,7 @@ module _ (r : Receiver) (g : Good r) (h : Header) (c : Clear h) (msg : List ℕ)
       let up = good-up (withSession r slot noSession) (good-freed r g slot) n msg in
       by-choice Left (complete n)
       (λ t. by-choice Left (n .terms .ctl) (λ u. up .0) (λ u. up .1))
-      (λ t. good-opened r g slot n (subst (λ (a : ℕ). Opens (r .sessions) a slot) (sym e) o) (λ z. c .sent (sym e ∙ z))
+      (λ t. good-opened r g slot n o (ne-eqb (s .src) 0 (λ z. c .sent (sym e ∙ z)))
       (gathering-stored s h segO k (c .places) b t))
 
   module _ (seg : Segment) (last : seg .terms .segn < 32) (b : seg .sego ≤ seg .terms .segn) where
@@ -67,10 +69,12 @@ module _ (r : Receiver) (g : Good r) (h : Header) (c : Clear h) (msg : List ℕ)
         let l = g .session-places in
         let i = w .within in
         let o = w .own in
-        let e : s .src ≡ h .src = rw o (session-source (r .sessions) (h .src) (omega arith)) in
-        let k = g .gathering slot i (λ z. c .sent (sym e ∙ z)) in
+        let found : sessionKey s ≡ segmentKey (h .src) seg = rw o (session-key (r .sessions) (segmentKey (h .src) seg) (omega arith)) in
+        let e = ap (λ (a : SessionKey). a .src) found in
+        let k = g .gathering slot i (ne-eqb (s .src) 0 (λ z. c .sent (sym e ∙ z))) in
         let n = same-last (s .terms) (seg .terms) (w .same) in
-        good-gathered slot s k e (joins-opens w) (seg .sego) (omega arith)
+        let opens = subst (λ (a : SessionKey). Opens (r .sessions) a slot) (sym found) (joins-opens w) in
+        good-gathered slot s k e opens (seg .sego) (omega arith)
     good-placed-as (Open slot) w = good-gathered slot (begun (h .src) seg) (gathering-begun (h .src) seg last) refl w (seg .sego) b
 
     good-placed : Left (placed r h seg msg)

@@ -2,6 +2,7 @@
 --   good-cache, good-replay, good-session, good-outgoing   the state with one part changed
 --   good-admitted, good-upgraded                           a message was accepted, or handed up
 --   good-freed, good-opened                                a slot is zeroed, or holds a session that gathers
+use mathlib.Core.Bool.{true, false, true≢false}
 use mathlib.Core.List.{List}
 use mathlib.Core.Path.{_≡_, refl, sym, subst, _∙_}
 use Prim.Native.Nat.{ℕ, _<_}
@@ -17,10 +18,11 @@ use Rattle.memory.specs.declared.cache.Cache.{Cache}
 use Rattle.memory.specs.declared.outgoing.Outgoing.{Outgoing}
 use Rattle.memory.specs.declared.replay.Entry.{Entry}
 use Rattle.memory.specs.declared.session.Session.{Session}
-use Rattle.memory.specs.Decision.{sessionAt}
-use Rattle.memory.specs.Session.{noSession}
-use Rattle.memory.proofs.Apart.{EntriesApart, SessionsApart, apart-accepted, apart-handedUp, apart-freed, apart-opened}
-use Rattle.memory.proofs.ReplayMap.{length-accepted, length-handedUp}
+use Rattle.memory.specs.Cache.{cacheEntries}
+use Rattle.memory.specs.Replay.{ReplayKept}
+use Rattle.memory.specs.Session.{sessionSlots, noSession, sessionAt, sessionKey, isFree, SessionsApart}
+use Rattle.memory.proofs.ReplayMap.{kept-accepted, kept-handedUp}
+use Rattle.memory.proofs.SessionSlots.{apart-freed, apart-opened}
 use Rattle.memory.proofs.Within.{Opens}
 use Rattle.receiver.specs.declared.answer.Taken.{Taken}
 use Rattle.receiver.specs.declared.state.Receiver.{Receiver}
@@ -34,23 +36,19 @@ abbrev pub Left : Lent Taken → Type 0
 Left t = Good (t .answer .receiver)
 
 -- ---- the parts
--- the replay list: 32 places, each source at most once
-abbrev EntriesGood : List Entry → Type 0
-EntriesGood l = (length l ≡ 32) × EntriesApart l
-
 -- a session: zeros, or one that gathers
 pub record Held (s : Session) : Type 0 where
-  pub free : s .src ≡ 0 → s ≡ noSession
-  pub gathers : (s .src ≡ 0 → ⊥) → Gathering s
+  pub free : isFree s ≡ true → s ≡ noSession
+  pub gathers : isFree s ≡ false → Gathering s
 
--- the sessions: 8 places, each source at most once
+-- the sessions: all slots, each key at most once
 pub record SessionsGood (l : List Session) : Type 0 where
-  pub places : length l ≡ 8
+  pub places : length l ≡ sessionSlots
   pub apart : SessionsApart l
-  pub each : (i : ℕ) → i < 8 → Held (sessionAt l i)
+  pub each : (i : ℕ) → i < sessionSlots → Held (sessionAt l i)
 
 -- a session is put into a slot
-held-set : (l : List Session) → SessionsGood l → (slot : ℕ) (s : Session) → Held s → (i : ℕ) → i < 8 → Held (sessionAt (set l slot s) i)
+held-set : (l : List Session) → SessionsGood l → (slot : ℕ) (s : Session) → Held s → (i : ℕ) → i < sessionSlots → Held (sessionAt (set l slot s) i)
 held-set l g slot s hs i h =
     let long = g .places in
     by-test (eqb i slot)
@@ -61,9 +59,6 @@ held-set l g slot s hs i h =
 
 -- ---- the state with its parts changed
 module _ (r : Receiver) (g : Good r) where
-  entries-good : EntriesGood (r .replay)
-  entries-good = (g .entry-places, g .one-entry)
-
   pub sessions-good : SessionsGood (r .sessions)
   sessions-good =
       record {
@@ -73,33 +68,32 @@ module _ (r : Receiver) (g : Good r) where
       }
 
   changed :
-      (cache : Cache) → length (cache .entries) ≡ 16 → (replay : List Entry) → EntriesGood replay → (sessions : List Session) → SessionsGood sessions
+      (cache : Cache) → length (cache .entries) ≡ cacheEntries → (replay : List Entry) → ReplayKept replay → (sessions : List Session) → SessionsGood sessions
       → (out : Outgoing) → Good (record { node = r .node; next = r .next; cache = cache; replay = replay; sessions = sessions; out = out })
   changed cache ec replay er sessions es out =
       record {
         node-made = g .node-made;
         next-well = g .next-well;
         cache-places = ec;
-        entry-places = er .0;
+        replay-kept = er;
         session-places = es .places;
-        one-entry = er .1;
         one-session = es .apart;
         free-zero = λ i h. es .each i h .free;
         gathering = λ i h. es .each i h .gathers;
       }
 
-  pub good-cache : (c : Cache) → length (c .entries) ≡ 16 → Good (withCache r c)
-  good-cache c e = changed c e (r .replay) entries-good (r .sessions) sessions-good (r .out)
+  pub good-cache : (c : Cache) → length (c .entries) ≡ cacheEntries → Good (withCache r c)
+  good-cache c e = changed c e (r .replay) (g .replay-kept) (r .sessions) sessions-good (r .out)
 
   pub good-outgoing : (out : Outgoing) → Good (withOutgoing r out)
-  good-outgoing out = changed (r .cache) (g .cache-places) (r .replay) entries-good (r .sessions) sessions-good out
+  good-outgoing out = changed (r .cache) (g .cache-places) (r .replay) (g .replay-kept) (r .sessions) sessions-good out
 
-  pub good-replay : (l : List Entry) → length l ≡ length (r .replay) → EntriesApart l → Good (withReplay r l)
-  good-replay l e a = changed (r .cache) (g .cache-places) l (e ∙ g .entry-places, a) (r .sessions) sessions-good (r .out)
+  pub good-replay : (l : List Entry) → ReplayKept l → Good (withReplay r l)
+  good-replay l k = changed (r .cache) (g .cache-places) l k (r .sessions) sessions-good (r .out)
 
   pub good-session : (slot : ℕ) (s : Session) → SessionsApart (set (r .sessions) slot s) → Held s → Good (withSession r slot s)
   good-session slot s a h =
-      changed (r .cache) (g .cache-places) (r .replay) entries-good (set (r .sessions) slot s)
+      changed (r .cache) (g .cache-places) (r .replay) (g .replay-kept) (set (r .sessions) slot s)
       (record {
         places = length-set (r .sessions) slot s ∙ g .session-places;
         apart = a;
@@ -110,23 +104,20 @@ module _ (r : Receiver) (g : Good r) where
   -- ---- a message was accepted, or handed up
   pub good-admitted : (h : Header) → Good (admitted r h)
   unfolding admitted
-  good-admitted h =
-      good-replay _ (length-accepted (r .replay) (h .src) (pairOf h)) (apart-accepted (r .replay) (g .entry-places) (g .one-entry) (h .src) (pairOf h))
+  good-admitted h = good-replay _ (kept-accepted (r .replay) (g .replay-kept) (h .src) (pairOf h))
 
   pub good-upgraded : (s : Session) → Good (upgraded r s)
   unfolding upgraded
-  good-upgraded s =
-      good-replay _ (length-handedUp (r .replay) (s .src) (s .auth) (s .terms .segn) (s .terms .dst))
-      (apart-handedUp (r .replay) (g .entry-places) (g .one-entry) (s .src) (s .auth) (s .terms .segn) (s .terms .dst))
+  good-upgraded s = good-replay _ (kept-handedUp (r .replay) (g .replay-kept) (s .src) (s .auth) (s .terms .segn) (s .terms .dst))
 
   -- ---- a slot is zeroed, or holds a session that gathers
   pub good-freed : (slot : ℕ) → Good (withSession r slot noSession)
   good-freed slot =
       good-session slot noSession (apart-freed (r .sessions) (g .session-places) (g .one-session) slot)
-      (record { free = λ z. refl; gathers = λ z. absurd (z refl) })
+      (record { free = λ z. refl; gathers = λ z. absurd (true≢false z) })
 
   pub good-opened :
-      (slot : ℕ) (s : Session) → Opens (r .sessions) (s .src) slot → (s .src ≡ 0 → ⊥) → Gathering s → Good (withSession r slot s)
+      (slot : ℕ) (s : Session) → Opens (r .sessions) (sessionKey s) slot → isFree s ≡ false → Gathering s → Good (withSession r slot s)
   good-opened slot s o z k =
-      good-session slot s (apart-opened (r .sessions) (g .session-places) (g .one-session) slot s o)
-      (record { free = λ e. absurd (z e); gathers = λ e. k })
+      good-session slot s (apart-opened (r .sessions) (g .session-places) (g .one-session) slot s (o .own))
+      (record { free = λ e. absurd (true≢false (sym e ∙ z)); gathers = λ e. k })

@@ -111,14 +111,14 @@ pub ruleset taken-rules = (taken-ours, taken-not)
 -- ---- cached, forwarded, taken
 pub passed-is :
     (r : Receiver) (h : Header) (trials : ℕ) (fwd msg : List ℕ)
-    {c : Cache} → c ≡ remembered (r .cache) (h .src) (h .seq) → {q : Receiver} → q ≡ withCache r c
+    {c : Cache} → c ≡ remembered (r .cache) h → {q : Receiver} → q ≡ withCache r c
     → {n : ℕ} {fwd' : List ℕ} → lent n fwd' ≡ relayed (r .node) h fwd → {t : Taken} {msg' : List ℕ} → lent t msg' ≡ taken q h msg
     → outcome (record { answer = t .answer; network = trials; application = t .trials; forwarded = n; receiver = t .receiver }) fwd' msg' ≡ passed r h trials fwd msg
 unfolding passed
 passed-is r h trials fwd msg ec eq ef et = rw (← ec, ← eq, ← ef, ← et)
 
 -- ---- 5
-module _ (r : Receiver) (h : Header) (trials : ℕ) (fwd msg : List ℕ) (was : Bool) (e : was ≡ seen (r .cache) (h .src) (h .seq)) (t : Heard) where
+module _ (r : Receiver) (h : Header) (trials : ℕ) (fwd msg : List ℕ) (was : Bool) (e : was ≡ seen (r .cache) h) (t : Heard) where
   pub uncached-seen : was ≡ true → t ≡ refusedHeard r refusal.Cached trials → outcome t fwd msg ≡ uncached r h trials fwd msg
   unfolding uncached
   uncached-seen k et = rw (← e, k, et)

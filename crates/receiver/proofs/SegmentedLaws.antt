@@ -28,8 +28,8 @@ use Rattle.memory.specs.declared.replay.Entry.{Entry}
 use Rattle.memory.specs.declared.decision.Decision.the-variants.{Stale, Differs, NoEntryLeft, NoSlotLeft, Repeat, Join, Open}
 use Rattle.memory.specs.declared.session.Segment.{Segment}
 use Rattle.memory.specs.declared.session.Session.{Session}
-use Rattle.memory.specs.Decision.{sessionAt, decision}
-use Rattle.memory.specs.Session.{noSession, begun, stored, complete}
+use Rattle.memory.specs.Decision.{decision}
+use Rattle.memory.specs.Session.{sessionAt, noSession, begun, stored, complete}
 use Rattle.receiver.specs.declared.answer.Answer.the-variants as answer
 use Rattle.receiver.specs.declared.answer.Refusal.the-variants as refusal
 use Rattle.receiver.specs.declared.answer.Taken.{Taken}

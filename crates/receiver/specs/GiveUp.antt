@@ -2,7 +2,7 @@
 use Prim.Native.Nat.{ℕ}
 use lib.Dec.{eqb, ltb}
 use Rattle.common.specs.Choice.{if_then_else_}
-use Rattle.memory.specs.Session.{noSession, sessionPlace}
+use Rattle.memory.specs.Session.{sessionSlots, noSession, sessionPlace}
 use Rattle.receiver.specs.declared.answer.Refusal.the-variants.{OutsideRules}
 use Rattle.receiver.specs.declared.give_up.Answer.{Answer}
 use Rattle.receiver.specs.declared.give_up.Answer.the-variants.{Done, Refused}
@@ -19,7 +19,7 @@ paper (Refused n) = refusalNumber n
 -- 14: there is no session of that source, and SRC 0 is none; else its slot is zeroed
 unfoldable pub givingUp : Receiver → ℕ → GivenUp
 givingUp r src =
-    let slot = sessionPlace (r .sessions) src in
+    let slot = sessionPlace (r .sessions) (record { src = src }) in
     if eqb src 0 then record { answer = Refused OutsideRules; receiver = r } else
-    if ltb slot 8 then record { answer = Done; receiver = withSession r slot noSession } else
+    if ltb slot sessionSlots then record { answer = Done; receiver = withSession r slot noSession } else
     record { answer = Refused OutsideRules; receiver = r }

@@ -1,15 +1,15 @@
 -- What holds of a receiver that setup made, whatever it has heard since: the invariant that the theorems start from.
 --   Gathering s   an open session: some segment is missing, and none past SegN is marked
 --   Good r        the whole state
-use mathlib.Core.Bool.{false}
+use mathlib.Core.Bool.{true, false}
 use mathlib.Core.List.{List}
 use mathlib.Core.Path.{_≡_}
 use Prim.Native.Nat.{ℕ, _+_, _^_, _≤_, _<_}
-use lib.ListN.{length, getD}
+use lib.ListN.{length}
 use Rattle.memory.specs.declared.session.Session.{Session}
-use Rattle.memory.specs.Decision.{sessionAt}
-use Rattle.memory.specs.Replay.{noEntry}
-use Rattle.memory.specs.Session.{noSession, complete}
+use Rattle.memory.specs.Cache.{cacheEntries}
+use Rattle.memory.specs.Replay.{ReplayKept}
+use Rattle.memory.specs.Session.{sessionSlots, messageOctets, noSession, sessionAt, isFree, SessionsApart, complete}
 use Rattle.node.specs.Made.{WellMade, NextWell}
 use Rattle.node.specs.declared.setup.Setup.{Setup}
 use Rattle.receiver.specs.declared.fresh.Answer.the-variants.{Ready}
@@ -27,28 +27,26 @@ pub record Gathering (s : Session) : Type 0 where
   -- a complete one is freed at once
   pub missing : complete s ≡ false
   -- the octets of a message have their places
-  pub octets-places : length (s .bytes) ≡ 384
-  pub length-most : s .len ≤ 384
+  pub octets-places : length (s .bytes) ≡ messageOctets
+  pub length-most : s .len ≤ messageOctets
 
 pub record Good (r : Receiver) : Type 0 where
   -- keys, addresses and IV Index are as setup allows
   pub node-made : WellMade (r .node)
   -- each element's next SEQ
   pub next-well : NextWell (r .node .elements) (r .next)
-  -- message cache, replay entries, sessions: 16, 32, 8
-  pub cache-places : length (r .cache .entries) ≡ 16
-  pub entry-places : length (r .replay) ≡ 32
-  pub session-places : length (r .sessions) ≡ 8
-  -- a source has at most one replay entry
-  pub one-entry :
-      (i j : ℕ) → i < 32 → j < 32 → (getD (r .replay) i noEntry .src ≡ 0 → ⊥) → getD (r .replay) i noEntry .src ≡ getD (r .replay) j noEntry .src → i ≡ j
-  -- a source has at most one session
-  pub one-session :
-      (i j : ℕ) → i < 8 → j < 8 → (sessionAt (r .sessions) i .src ≡ 0 → ⊥) → sessionAt (r .sessions) i .src ≡ sessionAt (r .sessions) j .src → i ≡ j
+  -- message cache: 16 entries
+  pub cache-places : length (r .cache .entries) ≡ cacheEntries
+  -- replay list: 32 entries, of a source at most one
+  pub replay-kept : ReplayKept (r .replay)
+  -- sessions: 8
+  pub session-places : length (r .sessions) ≡ sessionSlots
+  -- a source has at most one
+  pub one-session : SessionsApart (r .sessions)
   -- a freed session slot is zeroed
-  pub free-zero : (i : ℕ) → i < 8 → sessionAt (r .sessions) i .src ≡ 0 → sessionAt (r .sessions) i ≡ noSession
+  pub free-zero : (i : ℕ) → i < sessionSlots → isFree (sessionAt (r .sessions) i) ≡ true → sessionAt (r .sessions) i ≡ noSession
   -- each other one gathers a message
-  pub gathering : (i : ℕ) → i < 8 → (sessionAt (r .sessions) i .src ≡ 0 → ⊥) → Gathering (sessionAt (r .sessions) i)
+  pub gathering : (i : ℕ) → i < sessionSlots → isFree (sessionAt (r .sessions) i) ≡ false → Gathering (sessionAt (r .sessions) i)
 
 -- true after setup
 abbrev pub GoodFresh : Type 0

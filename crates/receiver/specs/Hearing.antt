@@ -78,7 +78,7 @@ taken r h msg =
 unfoldable pub passed : Receiver → Header → ℕ → List ℕ → List ℕ → Outcome
 passed r h trials fwd msg =
     let f = relayed (r .node) h fwd in
-    let t = taken (withCache r (remembered (r .cache) (h .src) (h .seq))) h msg in
+    let t = taken (withCache r (remembered (r .cache) h)) h msg in
     outcome
     (record {
       answer = t .answer .answer;
@@ -92,7 +92,7 @@ passed r h trials fwd msg =
 -- 5: in the cache
 unfoldable pub uncached : Receiver → Header → ℕ → List ℕ → List ℕ → Outcome
 uncached r h trials fwd msg =
-    if seen (r .cache) (h .src) (h .seq) then outcome (refusedHeard r refusal.Cached trials) fwd msg else
+    if seen (r .cache) h then outcome (refusedHeard r refusal.Cached trials) fwd msg else
     passed r h trials fwd msg
 
 -- 1 to 4 are those of opening a Network PDU

@@ -23,9 +23,9 @@ use Rattle.memory.specs.declared.decision.Decision.{Decision}
 use Rattle.memory.specs.declared.decision.Decision.the-variants as decided
 use Rattle.memory.specs.declared.session.Segment.{Segment}
 use Rattle.memory.specs.declared.session.Session.{Session}
-use Rattle.memory.specs.Decision.{sessionAt, decision}
+use Rattle.memory.specs.Decision.{decision}
 use Rattle.memory.specs.Replay.{handedUp}
-use Rattle.memory.specs.Session.{noSession, begun, stored, complete, blockAck}
+use Rattle.memory.specs.Session.{sessionAt, noSession, begun, stored, complete, blockAck}
 use Rattle.receiver.specs.declared.answer.Answer.the-variants.{Stored, Repeated, Access, Control}
 use Rattle.receiver.specs.declared.answer.Refusal.the-variants as refusal
 use Rattle.receiver.specs.declared.answer.Taken.{Taken}

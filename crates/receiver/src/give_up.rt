@@ -1,6 +1,7 @@
 // The caller may give up a session.
 use super::answer::Refusal;
 use super::state::Receiver;
+use memory::session::SessionKey;
 ghost use mathlib.Core.Path.{_≡_};
 ghost use Rattle.receiver.specs.GiveUp.{givingUp};
 
@@ -26,8 +27,8 @@ pub fn session(r: Receiver, src: u16) -> GivenUp
         };
     }
     let sessions = r.sessions;
-    let slot = memory::session::place(sessions, src);
-    if slot < 8 {
+    let slot = memory::session::place(sessions, SessionKey { src });
+    if slot < memory::session::SLOTS {
         return GivenUp {
             answer: Answer::Done,
             receiver: super::state::with_session(r, slot, memory::session::none()),

@@ -127,7 +127,7 @@ fn pass(r: Receiver, h: Header, trials: usize, forward: &mut [u8], message: &mut
     ensures { λ t. ⌜ outcome t (now (forward .exit)) (now (message .exit)) ≡ passed r h trials (now (forward .entry)) (now (message .entry)) ⌝ }
 {
     let before = r.cache;
-    let cache = memory::cache::remember(before, h.src, h.seq);
+    let cache = memory::cache::remember(before, h);
     let q = super::state::with_cache(r, cache);
     let node = r.node;
     let forwarded = relay(node, h, forward);
@@ -150,7 +150,7 @@ fn pass_new(r: Receiver, h: Header, trials: usize, forward: &mut [u8], message: 
     ensures { λ t. ⌜ outcome t (now (forward .exit)) (now (message .exit)) ≡ uncached r h trials (now (forward .entry)) (now (message .entry)) ⌝ }
 {
     let cache = r.cache;
-    if memory::cache::is_seen(cache, h.src, h.seq) {
+    if memory::cache::is_seen(cache, h) {
         return refuse(r, Refusal::Cached, trials);
     }
     pass(r, h, trials, forward, message)

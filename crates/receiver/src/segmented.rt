@@ -20,8 +20,7 @@ ghost use lib.ListN.{length};
 ghost use Rattle.common.specs.Lent.{lent};
 ghost use Rattle.common.specs.Lists.{onto};
 ghost use Rattle.transport.specs.Securing.{unsecuring};
-ghost use Rattle.memory.specs.Session.{stored};
-ghost use Rattle.memory.specs.Decision.{sessionAt};
+ghost use Rattle.memory.specs.Session.{sessionAt, stored};
 ghost use Rattle.receiver.specs.Segmented.{segmentOf, sessionEnvelope, messageOf, upgraded, controlUp, accessUp, gathered, placed, segmented};
 
 // A segment as its header and form tell it.

@@ -16,9 +16,8 @@ use Rattle.network.proofs.TrialLaws.{onto-zeros}
 use Rattle.transport.specs.Segment.{acknowledgementOctets}
 use Rattle.memory.specs.declared.replay.Entry.{Entry}
 use Rattle.memory.specs.declared.session.Session.{Session}
-use Rattle.memory.specs.Decision.{sessionAt}
 use Rattle.memory.specs.Replay.{lookUp}
-use Rattle.memory.specs.Session.{sessionPlace}
+use Rattle.memory.specs.Session.{sessionAt, sessionPlace}
 use Rattle.receiver.specs.declared.answer.Refusal.the-variants as refusal
 use Rattle.receiver.specs.declared.state.Receiver.{Receiver}
 use Rattle.sending.specs.declared.acknowledge.Chosen.{Chosen}

@@ -9,7 +9,6 @@ use native.Mathlib.Omega.{arith}
 use borrow.Author.Tests.{eq-eqb, ne-eqb}
 use lib.ListN.{length, take, drop, replicate}
 use Rattle.common.specs.Lent.{lent}
-use Rattle.memory.specs.Decision.{sessionAt}
 use Rattle.network.specs.declared.opening.Opening.{Opening}
 use Rattle.network.specs.Opening.{opening}
 use Rattle.node.specs.declared.addresses.Node.{Node}

@@ -13,7 +13,6 @@ use lib.Dec.{eqb}
 use lib.ListN.{length, take, drop, replicate}
 use Rattle.common.specs.Choice.{if_then_else_}
 use Rattle.common.specs.Lent.{Lent, lent}
-use Rattle.memory.specs.Decision.{sessionAt}
 use Rattle.network.specs.declared.opening.Answer.the-variants as network
 use Rattle.network.specs.declared.opening.Answer as opening-answer
 use Rattle.network.specs.Opening.{opening}

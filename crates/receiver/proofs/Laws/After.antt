@@ -31,8 +31,8 @@ use Rattle.memory.specs.declared.decision.Decision.{Decision}
 use Rattle.memory.specs.declared.decision.Decision.the-variants as decided
 use Rattle.memory.specs.declared.session.Segment.{Segment}
 use Rattle.memory.specs.declared.session.Session.{Session}
-use Rattle.memory.specs.Decision.{sessionAt, decision}
-use Rattle.memory.specs.Session.{noSession, begun, stored, complete}
+use Rattle.memory.specs.Decision.{decision}
+use Rattle.memory.specs.Session.{sessionAt, noSession, begun, stored, complete}
 use Rattle.node.specs.Addresses.{forNode}
 use Rattle.receiver.specs.declared.answer.Answer.{Answer}
 use Rattle.receiver.specs.declared.answer.Answer.the-variants.{Refused, Stored, Repeated, Access, Control, Acknowledgement}

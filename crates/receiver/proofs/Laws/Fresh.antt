@@ -22,8 +22,8 @@ module _ (s : Setup) where
   unfolding settingUp
   fresh-is = refl
 
-  pub fresh-unseen : (src seq : ℕ) → (src ≡ 0 → ⊥) → seen (settingUp s .receiver .cache) src seq ≡ false
-  fresh-unseen src seq z = rw fresh-is (seen-none src seq z)
+  pub fresh-unseen : (h : Header) → (h .src ≡ 0 → ⊥) → seen (settingUp s .receiver .cache) h ≡ false
+  fresh-unseen h z = rw fresh-is (seen-none h z)
 
   pub fresh-admits : (h : Header) → admission (settingUp s .receiver .replay) h ≡ Admitted
   unfolding admission

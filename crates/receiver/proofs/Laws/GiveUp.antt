@@ -2,7 +2,7 @@
 use Prim.Native.Nat.{ℕ}
 use lib.Dec.{eqb, ltb}
 use Rattle.common.proofs.Tests.{by-choice}
-use Rattle.memory.specs.Session.{noSession, sessionPlace}
+use Rattle.memory.specs.Session.{sessionSlots, noSession, sessionPlace}
 use Rattle.receiver.specs.declared.answer.Refusal.the-variants.{OutsideRules}
 use Rattle.receiver.specs.declared.give_up.Answer.the-variants.{Done, Refused}
 use Rattle.receiver.specs.declared.give_up.GivenUp.{GivenUp}
@@ -16,4 +16,5 @@ pub by-giving-up :
     → ((slot : ℕ) → P (record { answer = Done; receiver = withSession r slot noSession })) → P (givingUp r src)
 unfolding givingUp
 by-giving-up P r src left freed =
-    by-choice P (eqb src 0) (λ _. left) (λ _. by-choice P (ltb (sessionPlace (r .sessions) src) 8) (λ _. freed (sessionPlace (r .sessions) src)) (λ _. left))
+    let slot = sessionPlace (r .sessions) (record { src = src }) in
+    by-choice P (eqb src 0) (λ _. left) (λ _. by-choice P (ltb slot sessionSlots) (λ _. freed slot) (λ _. left))

@@ -51,7 +51,7 @@ openingOf r pdu = opening (r .node .materials) (r .node .networks) (r .node .iv)
 
 -- the receiver with the PDU of a header in its cache
 abbrev pub caching : Receiver → Header → Receiver
-caching r h = withCache r (remembered (r .cache) (h .src) (h .seq))
+caching r h = withCache r (remembered (r .cache) h)
 
 -- it opened and is new: it is cached, forwarded and taken
 pub record Passes (r : Receiver) (pdu fwd msg : List ℕ) (o : Outcome) : Type 0 where
@@ -81,7 +81,7 @@ module _ (r : Receiver) (fwd msg : List ℕ) where
     either-uncached : 384 ≤ length msg → o .answer ≡ network.Opened → Either (uncached r (o .header) (o .trials) fwd msg)
     unfolding uncached
     either-uncached room e =
-        by-choice Either (seen (r .cache) (o .header .src) (o .header .seq)) {y = passed r (o .header) (o .trials) fwd msg}
+        by-choice Either (seen (r .cache) (o .header)) {y = passed r (o .header) (o .trials) fwd msg}
         (λ _. inl (refuses refusal.Cached (o .trials) refl)) (λ _. inr (record { opens = e; room = room; passes = refl }))
 
     pub heard-either : Early r fwd msg (hearing r pdu fwd msg) ⊎ Passes r pdu fwd msg (hearing r pdu fwd msg)
@@ -103,7 +103,7 @@ module _ (r : Receiver) (pdu fwd msg : List ℕ) (wide : 29 ≤ length fwd) (big
   unfolding hearing openedAs
   heard-opened = rw (le-ltb (length fwd) 29 wide, le-ltb (length msg) 384 big, opens) refl
 
-  pub heard-again : seen (r .cache) (h .src) (h .seq) ≡ true → hearing r pdu fwd msg ≡ outcome (refusedHeard r refusal.Cached trials) fwd msg
+  pub heard-again : seen (r .cache) h ≡ true → hearing r pdu fwd msg ≡ outcome (refusedHeard r refusal.Cached trials) fwd msg
   unfolding uncached
   heard-again e = heard-opened ∙ rw e refl
 
@@ -115,12 +115,12 @@ module _ (r : Receiver) (pdu fwd msg : List ℕ) (wide : 29 ≤ length fwd) (big
   forwardedIs f = lent (hearing r pdu fwd msg .heard .forwarded) (hearing r pdu fwd msg .forward) ≡ f
 
   pub heard-forwarded :
-      seen (r .cache) (h .src) (h .seq) ≡ false → goesOn ≡ true
+      seen (r .cache) h ≡ false → goesOn ≡ true
       → (let f = forwarding (r .node .materials) h fwd in forwardedIs (lent (sealedLength (f .answer)) (f .buffer)))
   unfolding uncached passed relayed
   heard-forwarded e t = rw (heard-opened, e, t) refl
 
-  pub heard-kept : seen (r .cache) (h .src) (h .seq) ≡ false → goesOn ≡ false → forwardedIs (lent 0 fwd)
+  pub heard-kept : seen (r .cache) h ≡ false → goesOn ≡ false → forwardedIs (lent 0 fwd)
   unfolding uncached passed relayed
   heard-kept e t = rw (heard-opened, e, t) refl
 
@@ -135,7 +135,7 @@ module _ (r : Receiver) (pdu fwd msg : List ℕ) (wide : 29 ≤ length fwd) (big
 
   -- it is new, and for this node: it is taken by its form
   pub heard-new :
-      seen (r .cache) (h .src) (h .seq) ≡ false → forNode (r .node) (h .dst) ≡ true → (t : Lent Taken) → takenAs (formOf h) (caching r h) h msg ≡ t → Leaves t
+      seen (r .cache) h ≡ false → forNode (r .node) (h .dst) ≡ true → (t : Lent Taken) → takenAs (formOf h) (caching r h) h msg ≡ t → Leaves t
   unfolding uncached passed taken
   heard-new e f t g =
       record {

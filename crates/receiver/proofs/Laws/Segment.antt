@@ -23,9 +23,8 @@ use Rattle.transport.specs.Securing.{unsecuring}
 use Rattle.transport.specs.SeqAuth.{seqAuth}
 use Rattle.memory.specs.declared.session.Segment.{Segment}
 use Rattle.memory.specs.declared.session.Session.{Session}
-use Rattle.memory.specs.Decision.{sessionAt}
-use Rattle.memory.specs.Replay.{noEntry, lookUp, hasRoom, handedUp}
-use Rattle.memory.specs.Session.{noSession, sessionPlace, begun, stored, complete}
+use Rattle.memory.specs.Replay.{lookUp, stale, hasRoom, isLast, handedUp}
+use Rattle.memory.specs.Session.{sessionSlots, noSession, sessionAt, segmentKey, sessionPlace, freePlace, begun, stored, complete}
 use Rattle.memory.proofs.Decided.{decide-last, decide-open, decide-repeat, decide-join}
 use Rattle.receiver.specs.declared.answer.Answer.the-variants as answer
 use Rattle.receiver.specs.declared.answer.Taken.{Taken}
@@ -42,12 +41,12 @@ module _ (r : Receiver) (h : Header) (msg : List ℕ) where
 
 -- ---- where it is placed, by what entry and session its source has
 module _ (r : Receiver) (h : Header) (msg : List ℕ) (seg : Segment) where
-  -- the slot of its source's session, and the lowest free one
+  -- the slot of its session, and the lowest free one
   abbrev own : ℕ
-  own = sessionPlace (r .sessions) (h .src)
+  own = sessionPlace (r .sessions) (segmentKey (h .src) seg)
 
   abbrev free : ℕ
-  free = sessionPlace (r .sessions) 0
+  free = freePlace (r .sessions)
 
   abbrev repeats : ℕ → Lent Taken
   repeats bits = lent (record { answer = answer.Repeated (h .src) (seg .auth) bits; trials = 0; receiver = r }) msg
@@ -59,24 +58,27 @@ module _ (r : Receiver) (h : Header) (msg : List ℕ) (seg : Segment) where
   unfolding placed placedAs
   placed-last z e = rw (decide-last (r .replay) (r .sessions) (h .src) seg z e) refl
 
-  -- no entry, and room for one
-  module _ (none : lookUp (r .replay) (h .src) ≡ noEntry) (room : hasRoom (r .replay) (h .src) ≡ true) where
-    -- no session, and a free slot
-    pub placed-open : 8 ≤ own → free < 8 → placed r h seg msg ≡ gathered r free (stored (begun (h .src) seg) h (seg .sego)) msg
-    unfolding placed placedAs
-    placed-open out within = rw (decide-open (r .replay) (r .sessions) (h .src) seg none room out within) refl
-
-    -- a session of its SeqAuth and terms
-    module _ (s : Session) (here : own < 8) (held : sessionAt (r .sessions) own ≡ s) (auth : s .auth ≡ seg .auth) (terms : s .terms ≡ seg .terms) where
-      pub placed-repeat : hasBit (s .filled) (seg .sego) ≡ true → placed r h seg msg ≡ repeats (s .filled)
+  -- it is not of that one, and there is room for an entry
+  module _ (other : isLast (lookUp (r .replay) (h .src) .last) (seg .auth) (seg .terms .segn) (seg .terms .dst) ≡ false) (room : hasRoom (r .replay) (h .src) ≡ true)
+    where
+      -- the entry is not as new, there is no session, and a free slot
+      pub placed-open :
+          stale (lookUp (r .replay) (h .src)) (seg .auth) ≡ false → sessionSlots ≤ own → free < sessionSlots
+          → placed r h seg msg ≡ gathered r free (stored (begun (h .src) seg) h (seg .sego)) msg
       unfolding placed placedAs
-      placed-repeat b = rw (decide-repeat (r .replay) (r .sessions) (h .src) seg none room s here held auth terms b) refl
+      placed-open old out within = rw (decide-open (r .replay) (r .sessions) (h .src) seg other room old out within) refl
 
-      pub placed-join : hasBit (s .filled) (seg .sego) ≡ false → placed r h seg msg ≡ gathered r own (stored s h (seg .sego)) msg
-      unfolding placed placedAs
-      placed-join b =
-          rw (decide-join (r .replay) (r .sessions) (h .src) seg none room s here held auth terms b)
-          (ap (λ (x : Session). gathered r own (stored x h (seg .sego)) msg) held)
+      -- a session of its SeqAuth and terms
+      module _ (s : Session) (here : own < sessionSlots) (held : sessionAt (r .sessions) own ≡ s) (auth : s .auth ≡ seg .auth) (terms : s .terms ≡ seg .terms) where
+        pub placed-repeat : hasBit (s .filled) (seg .sego) ≡ true → placed r h seg msg ≡ repeats (s .filled)
+        unfolding placed placedAs
+        placed-repeat b = rw (decide-repeat (r .replay) (r .sessions) (h .src) seg other room s here held auth terms b) refl
+
+        pub placed-join : hasBit (s .filled) (seg .sego) ≡ false → placed r h seg msg ≡ gathered r own (stored s h (seg .sego)) msg
+        unfolding placed placedAs
+        placed-join b =
+            rw (decide-join (r .replay) (r .sessions) (h .src) seg other room s here held auth terms b)
+            (ap (λ (x : Session). gathered r own (stored x h (seg .sego)) msg) held)
 
 -- ---- a session with a segment more
 module _ (r : Receiver) (slot : ℕ) (s : Session) (msg : List ℕ) where

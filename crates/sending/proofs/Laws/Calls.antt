@@ -19,9 +19,8 @@ use Rattle.network.specs.Address.{isUnicast}
 use Rattle.transport.specs.declared.securing.MessageKey.{MessageKey}
 use Rattle.memory.specs.declared.replay.Entry.{Entry}
 use Rattle.memory.specs.declared.session.Session.{Session}
-use Rattle.memory.specs.Decision.{sessionAt}
 use Rattle.memory.specs.Replay.{lookUp}
-use Rattle.memory.specs.Session.{sessionPlace}
+use Rattle.memory.specs.Session.{sessionAt, sessionPlace}
 use Rattle.receiver.specs.declared.answer.Refusal.{Refusal}
 use Rattle.receiver.specs.declared.answer.Refusal.the-variants as refusal
 use Rattle.receiver.specs.declared.state.Receiver.{Receiver}

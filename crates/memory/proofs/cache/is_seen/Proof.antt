@@ -1,4 +1,4 @@
--- `memory::cache::is_seen` meets its contract: `seen` asks whether the place is below 16.
+-- `memory::cache::is_seen` meets its contract: `seen` asks whether the place is one of them.
 -- Assumes nothing.
 use borrow.Author.Needs.{needs}
 use Rattle.memory.specs.Cache.{seen}
@@ -7,7 +7,7 @@ use Rattle.memory.proofs.cache.is_seen.Tie as tie
 
 returns : tie.Need-returns
 unfolding seen
-returns c = rw (c .place .ensures)
+returns c = rw (c .place .ensures, c .before .entry .ensures)
 
 pub is-seen-spec : {M : Type 1} → statement M
-is-seen-spec = tie.close (tie.spec (λ c κs. search needs) returns)
+is-seen-spec = tie.close (tie.spec (λ c κs. search needs) (λ c κs. search needs) returns)

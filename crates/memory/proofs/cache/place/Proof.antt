@@ -1,4 +1,4 @@
--- `memory::cache::place` meets its contract: no entry before i is it, so the first that is ends the search. The measure is what is left of the 16.
+-- `memory::cache::place` meets its contract: no entry before i is it, so the first that is ends the search. The measure is how many are left.
 -- Assumes nothing.
 use mathlib.Core.Bool.{and-false}
 use mathlib.Core.Logic.{⊎-elim}
@@ -6,26 +6,26 @@ use Prim.Native.Nat.{_-_}
 use borrow.Author.Needs.{needs}
 use borrow.Author.Tests.{eq-eqb, ne-eqb}
 use Rattle.common.proofs.Search.{Seeking, seek-start, seek-here, seek-on, seek-past}
-use Rattle.memory.specs.Cache.{noSeen, isEntry}
+use Rattle.memory.specs.Cache.{cacheEntries, noSeen, sameSeen}
 use Rattle.memory.proofs.cache.place.Statement.{statement}
 use Rattle.memory.proofs.cache.place.Tie as tie
 
 abbrev Inv-loop : tie.InvT-loop
-Inv-loop src seq entries i₀ i = Seeking (isEntry src seq) 16 entries i
+Inv-loop x entries i₀ i = Seeking (λ e. sameSeen e x) cacheEntries entries i
 
 abbrev μ-loop : tie.MeasureT-loop
-μ-loop src seq entries i₀ i = 16 - i
+μ-loop x entries i₀ i = cacheEntries - i
 
 loop-again : tie.Need-loop-again Inv-loop μ-loop
 loop-again c =
-    let t = c .before .before .before in
+    let t = c .before .before .before .before in
     seek-on _ _ _ _ (t .before .loop .inv) noSeen (t .loop-test .taken)
-    (⊎-elim (λ w. simp (w .2 .left, and-false)) (λ w. rw (ne-eqb _ _ (w .left))) (c .if1 .came))
+    (⊎-elim (λ w. simp (w .3 .left, and-false)) (λ w. rw (ne-eqb _ _ (w .left))) (c .if1 .came))
 
 returns : tie.Need-returns Inv-loop μ-loop
 returns c =
-    let t = c .before .before .before .before .before in
-    seek-here _ _ _ _ (t .before .loop .inv) noSeen (t .loop-test .taken) (rw (eq-eqb _ _ (c .before .before .if1 .taken), c .if2 .taken))
+    let t = c .before .before .before .before .before .before .before in
+    seek-here _ _ _ _ (t .before .loop .inv) noSeen (t .loop-test .taken) (rw (eq-eqb _ _ (c .before .before .before .if1 .taken), c .if2 .taken))
 
 pub place-spec : {M : Type 1} → statement M
 place-spec =

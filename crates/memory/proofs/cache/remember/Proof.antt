@@ -8,7 +8,7 @@ use Rattle.memory.proofs.cache.remember.Tie as tie
 
 returns : tie.Need-returns
 unfolding remembered
-returns c = refl
+returns c = rw (c .entry .ensures) refl
 
 pub remember-spec : {M : Type 1} → statement M
-remember-spec = tie.close (tie.spec (λ c. search needs) (λ c. search needs) (λ c. search needs) returns)
+remember-spec = tie.close (tie.spec (λ c κs. search needs) (λ c. search needs) (λ c. search needs) (λ c. search needs) returns)

@@ -21,5 +21,5 @@ pub decide-spec : {M : Type 1} → statement M
 decide-spec =
     tie.close (tie.spec
     (λ c κs. search needs) (λ c κs. search needs) (λ c. search needs) (λ c κs. search needs) returns (λ c κs. search needs)
-    (λ c κs. search needs) (λ c. search needs) (λ c. search needs) (λ c κs. search needs) (λ c κs. search needs) returns-2
+    (λ c κs. search needs) (λ c κs. search needs) (λ c. search needs) (λ c. search needs) (λ c κs. search needs) (λ c κs. search needs) returns-2
     (λ c κs. search needs) returns-3 (λ c κs. search needs) (λ c κs. search needs) returns-4)
