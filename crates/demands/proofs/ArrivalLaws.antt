@@ -28,6 +28,7 @@ use Rattle.network.proofs.AddressLaws.{unicast-some, allowed-some}
 use Rattle.network.proofs.Sealed.{within}
 use Rattle.network.proofs.SealOpen.{open-seal}
 use Rattle.transport.specs.Form.{formOf}
+use Rattle.memory.specs.declared.cache.Seen as cached
 use Rattle.memory.specs.Cache.{seen, remembered}
 use Rattle.memory.proofs.CacheLaws.{length-remembered, seen-or-new}
 use Rattle.node.specs.declared.addresses.Node.{Node}
@@ -53,7 +54,7 @@ use Rattle.demands.specs.Speech.{Speech, lastOf, headerOf, segmentPdu, S
 use Rattle.demands.proofs.Invariant.{good-step}
 use Rattle.demands.proofs.KeptLaws.{kept-acknowledging, kept-scene, refilled}
 use Rattle.demands.proofs.Refusal.{unopened, unopened-leaves}
-use Rattle.demands.proofs.SceneLaws.{speakerOf, Scenery, entry-room, session-room}
+use Rattle.demands.proofs.SceneLaws.{speakerOf, speakerKey, Scenery, entry-room, session-room}
 use Rattle.demands.proofs.SpeechCut.{last-low}
 use Rattle.demands.proofs.SpeechSegment.{formed, segment-sealable, segment-taken, segment-placed}
 use Rattle.demands.proofs.StageLaws.{segmentAt, Stage}
@@ -122,7 +123,7 @@ module _ (node : Node) (speeches : List Speech) (spent : Spent) where
       pdu = segmentPdu node s i seq ttl
 
       abbrev q : Receiver
-      q = withCache r (remembered (r .cache) (s .src) seq)
+      q = withCache r (remembered (r .cache) h)
 
       abbrev trials : ℕ
       trials = networkPlace node s
@@ -153,10 +154,10 @@ module _ (node : Node) (speeches : List Speech) (spent : Spent) where
           segment-taken node s w i (sent .segment-there) seq ttl made q msg ∙ segment-placed node s w i (sent .segment-there) seq ttl q msg (sent .in-time)
 
       -- the cache has it: its segment had come
-      again : seen (r .cache) (s .src) seq ≡ true → Next r filled (Segment k i seq ttl) (Hear pdu fwd msg)
+      again : seen (r .cache) h ≡ true → Next r filled (Segment k i seq ttl) (Hear pdu fwd msg)
       unfolding headerOf
       again e =
-          let there : hasBit (filled k) i ≡ true = rw (sent .number-spent) (sc .seen-come k seq (sent .one-of) e) in
+          let there : hasBit (filled k) i ≡ true = rw (sent .number-spent) (sc .seen-come k h (sent .one-of) refl e) in
           let o : step r (Hear pdu fwd msg) ≡ Heard (outcome (refusedHeard r refusal.Cached trials) fwd msg) =
           ap Heard (heard-again r pdu fwd msg wide big h trials opens e) in
           let more : (j : ℕ) → comeWith j (filled j) (Segment k i seq ttl) ≡ filled j =
@@ -174,7 +175,7 @@ module _ (node : Node) (speeches : List Speech) (spent : Spent) where
       steps : Step node s q (filled k) i t
       unfolding headerOf
       steps =
-          let c = length-remembered (r .cache) (s .src) seq ∙ sc .good .cache-places in
+          let c = length-remembered (r .cache) h ∙ sc .good .cache-places in
           let dst = allowed-some (h .ctl) (h .src) (h .dst) (within (keyAt (node .materials) (s .network)) h can .allowed) in
           placed-steps node made s w spoken-of q (sc .same) (good-cache r (sc .good) _ c) (filled k) i (sent .segment-there) msg dst big seq ttl
           (entry-room node speeches spent r filled sc few (s .src)) (session-room node speeches spent r filled sc few k (sent .one-of)) (sc .stages k (sent .one-of))
@@ -186,13 +187,13 @@ module _ (node : Node) (speeches : List Speech) (spent : Spent) where
         tried-as : tried (step r (Hear pdu fwd msg)) ≡ record { network = trials; application = t .answer .trials }
         left-is : left (step r (Hear pdu fwd msg)) ≡ t .answer .receiver
 
-      leaves : seen (r .cache) (s .src) seq ≡ false → Leaves r pdu fwd msg wide big h trials opens t
+      leaves : seen (r .cache) h ≡ false → Leaves r pdu fwd msg wide big h trials opens t
       unfolding headerOf
       leaves e =
           let here : forNode (r .node) (s .dst) ≡ true = rw (sc .same) (w .for-here) in
           heard-new r pdu fwd msg wide big h trials opens e here t taken-is
 
-      does : seen (r .cache) (s .src) seq ≡ false → Does
+      does : seen (r .cache) h ≡ false → Does
       does e =
           let l = leaves e in
           record {
@@ -220,21 +221,23 @@ module _ (node : Node) (speeches : List Speech) (spent : Spent) where
 
       -- what the cache has seen has come
       more-seen :
-          (j a : ℕ) → j < length speeches → seen (t .answer .receiver .cache) (speakerOf speeches j) a ≡ true
-          → hasBit (comeWith j (filled j) (Segment k i seq ttl)) (spent j a) ≡ true
-      more-seen j a hj e =
-          let old : seen (q .cache) (speakerOf speeches j) a ≡ true = rw (sym (steps .cache-stays)) e in
+          (j : ℕ) (p : Header) → j < length speeches → p .src ≡ speakerOf speeches j → seen (t .answer .receiver .cache) p ≡ true
+          → hasBit (comeWith j (filled j) (Segment k i seq ttl)) (spent j (p .seq)) ≡ true
+      unfolding headerOf
+      more-seen j p hj from e =
+          let old : seen (q .cache) p ≡ true = rw (sym (steps .cache-stays)) e in
           ⊎-elim
           (λ was.
-          let there = sc .seen-come j a hj was in
-          by-test (eqb k j) (λ u. rw u (has-with (filled j) i (spent j a) low there)) (λ u. rw u there))
+          let there = sc .seen-come j p hj from was in
+          by-test (eqb k j) (λ u. rw u (has-with (filled j) i (spent j (p .seq)) low there)) (λ u. rw u there))
           (λ new.
-          let here = differ j k hj (sent .one-of) (new .0) in
-          let spends : spent j a ≡ i = ap (λ (n : ℕ). spent n a) here ∙ ap (spent k) (new .1) ∙ sym (sent .number-spent) in
+          let here = differ j k hj (sent .one-of) (sym from ∙ ap (λ (x : cached.Seen). x .src) new) in
+          let spends : spent j (p .seq) ≡ i =
+          ap (λ (n : ℕ). spent n (p .seq)) here ∙ ap (λ (x : cached.Seen). spent k (x .seq)) new ∙ sym (sent .number-spent) in
           rw (eq-eqb k j (sym here), spends) (has-with-own (filled j) i low))
-          (seen-or-new (r .cache) (s .src) seq (speakerOf speeches j) a (sc .good .cache-places) old)
+          (seen-or-new (r .cache) h (sc .good .cache-places) p old)
 
-      placed-next : seen (r .cache) (s .src) seq ≡ false → Next r filled (Segment k i seq ttl) (Hear pdu fwd msg)
+      placed-next : seen (r .cache) h ≡ false → Next r filled (Segment k i seq ttl) (Hear pdu fwd msg)
       placed-next e =
           let l = does e in
           let hears = good-hear r pdu fwd msg (sc .good) in
@@ -248,14 +251,14 @@ module _ (node : Node) (speeches : List Speech) (spent : Spent) where
                   good = hears;
                   same = stays ∙ sc .same;
                   stages = rw (l .left-is) more-stages;
-                  sessions-owned = rw (l .left-is) (steps .sessions-owned (length speeches) (speakerOf speeches) k (sent .one-of) refl (sc .sessions-owned));
-                  entries-owned = rw (l .left-is) (steps .entries-owned (length speeches) (speakerOf speeches) k (sent .one-of) refl (sc .entries-owned));
+                  sessions-owned = rw (l .left-is) (steps .sessions-owned (length speeches) (speakerKey speeches) k (sent .one-of) refl (sc .sessions-owned));
+                  entries-listed = rw (l .left-is) (steps .entries-listed (length speeches) (speakerOf speeches) k (sent .one-of) refl (sc .entries-listed));
                   seen-come = rw (l .left-is) more-seen;
                 };
           }
 
       segment-next : Next r filled (Segment k i seq ttl) (Hear pdu fwd msg)
-      segment-next = by-test (seen (r .cache) (s .src) seq) again placed-next
+      segment-next = by-test (seen (r .cache) h) again placed-next
 
     -- ---- each event
     pub event-next : (e : Event) → Comes node speeches spent e → Next r filled e (callAs node speeches e fwd msg)

@@ -67,6 +67,6 @@ forwarding-met =
     let n = holds .one-network in (
       good-fresh shed ready,
       octets-pdu key (octet-keys node made 0 (omega arith)) passing nid-fits (octets-tested (0x03 ∷ 0x4b ∷ 0x50 ∷ 0x05 ∷ []) tt),
-      record { wide = omega arith; big = omega arith; opens = opens; new = fresh-unseen shed 0x0002 0x000300 (λ e. omega arith) },
+      record { wide = omega arith; big = omega arith; opens = opens; new = fresh-unseen shed passing (λ e. omega arith) },
       goes-on,
     )

@@ -10,12 +10,12 @@
 --   handed-up      1: where a message is handed up
 --   acknowledges   2: what an acknowledgement names
 --   ends-alike     3: what is left at the end
-use mathlib.Core.Bool.{true, false≢true}
+use mathlib.Core.Bool.{true, false, false≢true}
 use mathlib.Core.List.{List, [], _∷_, _++_}
 use mathlib.Core.Path.{_≡_, refl, sym, ap, _∙_, subst}
 use Prim.Native.Nat.{ℕ, _≤_, _<_}
 use native.Mathlib.Omega.{arith}
-use borrow.Author.Tests.{eqb-true, eqb-false}
+use borrow.Author.Tests.{ne-eqb}
 use lib.Dec.{eqb}
 use lib.ListN.{length, length-replicate, getD-replicate}
 use lib.Seq.{ext-getD}
@@ -26,9 +26,8 @@ use Rattle.network.proofs.AddressLaws.{unicast-some}
 use Rattle.memory.specs.declared.replay.Entry.{Entry}
 use Rattle.memory.specs.declared.session.Session.{Session}
 use Rattle.memory.specs.Replay.{lookUp}
-use Rattle.memory.specs.Session.{sessionAt, noSession, noSessions, sessionPlace}
-use Rattle.memory.proofs.Apart.{past}
-use Rattle.memory.proofs.SessionSlots.{place-upto}
+use Rattle.memory.specs.Session.{sessionSlots, noSession, noSessions, sessionAt, sessionPlace, isFree}
+use Rattle.memory.proofs.SessionSlots.{past, place-upto}
 use Rattle.node.specs.declared.addresses.Node.{Node}
 use Rattle.node.specs.declared.setup.Setup.{Setup}
 use Rattle.node.specs.Made.{WellMade}
@@ -45,7 +44,7 @@ use Rattle.demands.specs.Speech.{Speech, lastOf, Speakable, Handed, hand
 use Rattle.demands.proofs.ArrivalLaws.{dueOf, Next, event-next}
 use Rattle.demands.proofs.ComeLaws.{each-first, each-at, each-turn, come-from, come-in-turn}
 use Rattle.demands.proofs.DueLaws.{dueWith, dueBehind, picked-due, once-due}
-use Rattle.demands.proofs.SceneLaws.{speakerOf, Scenery, begins}
+use Rattle.demands.proofs.SceneLaws.{speakerOf, speakerKey, Scenery, begins}
 use Rattle.demands.proofs.SpeechCut.{last-low}
 use Rattle.demands.proofs.SpeechSession.{sessionOf}
 use Rattle.demands.proofs.StageLaws.{entryOf, Stage, Silent, Gathers, Done}
@@ -87,19 +86,19 @@ module _ (node : Node) (made : WellMade node) (speeches : List Speech) (few : le
   module _ (r : Receiver) (filled : ℕ → ℕ) (sc : Seen r filled) (k : ℕ) (hk : k < length speeches)
       (all : (i : ℕ) → i ≤ lastOf node (speechAt speeches k) → hasBit (filled k) i ≡ true) where
     -- a session that gathers misses a place
-    gathers-not : (len : ℕ) (bytes : List ℕ) → sessionPlace (r .sessions) (speakerOf speeches k) < 8
-        → sessionAt (r .sessions) (sessionPlace (r .sessions) (speakerOf speeches k)) ≡ sessionOf node (speechAt speeches k) (filled k) len bytes
+    gathers-not : (len : ℕ) (bytes : List ℕ) → sessionPlace (r .sessions) (speakerKey speeches k) < sessionSlots
+        → sessionAt (r .sessions) (sessionPlace (r .sessions) (speakerKey speeches k)) ≡ sessionOf node (speechAt speeches k) (filled k) len bytes
         → filled k ≡ allBits (lastOf node (speechAt speeches k))
     gathers-not len bytes own held =
-        let slot = sessionPlace (r .sessions) (speakerOf speeches k) in
-        let z : sessionAt (r .sessions) slot .src ≡ 0 → ⊥ =
-        λ e. unicast-some (speakerOf speeches k) (speak k hk .from-unicast) (sym (ap (λ (x : Session). x .src) held) ∙ e) in
+        let slot = sessionPlace (r .sessions) (speakerKey speeches k) in
+        let spoken = ne-eqb (speakerOf speeches k) 0 (unicast-some (speakerOf speeches k) (speak k hk .from-unicast)) in
+        let z : isFree (sessionAt (r .sessions) slot) ≡ false = ap isFree held ∙ spoken in
         let g : Gathering (sessionOf node (speechAt speeches k) (filled k) len bytes) = subst Gathering held (sc .good .gathering slot own z) in
         all-of-bits (lastOf node (speechAt speeches k)) (filled k) (last-low node (speechAt speeches k) (speak k hk)) (g .filled-within) all
 
     record Over : Type 0 where
       filled-all : filled k ≡ allBits (lastOf node (speechAt speeches k))
-      no-slot : 8 ≤ sessionPlace (r .sessions) (speakerOf speeches k)
+      no-slot : sessionSlots ≤ sessionPlace (r .sessions) (speakerKey speeches k)
       entry-is : lookUp (r .replay) (speakerOf speeches k) ≡ entryOf node (speechAt speeches k)
 
     over-by : Stage node (speechAt speeches k) (r .replay) (r .sessions) (filled k) → Over
@@ -112,23 +111,23 @@ module _ (node : Node) (made : WellMade node) (speeches : List Speech) (few : le
 
   -- every slot is zeroed
   module _ (r : Receiver) (filled : ℕ → ℕ) (sc : Seen r filled)
-      (out : (k : ℕ) → k < length speeches → 8 ≤ sessionPlace (r .sessions) (speakerOf speeches k)) where
-    slot-zero : (i : ℕ) → i < 8 → sessionAt (r .sessions) i ≡ noSession
+      (out : (k : ℕ) → k < length speeches → sessionSlots ≤ sessionPlace (r .sessions) (speakerKey speeches k)) where
+    slot-zero : (i : ℕ) → i < sessionSlots → sessionAt (r .sessions) i ≡ noSession
     slot-zero i h =
         sc .good .free-zero i h
-        (by-test (eqb (sessionAt (r .sessions) i .src) 0) (λ t. eqb-true (sessionAt (r .sessions) i .src) 0 t)
+        (by-test (isFree (sessionAt (r .sessions) i)) (λ t. t)
         (λ t.
-        let o = sc .sessions-owned .owned i h (eqb-false (sessionAt (r .sessions) i .src) 0 t) in
+        let o = sc .sessions-owned .owned i h t in
         let k = sc .sessions-owned .owner i in
-        let u = place-upto (r .sessions) (speakerOf speeches k) i (o .1) in
+        let u = place-upto (r .sessions) (speakerKey speeches k) i (o .1) in
         let f = out k (o .0) in
         absurd (omega arith)))
 
     no-sessions : r .sessions ≡ noSessions
     no-sessions =
         let long = sc .good .session-places in
-        ext-getD past (r .sessions) noSessions (long ∙ sym (length-replicate 8 noSession))
-        (λ i h. let w : i < 8 = omega arith in slot-zero i w ∙ sym (getD-replicate 8 i noSession past w))
+        ext-getD past (r .sessions) noSessions (long ∙ sym (length-replicate sessionSlots noSession))
+        (λ i h. let w : i < sessionSlots = omega arith in slot-zero i w ∙ sym (getD-replicate sessionSlots i noSession past w))
 
 -- ---- the bits name the segments that came
 pub come-names : ComeNames

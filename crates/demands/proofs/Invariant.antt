@@ -55,9 +55,8 @@ module _ (r : Receiver) (g : Good r) where
         node-made = g .node-made;
         next-well = next-raised (r .node .elements) (r .next) element (g .next-well) h;
         cache-places = g .cache-places;
-        entry-places = g .entry-places;
+        replay-kept = g .replay-kept;
         session-places = g .session-places;
-        one-entry = g .one-entry;
         one-session = g .one-session;
         free-zero = g .free-zero;
         gathering = g .gathering;

@@ -48,8 +48,8 @@ module _ (node : Node) (speeches : List Speech) (spent : Spent) where
         same = k .node-stays ∙ s .same;
         stages = λ j h. rw (k .replay-stays, k .sessions-stay) (s .stages j h);
         sessions-owned = rw (k .sessions-stay) (s .sessions-owned);
-        entries-owned = rw (k .replay-stays) (s .entries-owned);
-        seen-come = λ j seq h e. s .seen-come j seq h (rw (sym (k .cache-stays)) e);
+        entries-listed = rw (k .replay-stays) (s .entries-listed);
+        seen-come = λ j h w q e. s .seen-come j h w q (rw (sym (k .cache-stays)) e);
       }
 
   pub refilled : (r : Receiver) (filled more : ℕ → ℕ) → ((k : ℕ) → more k ≡ filled k) → Scenery node speeches spent r filled → Scenery node speeches spent r more
@@ -59,6 +59,6 @@ module _ (node : Node) (speeches : List Speech) (spent : Spent) where
         same = s .same;
         stages = λ k h. rw (e k) (s .stages k h);
         sessions-owned = s .sessions-owned;
-        entries-owned = s .entries-owned;
-        seen-come = λ k seq h t. rw (e k) (s .seen-come k seq h t);
+        entries-listed = s .entries-listed;
+        seen-come = λ k h w q t. rw (e k) (s .seen-come k h w q t);
       }

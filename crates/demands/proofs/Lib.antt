@@ -2,17 +2,14 @@
 pub mod Examples
 pub mod Refusal
 pub mod Speaking
-pub mod Determinacy
 pub mod Invariant
 pub mod NeverTwice
-pub mod Pigeonhole
 pub mod SpeechCut
 pub mod SpeechMessage
 pub mod SpeechSegment
 pub mod SpeechSession
 pub mod GatherLaws
 pub mod StageLaws
-pub mod RoomLaws
 pub mod StepLaws
 pub mod SceneLaws
 pub mod KeptLaws

@@ -8,17 +8,17 @@ use mathlib.Core.List.{List}
 use mathlib.Core.Path.{_≡_, refl, sym, ap, _∙_}
 use Prim.Native.Nat.{ℕ, _≤_, _<_}
 use native.Mathlib.Omega.{arith}
-use lib.ListN.{length, getD-replicate}
+use borrow.Author.Tests.{ne-eqb}
+use lib.ListN.{length}
 use Rattle.common.specs.Bits.{hasBit}
+use Rattle.network.specs.declared.header.Header.{Header}
 use Rattle.network.proofs.AddressLaws.{unicast-some}
-use Rattle.memory.specs.declared.replay.Entry.{Entry}
-use Rattle.memory.specs.declared.session.Session.{Session}
+use Rattle.memory.specs.declared.session.SessionKey.{SessionKey}
 use Rattle.memory.specs.Cache.{seen}
-use Rattle.memory.specs.Replay.{noEntry, hasRoom}
-use Rattle.memory.specs.Session.{noSession, sessionPlace}
-use Rattle.memory.proofs.Apart.{entryPlace-is, sessionPlace-is, past}
-use Rattle.memory.proofs.ReplayMap.{hasRoom-free, lookUp-none}
-use Rattle.memory.proofs.SessionSlots.{place-none}
+use Rattle.memory.specs.Replay.{hasRoom}
+use Rattle.memory.specs.Session.{sessionSlots, sessionPlace, freePlace}
+use Rattle.memory.proofs.ReplayMap.{lookUp-none, Listed, listed-none, room-left}
+use Rattle.memory.proofs.SessionSlots.{place-none, SessionsOwned, owned-none, session-free}
 use Rattle.node.specs.declared.addresses.Node.{Node}
 use Rattle.node.specs.declared.setup.Setup.{Setup}
 use Rattle.receiver.specs.declared.fresh.Answer.the-variants.{Ready}
@@ -29,23 +29,26 @@ use Rattle.receiver.proofs.Good.{good-fresh}
 use Rattle.receiver.proofs.Laws.Fresh.{fresh-is, fresh-unseen}
 use Rattle.demands.specs.Interleaved.{speechAt, Spent, start, nodeOf}
 use Rattle.demands.specs.Speech.{Speech, Speakable}
-use Rattle.demands.proofs.RoomLaws.{place-free, slot-free}
-use Rattle.demands.proofs.StageLaws.{Stage, Silent}
-use Rattle.demands.proofs.StepLaws.{SessionsOwned, EntriesOwned}
+use Rattle.demands.proofs.StageLaws.{keyOf, Stage, Silent, unheard-none}
 
 -- ---- the scene
 -- who speaks
 abbrev pub speakerOf : List Speech → ℕ → ℕ
 speakerOf speeches k = speechAt speeches k .src
 
+-- what their sessions are found by
+abbrev pub speakerKey : List Speech → ℕ → SessionKey
+speakerKey speeches k = keyOf (speechAt speeches k)
+
 -- of each speech these places are filled
 pub record Scenery (node : Node) (speeches : List Speech) (spent : Spent) (r : Receiver) (filled : ℕ → ℕ) : Type 0 where
   pub good : Good r
   pub same : r .node ≡ node
   pub stages : (k : ℕ) → k < length speeches → Stage node (speechAt speeches k) (r .replay) (r .sessions) (filled k)
-  pub sessions-owned : SessionsOwned (length speeches) (speakerOf speeches) (r .sessions)
-  pub entries-owned : EntriesOwned (length speeches) (speakerOf speeches) (r .replay)
-  pub seen-come : (k seq : ℕ) → k < length speeches → seen (r .cache) (speakerOf speeches k) seq ≡ true → hasBit (filled k) (spent k seq) ≡ true
+  pub sessions-owned : SessionsOwned (length speeches) (speakerKey speeches) (r .sessions)
+  pub entries-listed : Listed (length speeches) (speakerOf speeches) (r .replay)
+  pub seen-come :
+      (k : ℕ) (h : Header) → k < length speeches → h .src ≡ speakerOf speeches k → seen (r .cache) h ≡ true → hasBit (filled k) (spent k (h .seq)) ≡ true
 
 -- ---- a fresh receiver
 module _ (setup : Setup) (ready : settingUp setup .answer ≡ Ready) (speeches : List Speech) (spent : Spent)
@@ -58,12 +61,12 @@ module _ (setup : Setup) (ready : settingUp setup .answer ≡ Ready) (speeches :
       record {
         good = good-fresh setup ready;
         same = refl;
-        stages = λ k h. Silent refl (rw (fresh-is setup) (place-none (speakerOf speeches k) (speaks k h))) (rw (fresh-is setup) (lookUp-none (speakerOf speeches k)));
-        sessions-owned =
-            rw (fresh-is setup) (record { owner = λ _. 0; owned = λ i h z. absurd (z (ap (λ (s : Session). s .src) (getD-replicate 8 i noSession past h))) });
-        entries-owned =
-            rw (fresh-is setup) (record { owner = λ _. 0; owned = λ i h z. absurd (z (ap (λ (e : Entry). e .src) (getD-replicate 32 i noEntry noEntry h))) });
-        seen-come = λ k seq h e. absurd (false≢true (sym (fresh-unseen setup (speakerOf speeches k) seq (speaks k h)) ∙ e));
+        stages = λ k h.
+            Silent refl (rw (fresh-is setup) (place-none (speakerKey speeches k) (ne-eqb (speakerOf speeches k) 0 (speaks k h))))
+            (unheard-none (nodeOf setup) (speechAt speeches k) _ (rw (fresh-is setup) (lookUp-none (speakerOf speeches k))));
+        sessions-owned = rw (fresh-is setup) (owned-none (length speeches) (speakerKey speeches));
+        entries-listed = rw (fresh-is setup) (listed-none (length speeches) (speakerOf speeches));
+        seen-come = λ k h w q e. absurd (false≢true (sym (fresh-unseen setup h (λ z. speaks k w (sym q ∙ z))) ∙ e));
       }
 
 -- ---- there is room
@@ -71,14 +74,10 @@ module _ (node : Node) (speeches : List Speech) (spent : Spent) (r : Receiver) (
     (few : length speeches ≤ 8) where
   -- for an entry
   pub entry-room : (src : ℕ) → hasRoom (r .replay) src ≡ true
-  entry-room src =
-      let f = place-free (λ (e : Entry). e .src) noEntry 32 (length speeches) (speakerOf speeches) (r .replay) (s .entries-owned) (s .good .entry-places)
-      (s .good .one-entry) (omega arith) in
-      hasRoom-free (r .replay) src (rw (entryPlace-is (r .replay) 0) f)
+  entry-room = room-left (length speeches) (speakerOf speeches) (r .replay) (s .entries-listed) (s .good .replay-kept) (omega arith)
 
   -- for a session of a speaker that has none
-  pub session-room : (k : ℕ) → k < length speeches → 8 ≤ sessionPlace (r .sessions) (speakerOf speeches k) → sessionPlace (r .sessions) 0 < 8
+  pub session-room :
+      (k : ℕ) → k < length speeches → sessionSlots ≤ sessionPlace (r .sessions) (speakerKey speeches k) → freePlace (r .sessions) < sessionSlots
   session-room k h out =
-      rw (sessionPlace-is (r .sessions) 0)
-      (slot-free (λ (x : Session). x .src) past 8 (length speeches) (speakerOf speeches) (r .sessions) (s .sessions-owned) (s .good .session-places)
-      (s .good .one-session) k h (rw (sessionPlace-is (r .sessions) (speakerOf speeches k)) at out) few)
+      session-free (length speeches) (speakerKey speeches) (r .sessions) (s .sessions-owned) (s .good .session-places) (s .good .one-session) k h out few

@@ -1,16 +1,19 @@
 -- How far a speech has come, as replay list and sessions tell it. A session of one source is never in another's way. Assumes nothing.
 --   Stage            nothing has come; some has, and a session gathers; all has, and the replay list remembers it
 --   stage-other      a slot and an entry of one source leave another's stage
+use mathlib.Core.Bool.{false}
 use mathlib.Core.List.{List}
-use mathlib.Core.Path.{_≡_, _∙_}
+use mathlib.Core.Path.{_≡_, refl, sym, _∙_}
 use Prim.Native.Nat.{ℕ, _≤_, _<_}
 use lib.ListN.{set}
 use Rattle.common.specs.Bits.{allBits}
 use Rattle.memory.specs.declared.replay.Entry.{Entry}
 use Rattle.memory.specs.declared.session.Segment.{Segment}
 use Rattle.memory.specs.declared.session.Session.{Session}
-use Rattle.memory.specs.Replay.{noEntry, lookUp}
-use Rattle.memory.specs.Session.{sessionAt, sessionPlace}
+use Rattle.memory.specs.declared.session.SessionKey.{SessionKey}
+use Rattle.memory.specs.Replay.{noEntry, lookUp, stale, isLast}
+use Rattle.memory.specs.Session.{sessionSlots, sessionAt, sessionKey, sessionPlace}
+use Rattle.memory.proofs.ReplayLaws.{stale-none, last-none}
 use Rattle.memory.proofs.SessionSlots.{place-set-other, session-set-other}
 use Rattle.node.specs.declared.addresses.Node.{Node}
 use Rattle.demands.specs.Speech.{Speech, lastOf}
@@ -26,20 +29,45 @@ entryOf node s = record { src = s .src; pair = s .auth; last = record { auth = s
 abbrev pub segmentAt : Node → Speech → ℕ → Segment
 segmentAt node s i = record { auth = s .auth; terms = termsOf node s; sego = i }
 
+-- what its session is found by
+abbrev pub keyOf : Speech → SessionKey
+keyOf s = record { src = s .src }
+
+-- it has not been handed up: its source's entry is not as new, nor is it the last message
+pub record Unheard (node : Node) (s : Speech) (replay : List Entry) : Type 0 where
+  pub newer : stale (lookUp replay (s .src)) (s .auth) ≡ false
+  pub other : isLast (lookUp replay (s .src) .last) (s .auth) (lastOf node s) (s .dst) ≡ false
+
 -- how far it has come: these places are filled
 pub data Stage (node : Node) (s : Speech) (replay : List Entry) (sessions : List Session) (bits : ℕ) : Type 0 where
-  Silent : bits ≡ 0 → 8 ≤ sessionPlace sessions (s .src) → lookUp replay (s .src) ≡ noEntry → Stage node s replay sessions bits
+  Silent : bits ≡ 0 → sessionSlots ≤ sessionPlace sessions (keyOf s) → Unheard node s replay → Stage node s replay sessions bits
   Gathers :
-      (len : ℕ) (bytes : List ℕ) → (bits ≡ 0 → ⊥) → (bits ≡ allBits (lastOf node s) → ⊥) → sessionPlace sessions (s .src) < 8
-      → sessionAt sessions (sessionPlace sessions (s .src)) ≡ sessionOf node s bits len bytes → Holds node s bits len bytes
-      → lookUp replay (s .src) ≡ noEntry → Stage node s replay sessions bits
-  Done : bits ≡ allBits (lastOf node s) → 8 ≤ sessionPlace sessions (s .src) → lookUp replay (s .src) ≡ entryOf node s → Stage node s replay sessions bits
+      (len : ℕ) (bytes : List ℕ) → (bits ≡ 0 → ⊥) → (bits ≡ allBits (lastOf node s) → ⊥) → sessionPlace sessions (keyOf s) < sessionSlots
+      → sessionAt sessions (sessionPlace sessions (keyOf s)) ≡ sessionOf node s bits len bytes → Holds node s bits len bytes
+      → Unheard node s replay → Stage node s replay sessions bits
+  Done :
+      bits ≡ allBits (lastOf node s) → sessionSlots ≤ sessionPlace sessions (keyOf s) → lookUp replay (s .src) ≡ entryOf node s
+      → Stage node s replay sessions bits
 
--- ---- a slot of one source is set: another's stage stays
+-- ---- its source has no entry
+pub unheard-none : (node : Node) (s : Speech) (replay : List Entry) → lookUp replay (s .src) ≡ noEntry → Unheard node s replay
+unheard-none node s replay e =
+    record {
+      newer = rw e (sym (stale-none noEntry (s .auth) refl));
+      other = rw e (sym (last-none (noEntry .last) (s .auth) (lastOf node s) (s .dst) refl));
+    }
+
+-- ---- a slot of one key is set: another's stage stays
 module _ (node : Node) (s : Speech) (replay after : List Entry) (sessions : List Session) (bits : ℕ) (slot : ℕ) (x : Session)
-    (new : s .src ≡ x .src → ⊥) (old : s .src ≡ sessionAt sessions slot .src → ⊥) (looked : lookUp after (s .src) ≡ lookUp replay (s .src)) where
+    (new : keyOf s ≡ sessionKey x → ⊥) (old : keyOf s ≡ sessionKey (sessionAt sessions slot) → ⊥) (looked : lookUp after (s .src) ≡ lookUp replay (s .src)) where
+  place-stays : sessionPlace (set sessions slot x) (keyOf s) ≡ sessionPlace sessions (keyOf s)
+  place-stays = place-set-other sessions slot x (keyOf s) new old
+
+  unheard-stays : Unheard node s replay → Unheard node s after
+  unheard-stays u = record { newer = rw looked (u .newer); other = rw looked (u .other) }
+
   pub stage-other : Stage node s replay sessions bits → Stage node s after (set sessions slot x) bits
-  stage-other (Silent b p e) = Silent b (rw (place-set-other sessions slot x (s .src) new old) p) (looked ∙ e)
-  stage-other (Gathers len bytes z m p h k e) =
-      Gathers len bytes z m (rw (place-set-other sessions slot x (s .src) new old) p) (session-set-other sessions slot x (s .src) new old ∙ h) k (looked ∙ e)
-  stage-other (Done b p e) = Done b (rw (place-set-other sessions slot x (s .src) new old) p) (looked ∙ e)
+  stage-other (Silent b p u) = Silent b (rw place-stays p) (unheard-stays u)
+  stage-other (Gathers len bytes z m p h k u) =
+      Gathers len bytes z m (rw place-stays p) (session-set-other sessions slot x (keyOf s) new old ∙ h) k (unheard-stays u)
+  stage-other (Done b p e) = Done b (rw place-stays p) (looked ∙ e)

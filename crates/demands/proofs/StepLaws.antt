@@ -7,7 +7,7 @@ use mathlib.Core.List.{List, [], _∷_}
 use mathlib.Core.Path.{_≡_, refl, sym, ap, _∙_, subst}
 use Prim.Native.Nat.{ℕ, _≤_, _<_}
 use native.Mathlib.Omega.{arith}
-use borrow.Author.Tests.{eqb-true, eqb-false}
+use borrow.Author.Tests.{ne-eqb, eqb-true, eqb-false}
 use lib.Dec.{eqb}
 use lib.ListN.{length, set, replicate}
 use lib.Seq.{take-append-seam}
@@ -20,11 +20,11 @@ use Rattle.common.proofs.Tests.{by-test}
 use Rattle.network.specs.declared.header.Header.{Header}
 use Rattle.memory.specs.declared.replay.Entry.{Entry}
 use Rattle.memory.specs.declared.session.Session.{Session}
-use Rattle.memory.specs.Replay.{noEntry, lookUp, hasRoom, handedUp}
-use Rattle.memory.specs.Session.{sessionAt, noSession, sessionPlace, begun, stored}
-use Rattle.memory.proofs.Apart.{past}
-use Rattle.memory.proofs.ReplayMap.{handedUp-sets, lookUp-handedUp-first, lookUp-handedUp-other}
-use Rattle.memory.proofs.SessionSlots.{session-source, place-upto, place-set-own, session-set-own, freed-none}
+use Rattle.memory.specs.declared.session.SessionKey.{SessionKey}
+use Rattle.memory.specs.Replay.{hasRoom, handedUp}
+use Rattle.memory.specs.Session.{sessionSlots, noSession, sessionAt, sessionKey, noKey, sessionPlace, isFree, freePlace, begun, stored}
+use Rattle.memory.proofs.ReplayMap.{lookUp-handedUp-new, lookUp-handedUp-other, Listed, listed-handedUp}
+use Rattle.memory.proofs.SessionSlots.{session-key, place-upto, free-slot, place-set-own, session-set-own, freed-none, SessionsOwned, owned-set}
 use Rattle.memory.proofs.Stored.{begun-is}
 use Rattle.node.specs.declared.addresses.Node.{Node}
 use Rattle.node.specs.Made.{WellMade}
@@ -39,17 +39,9 @@ use Rattle.receiver.proofs.Laws.Segment.{placed-last, placed-repeat, placed-joi
 use Rattle.demands.specs.Interleaved.{isLastMissing, handedAs}
 use Rattle.demands.specs.Speech.{Words, Access, Control, Speech, lastOf, headerOf, Speakable, handUpAs, handUp, applicationPlace}
 use Rattle.demands.proofs.GatherLaws.{Holds, holds-begun, segment-stored, newLen, newBytes, holds-more, holds-all}
-use Rattle.demands.proofs.RoomLaws.{Owned, owned-set}
 use Rattle.demands.proofs.SpeechCut.{last-low}
 use Rattle.demands.proofs.SpeechSession.{sessionOf, session-up}
-use Rattle.demands.proofs.StageLaws.{segmentAt, Stage, Silent, Gathers, Done, stage-other}
-
--- the speakers' sessions and entries
-abbrev pub SessionsOwned : ℕ → (ℕ → ℕ) → List Session → Type 0
-SessionsOwned n speaker l = Owned (λ (s : Session). s .src) past 8 n speaker l
-
-abbrev pub EntriesOwned : ℕ → (ℕ → ℕ) → List Entry → Type 0
-EntriesOwned n speaker l = Owned (λ (e : Entry). e .src) noEntry 32 n speaker l
+use Rattle.demands.proofs.StageLaws.{segmentAt, keyOf, Unheard, Stage, Silent, Gathers, Done, stage-other}
 
 -- what was taken in r is t: a segment of s, of which these places were filled
 pub record Step (node : Node) (s : Speech) (r : Receiver) (bits i : ℕ) (t : Lent Taken) : Type 0 where
@@ -68,11 +60,10 @@ pub record Step (node : Node) (s : Speech) (r : Receiver) (bits i : ℕ) (t : Le
       → Stage node o (t .answer .receiver .replay) (t .answer .receiver .sessions) b
   -- sessions and entries are the speakers'
   pub sessions-owned :
-      (n : ℕ) (speaker : ℕ → ℕ) (k : ℕ) → k < n → s .src ≡ speaker k → SessionsOwned n speaker (r .sessions)
+      (n : ℕ) (speaker : ℕ → SessionKey) (k : ℕ) → k < n → keyOf s ≡ speaker k → SessionsOwned n speaker (r .sessions)
       → SessionsOwned n speaker (t .answer .receiver .sessions)
-  pub entries-owned :
-      (n : ℕ) (speaker : ℕ → ℕ) (k : ℕ) → k < n → s .src ≡ speaker k → EntriesOwned n speaker (r .replay)
-      → EntriesOwned n speaker (t .answer .receiver .replay)
+  pub entries-listed :
+      (n : ℕ) (speaker : ℕ → ℕ) (k : ℕ) → k < n → s .src ≡ speaker k → Listed n speaker (r .replay) → Listed n speaker (t .answer .receiver .replay)
   pub cache-stays : t .answer .receiver .cache ≡ r .cache
 
 -- a segment that had not come is the last that was missing where all have come with it
@@ -102,15 +93,15 @@ module _ (node : Node) (made : WellMade node) (s : Speech) (w : Speakable node s
           own = rw (with-of-set bits i b) st;
           others = λ o n _ _ k. k;
           sessions-owned = λ n f k h q o. o;
-          entries-owned = λ n f k h q o. o;
+          entries-listed = λ n f k h q o. o;
           cache-stays = refl;
         }
 
     -- ---- a segment more, in a slot that is the source's, or free where the source has none
-    module _ (fresh : hasBit bits i ≡ false) (none : lookUp (r .replay) (s .src) ≡ noEntry) (room : hasRoom (r .replay) (s .src) ≡ true)
-        (slot : ℕ) (within : slot < 8) (before : slot ≤ sessionPlace (r .sessions) (s .src))
-        (only : (j : ℕ) → j < 8 → sessionAt (r .sessions) j .src ≡ s .src → j ≡ slot)
-        (stood : (a : ℕ) → (a ≡ s .src → ⊥) → (a ≡ 0 → ⊥) → a ≡ sessionAt (r .sessions) slot .src → ⊥)
+    module _ (fresh : hasBit bits i ≡ false) (unheard : Unheard node s (r .replay)) (room : hasRoom (r .replay) (s .src) ≡ true)
+        (slot : ℕ) (within : slot < sessionSlots) (before : slot ≤ sessionPlace (r .sessions) (keyOf s))
+        (only : (j : ℕ) → j < sessionSlots → sessionKey (sessionAt (r .sessions) j) ≡ keyOf s → j ≡ slot)
+        (stood : (a : SessionKey) → (a ≡ keyOf s → ⊥) → noKey a ≡ false → a ≡ sessionKey (sessionAt (r .sessions) slot) → ⊥)
         (len : ℕ) (bytes : List ℕ) (holds : Holds node s (withBit bits i) len bytes) where
       abbrev filled : ℕ
       filled = withBit bits i
@@ -118,17 +109,23 @@ module _ (node : Node) (made : WellMade node) (s : Speech) (w : Speakable node s
       abbrev session : Session
       session = sessionOf node s filled len bytes
 
-      long : length (r .sessions) ≡ 8
+      long : length (r .sessions) ≡ sessionSlots
       long = g .session-places
 
       some : filled ≡ 0 → ⊥
       some e = true≢false (sym (has-with-own bits i low) ∙ ap (λ (x : ℕ). hasBit x i) e ∙ has-none i)
 
       slot-owned :
-          (x : Session) → ((x .src ≡ 0 → ⊥) → x .src ≡ s .src) → (n : ℕ) (speaker : ℕ → ℕ) (k : ℕ) → k < n → s .src ≡ speaker k
+          (x : Session) → (isFree x ≡ false → sessionKey x ≡ keyOf s) → (n : ℕ) (speaker : ℕ → SessionKey) (k : ℕ) → k < n → keyOf s ≡ speaker k
           → SessionsOwned n speaker (r .sessions) → SessionsOwned n speaker (set (r .sessions) slot x)
-      slot-owned x e n speaker k h q o =
-          owned-set (λ (y : Session). y .src) past 8 n speaker (r .sessions) o long slot x k h (λ z. e z ∙ q)
+      slot-owned x e n speaker k h q o = owned-set n speaker (r .sessions) o long slot x k h (λ z. e z ∙ q)
+
+      -- what stood there is no other speech's
+      other-key : (o : Speech) → (o .src ≡ s .src → ⊥) → keyOf o ≡ keyOf s → ⊥
+      other-key o n e = n (ap (λ (a : SessionKey). a .src) e)
+
+      other-stood : (o : Speech) → (o .src ≡ s .src → ⊥) → (o .src ≡ 0 → ⊥) → keyOf o ≡ sessionKey (sessionAt (r .sessions) slot) → ⊥
+      other-stood o n z = stood (keyOf o) (other-key o n) (ne-eqb (o .src) 0 z)
 
       -- not yet complete
       stored-step :
@@ -142,22 +139,14 @@ module _ (node : Node) (made : WellMade node) (s : Speech) (w : Speakable node s
             own =
                 Gathers len bytes some (eqb-false filled (allBits (lastOf node s)) c)
                 (rw (place-set-own (r .sessions) slot session (omega arith) before) within)
-                (session-set-own (r .sessions) slot session (omega arith) before) holds none;
-            others = λ o b n z k. stage-other node o (r .replay) (r .replay) (r .sessions) b slot session n (stood (o .src) n z) refl k;
+                (session-set-own (r .sessions) slot session (omega arith) before) holds unheard;
+            others = λ o b n z k. stage-other node o (r .replay) (r .replay) (r .sessions) b slot session (other-key o n) (other-stood o n z) refl k;
             sessions-owned = slot-owned session (λ _. refl);
-            entries-owned = λ n f k h q o. o;
+            entries-listed = λ n f k h q o. o;
             cache-stays = refl;
           }
 
       -- complete
-      entry-owned :
-          (n : ℕ) (speaker : ℕ → ℕ) (k : ℕ) → k < n → s .src ≡ speaker k → EntriesOwned n speaker (r .replay)
-          → EntriesOwned n speaker (handedUp (r .replay) (s .src) (s .auth) (lastOf node s) (s .dst))
-      entry-owned n speaker k h q o =
-          let u = handedUp-sets (r .replay) (s .src) (s .auth) (lastOf node s) (s .dst) in
-          subst (EntriesOwned n speaker) (sym (u .3))
-          (owned-set (λ (y : Entry). y .src) noEntry 32 n speaker (r .replay) o (g .entry-places) (u .0) (u .1) k h (λ _. u .2 ∙ q))
-
       -- the message is handed up, which leaves q
       abbrev handing : Receiver → Lent Taken
       handing q = lent (record { answer = handUp s .answer; trials = applicationPlace node s (s .words); receiver = q }) (onto (handUp s .octets) msg)
@@ -171,13 +160,13 @@ module _ (node : Node) (made : WellMade node) (s : Speech) (w : Speakable node s
             stores = λ _ f. absurd (true≢false (sym c ∙ f));
             counts = rw (last-missing bits i (lastOf node s) fresh true c) refl;
             own =
-                Done (eqb-true filled (allBits (lastOf node s)) c) (freed-none (r .sessions) slot (s .src) long spoken only)
-                (lookUp-handedUp-first (r .replay) (s .src) (s .auth) (lastOf node s) (s .dst) (g .entry-places) room none);
+                Done (eqb-true filled (allBits (lastOf node s)) c) (freed-none (r .sessions) slot (keyOf s) long (ne-eqb (s .src) 0 spoken) only)
+                (lookUp-handedUp-new (r .replay) (s .src) (s .auth) (lastOf node s) (s .dst) (g .replay-kept .places) room (unheard .newer));
             others = λ o b n z k.
-                stage-other node o (r .replay) _ (r .sessions) b slot noSession z (stood (o .src) n z)
+                stage-other node o (r .replay) _ (r .sessions) b slot noSession (λ e. z (ap (λ (a : SessionKey). a .src) e)) (other-stood o n z)
                 (lookUp-handedUp-other (r .replay) (s .src) (s .auth) (lastOf node s) (s .dst) (o .src) n z) k;
-            sessions-owned = slot-owned noSession (λ z. absurd (z refl));
-            entries-owned = entry-owned;
+            sessions-owned = slot-owned noSession (λ z. absurd (true≢false z));
+            entries-listed = λ n speaker k h q o. listed-handedUp n speaker (r .replay) o (s .src) (s .auth) (lastOf node s) (s .dst) k h q;
             cache-stays = refl;
           }
 
@@ -194,7 +183,7 @@ module _ (node : Node) (made : WellMade node) (s : Speech) (w : Speakable node s
 
     -- ---- at each stage
     module _ (sent : s .dst ≡ 0 → ⊥) (big : 384 ≤ length msg) (seq ttl : ℕ) (room : hasRoom (r .replay) (s .src) ≡ true)
-        (free : 8 ≤ sessionPlace (r .sessions) (s .src) → sessionPlace (r .sessions) 0 < 8) where
+        (free : sessionSlots ≤ sessionPlace (r .sessions) (keyOf s) → freePlace (r .sessions) < sessionSlots) where
       abbrev h : Header
       h = headerOf node s i seq ttl
 
@@ -207,35 +196,38 @@ module _ (node : Node) (made : WellMade node) (s : Speech) (w : Speakable node s
       repeated b e has st = subst (Step node s r bits i) (sym e) (again has st (Repeated (s .src) (s .auth) b) refl)
 
       -- the session that stands in a slot is its source's alone
-      own-only : (j : ℕ) → j < 8 → sessionAt (r .sessions) j .src ≡ s .src → sessionPlace (r .sessions) (s .src) < 8 → j ≡ sessionPlace (r .sessions) (s .src)
+      own-only :
+          (j : ℕ) → j < sessionSlots → sessionKey (sessionAt (r .sessions) j) ≡ keyOf s → sessionPlace (r .sessions) (keyOf s) < sessionSlots
+          → j ≡ sessionPlace (r .sessions) (keyOf s)
       own-only j hj e own =
           let long = g .session-places in
-          let there = session-source (r .sessions) (s .src) (omega arith) in
-          g .one-session j (sessionPlace (r .sessions) (s .src)) hj own (λ z. spoken (sym e ∙ z)) (e ∙ sym there)
+          let there = session-key (r .sessions) (keyOf s) (omega arith) in
+          let used : noKey (sessionKey (sessionAt (r .sessions) j)) ≡ false = rw (ap (λ (a : SessionKey). a .src) e) (ne-eqb (s .src) 0 spoken) in
+          g .one-session j (sessionPlace (r .sessions) (keyOf s)) hj own used (e ∙ sym there)
 
       joined :
-          (len : ℕ) (bytes : List ℕ) → hasBit bits i ≡ false → lookUp (r .replay) (s .src) ≡ noEntry → sessionPlace (r .sessions) (s .src) < 8
-          → sessionAt (r .sessions) (sessionPlace (r .sessions) (s .src)) ≡ sessionOf node s bits len bytes → Holds node s bits len bytes → Step node s r bits i t
+          (len : ℕ) (bytes : List ℕ) → hasBit bits i ≡ false → Unheard node s (r .replay) → sessionPlace (r .sessions) (keyOf s) < sessionSlots
+          → sessionAt (r .sessions) (sessionPlace (r .sessions) (keyOf s)) ≡ sessionOf node s bits len bytes → Holds node s bits len bytes → Step node s r bits i t
       unfolding headerOf
-      joined len bytes has none own held holds =
-          let slot = sessionPlace (r .sessions) (s .src) in
-          let e = placed-join r h msg (segmentAt node s i) none room (sessionOf node s bits len bytes) own held refl refl has in
+      joined len bytes has unheard own held holds =
+          let slot = sessionPlace (r .sessions) (keyOf s) in
+          let e = placed-join r h msg (segmentAt node s i) (unheard .other) room (sessionOf node s bits len bytes) own held refl refl has in
           let more = holds-more node s w bits len bytes holds i there seq ttl in
           let new = newLen node s w bits len bytes holds i there seq ttl in
           let laid = newBytes node s w bits len bytes holds i there seq ttl in
           subst (Step node s r bits i) (sym e)
           (rw (segment-stored node s w bits len bytes holds i there seq ttl)
-          (gathered-steps has none room slot own (omega arith) (λ j hj q. own-only j hj q own)
-          (λ a n z q. n (q ∙ ap (λ (x : Session). x .src) held)) new laid more big))
+          (gathered-steps has unheard room slot own (omega arith) (λ j hj q. own-only j hj q own)
+          (λ a n z q. n (q ∙ ap sessionKey held)) new laid more big))
 
       opened :
-          bits ≡ 0 → lookUp (r .replay) (s .src) ≡ noEntry → 8 ≤ sessionPlace (r .sessions) (s .src) → Step node s r bits i t
+          bits ≡ 0 → Unheard node s (r .replay) → sessionSlots ≤ sessionPlace (r .sessions) (keyOf s) → Step node s r bits i t
       unfolding headerOf
-      opened zero none out =
-          let slot = sessionPlace (r .sessions) 0 in
+      opened zero unheard out =
+          let slot = freePlace (r .sessions) in
           let within = free out in
           let long = g .session-places in
-          let e = placed-open r h msg (segmentAt node s i) none room out within in
+          let e = placed-open r h msg (segmentAt node s i) (unheard .other) room (unheard .newer) out within in
           let holds = subst (λ (b : ℕ). Holds node s b 0 (replicate 384 0)) (sym zero) (holds-begun node s) in
           let more = holds-more node s w bits 0 (replicate 384 0) holds i there seq ttl in
           let new = newLen node s w bits 0 (replicate 384 0) holds i there seq ttl in
@@ -245,9 +237,9 @@ module _ (node : Node) (made : WellMade node) (s : Speech) (w : Speakable node s
           ∙ segment-stored node s w bits 0 (replicate 384 0) holds i there seq ttl in
           subst (Step node s r bits i) (sym e)
           (rw begins
-          (gathered-steps (rw zero (has-none i)) none room slot within (omega arith)
-          (λ j hj q. let u = place-upto (r .sessions) (s .src) j q in absurd (omega arith))
-          (λ a n z q. z (q ∙ session-source (r .sessions) 0 (omega arith))) new laid more big))
+          (gathered-steps (rw zero (has-none i)) unheard room slot within (omega arith)
+          (λ j hj q. let u = place-upto (r .sessions) (keyOf s) j q in absurd (omega arith))
+          (λ a n z q. true≢false (sym (free-slot (r .sessions) (omega arith)) ∙ sym (ap noKey q) ∙ z)) new laid more big))
 
       pub placed-steps : Stage node s (r .replay) (r .sessions) bits → Step node s r bits i t
       unfolding headerOf
@@ -255,7 +247,7 @@ module _ (node : Node) (made : WellMade node) (s : Speech) (w : Speakable node s
       placed-steps (Gathers len bytes z m p held k e) =
           by-test (hasBit bits i)
           (λ has.
-          repeated bits (placed-repeat r h msg (segmentAt node s i) e room (sessionOf node s bits len bytes) p held refl refl has) has (Gathers len bytes z m p held k e))
+          repeated bits (placed-repeat r h msg (segmentAt node s i) (e .other) room (sessionOf node s bits len bytes) p held refl refl has) has (Gathers len bytes z m p held k e))
           (λ has. joined len bytes has e p held k)
       placed-steps (Done b p e) =
           let has = ap (λ (x : ℕ). hasBit x i) b ∙ has-all (lastOf node s) i there low in

@@ -50,7 +50,7 @@ module _ (setup : Setup) (h : Header) (sealed : sealable (keyAt (nodeOf setup .m
 
   -- the receiver with the PDU in its cache
   abbrev q : Receiver
-  q = withCache (start setup) (remembered (start setup .cache) (h .src) (h .seq))
+  q = withCache (start setup) (remembered (start setup .cache) h)
 
   -- the place of its network key
   abbrev place : ℕ
@@ -64,7 +64,7 @@ module _ (setup : Setup) (h : Header) (sealed : sealable (keyAt (nodeOf setup .m
   heard-whole : (t : Lent Taken) → takenAs (formOf h) q h msg ≡ t → Whole t
   heard-whole t e =
       let l = heard-new (start setup) pdu fwd msg wide big h place (open-seal (nodeOf setup .materials) (nodeOf setup .networks) (nodeOf setup .iv) h sealed formed receives)
-      (fresh-unseen setup (h .src) (h .seq) spoken) here
+      (fresh-unseen setup h spoken) here
       t e in
       record { hands-as = rw (l .answers, l .message-is) refl; tried-as = rw (l .network-is, l .application-is) refl }
 

@@ -25,7 +25,7 @@ pub record Passes (r : Receiver) (pdu fwd msg : List ℕ) (trials : ℕ) (h : He
   pub wide : 29 ≤ length fwd
   pub big : 384 ≤ length msg
   pub opens : opening (r .node .materials) (r .node .networks) (r .node .iv) pdu ≡ record { answer = Opened; trials = trials; header = h }
-  pub new : seen (r .cache) (h .src) (h .seq) ≡ false
+  pub new : seen (r .cache) h ≡ false
 
 -- the octets forwarded, and the forward buffer
 abbrev pub Forwards : Type 0

@@ -3,7 +3,6 @@ pub mod Call
 pub mod Examples
 pub mod Refusal
 pub mod Speaking
-pub mod Determinacy
 pub mod NeverTwice
 pub mod Speech
 pub mod Interleaved

@@ -70,7 +70,7 @@ UnopenedLeaves =
 
 -- the receiver with the PDU of a header in its cache
 abbrev pub cached : Receiver → Header → Receiver
-cached r h = withCache r (remembered (r .cache) (h .src) (h .seq))
+cached r h = withCache r (remembered (r .cache) h)
 
 -- what refusals 6 to 13 leave of the receiver q that has cached the PDU: it, and of 13 perhaps with a completed session freed
 abbrev pub LeavesOf : Receiver → Receiver → Refusal → Type 0

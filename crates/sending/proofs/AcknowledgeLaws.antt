@@ -17,7 +17,7 @@ use Rattle.transport.specs.Segment.{acknowledgementOctets}
 use Rattle.memory.specs.declared.replay.Entry.{Entry}
 use Rattle.memory.specs.declared.session.Session.{Session}
 use Rattle.memory.specs.Replay.{lookUp}
-use Rattle.memory.specs.Session.{sessionAt, sessionPlace}
+use Rattle.memory.specs.Session.{sessionSlots, sessionAt, sessionPlace}
 use Rattle.receiver.specs.declared.answer.Refusal.the-variants as refusal
 use Rattle.receiver.specs.declared.state.Receiver.{Receiver}
 use Rattle.sending.specs.declared.acknowledge.Chosen.{Chosen}
@@ -35,17 +35,17 @@ module _ (replay : List Entry) (sessions : List Session) (src : ℕ) where
   unfolding chosen
   chosen-none z c e = rw (eq-eqb src 0 z, e)
 
-  module _ (z : src ≡ 0 → ⊥) (i : ℕ) (ei : i ≡ sessionPlace sessions src) where
+  module _ (z : src ≡ 0 → ⊥) (i : ℕ) (ei : i ≡ sessionPlace sessions (record { src = src })) where
     pub chosen-session :
-        i < 8 → record { auth = sessionAt sessions i .auth; dst = sessionAt sessions i .terms .dst; bits = sessionAt sessions i .filled } ≡ chosen replay sessions src
+        i < sessionSlots → record { auth = sessionAt sessions i .auth; dst = sessionAt sessions i .terms .dst; bits = sessionAt sessions i .filled } ≡ chosen replay sessions src
     unfolding chosen
-    chosen-session h = rw (ne-eqb src 0 z, ← ei, lt-ltb i 8 h)
+    chosen-session h = rw (ne-eqb src 0 z, ← ei, lt-ltb i sessionSlots h)
 
     pub chosen-last :
-        8 ≤ i → (e : Entry) → e ≡ lookUp replay src → (bits : ℕ) → bits ≡ allBits (e .last .segn)
+        sessionSlots ≤ i → (e : Entry) → e ≡ lookUp replay src → (bits : ℕ) → bits ≡ allBits (e .last .segn)
         → record { auth = e .last .auth; dst = e .last .dst; bits = bits } ≡ chosen replay sessions src
     unfolding chosen
-    chosen-last h e ee bits eb = rw (ne-eqb src 0 z, ← ei, le-ltb i 8 h, eb, ← ee)
+    chosen-last h e ee bits eb = rw (ne-eqb src 0 z, ← ei, le-ltb i sessionSlots h, eb, ← ee)
 
 pub ruleset chosen-rules = (chosen-none, chosen-session, chosen-last)
 

@@ -17,7 +17,7 @@ use Rattle.memory.specs.declared.replay.Entry.{Entry}
 use Rattle.memory.specs.declared.session.Session.{Session}
 use Rattle.memory.specs.Pair.{noPair}
 use Rattle.memory.specs.Replay.{lookUp}
-use Rattle.memory.specs.Session.{sessionAt, sessionPlace, blockAck}
+use Rattle.memory.specs.Session.{sessionSlots, sessionAt, sessionPlace, blockAck}
 use Rattle.receiver.specs.declared.answer.Refusal.the-variants as refusal
 use Rattle.receiver.specs.declared.state.Receiver.{Receiver}
 use Rattle.sending.specs.declared.acknowledge.Chosen.{Chosen}
@@ -34,10 +34,11 @@ noChoice = record { auth = noPair; dst = 0; bits = 0 }
 -- the source's open session is acknowledged, else its last segmented message handed up
 unfoldable pub chosen : List Entry → List Session → ℕ → Chosen
 chosen replay sessions src =
-    let s = sessionAt sessions (sessionPlace sessions src) in
+    let own = sessionPlace sessions (record { src = src }) in
+    let s = sessionAt sessions own in
     let last = lookUp replay src .last in
     if eqb src 0 then noChoice else
-    if ltb (sessionPlace sessions src) 8 then record { auth = s .auth; dst = s .terms .dst; bits = blockAck s } else
+    if ltb own sessionSlots then record { auth = s .auth; dst = s .terms .dst; bits = blockAck s } else
     record { auth = last .auth; dst = last .dst; bits = allBits (last .segn) }
 
 -- CTL 1, the TTL left unnamed, OBO 0, SeqZero of its SeqAuth; SEQ and SRC are stamped on when it is sent

@@ -1,8 +1,11 @@
 // Acknowledging the segments of a source: those of its open session, else of its last segmented message handed up.
 use super::answer::Spoken;
 use memory::pair::Pair;
+use memory::replay::ENTRIES;
 use memory::replay::Entry;
+use memory::session::SLOTS;
 use memory::session::Session;
+use memory::session::SessionKey;
 use network::header::Header;
 use receiver::answer::Refusal;
 use receiver::state::Receiver;
@@ -30,14 +33,14 @@ fn none() -> Chosen
 }
 
 // The open session of a source, else its last segmented message handed up.
-fn choose(replay: [Entry; 32], sessions: [Session; 8], src: u16) -> Chosen
+fn choose(replay: [Entry; ENTRIES], sessions: [Session; SLOTS], src: u16) -> Chosen
     ensures { λ c. ⌜ c ≡ chosen replay sessions src ⌝ }
 {
     if src == 0 {
         return none();
     }
-    let i = memory::session::place(sessions, src);
-    if i < 8 {
+    let i = memory::session::place(sessions, SessionKey { src });
+    if i < SLOTS {
         let s = sessions[i];
         let auth = s.auth;
         let terms = s.terms;

@@ -12,6 +12,7 @@ use Rattle.common.specs.Lent.{lent}
 use Rattle.network.specs.declared.opening.Opening.{Opening}
 use Rattle.network.specs.Opening.{opening}
 use Rattle.node.specs.declared.addresses.Node.{Node}
+use Rattle.memory.specs.Session.{sessionAt}
 use Rattle.receiver.specs.declared.answer.Heard.{Heard}
 use Rattle.receiver.specs.declared.state.Receiver.{Receiver}
 use Rattle.receiver.specs.Hearing.{outcome, hearing}

@@ -18,6 +18,7 @@ use Rattle.network.specs.declared.opening.Answer as opening-answer
 use Rattle.network.specs.Opening.{opening}
 use Rattle.node.specs.declared.addresses.Node.{Node}
 use Rattle.node.specs.declared.setup.Setup.{Setup}
+use Rattle.memory.specs.Session.{sessionAt}
 use Rattle.receiver.specs.declared.answer.Answer.{Answer}
 use Rattle.receiver.specs.declared.answer.Answer.the-variants.{Refused, Stored, Repeated, Access, Control, Acknowledgement}
 use Rattle.receiver.specs.declared.state.Receiver.{Receiver}

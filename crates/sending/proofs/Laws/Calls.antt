@@ -20,7 +20,7 @@ use Rattle.transport.specs.declared.securing.MessageKey.{MessageKey}
 use Rattle.memory.specs.declared.replay.Entry.{Entry}
 use Rattle.memory.specs.declared.session.Session.{Session}
 use Rattle.memory.specs.Replay.{lookUp}
-use Rattle.memory.specs.Session.{sessionAt, sessionPlace}
+use Rattle.memory.specs.Session.{sessionSlots, sessionAt, sessionPlace}
 use Rattle.receiver.specs.declared.answer.Refusal.{Refusal}
 use Rattle.receiver.specs.declared.answer.Refusal.the-variants as refusal
 use Rattle.receiver.specs.declared.state.Receiver.{Receiver}
@@ -158,14 +158,17 @@ module _ (r : Receiver) (buf : List ℕ) (wide : 29 ≤ length buf) where
 
 -- ---- what is acknowledged of a source
 module _ (replay : List Entry) (sessions : List Session) (src : ℕ) (z : src ≡ 0 → ⊥) where
+  abbrev own : ℕ
+  own = sessionPlace sessions (record { src = src })
+
   pub chosen-session :
-      (s : Session) → sessionPlace sessions src < 8 → sessionAt sessions (sessionPlace sessions src) ≡ s
+      (s : Session) → own < sessionSlots → sessionAt sessions (own) ≡ s
       → chosen replay sessions src ≡ record { auth = s .auth; dst = s .terms .dst; bits = s .filled }
   unfolding chosen
-  chosen-session s p held = rw (ne-eqb src 0 z, lt-ltb (sessionPlace sessions src) 8 p, held) refl
+  chosen-session s p held = rw (ne-eqb src 0 z, lt-ltb (own) sessionSlots p, held) refl
 
   pub chosen-last :
-      (e : Entry) → 8 ≤ sessionPlace sessions src → lookUp replay src ≡ e
+      (e : Entry) → sessionSlots ≤ own → lookUp replay src ≡ e
       → chosen replay sessions src ≡ record { auth = e .last .auth; dst = e .last .dst; bits = allBits (e .last .segn) }
   unfolding chosen
-  chosen-last e p held = rw (ne-eqb src 0 z, le-ltb (sessionPlace sessions src) 8 p, held) refl
+  chosen-last e p held = rw (ne-eqb src 0 z, le-ltb (own) sessionSlots p, held) refl
