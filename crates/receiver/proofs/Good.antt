@@ -1,42 +1,41 @@
--- `GoodFresh`, `GoodHear` and `GoodGiveUp`: what setup makes is good; hearing leaves the receiver as it was, or with one PDU more in the cache and what the
--- message of its form leaves; giving up zeroes a slot. Assumes nothing.
+-- `GoodFresh`, `GoodHear` and `GoodGiveUp`: what setup makes is good; hearing leaves the receiver as it was, or with one PDU more in the cache and what its way there leaves: a
+-- replay entry raised, a slot zeroed, a session that gathers on in its source's slot; giving up zeroes a slot. Assumes nothing.
 use mathlib.Core.Bool.{true, false, true≢false}
 use mathlib.Core.List.{List}
 use mathlib.Core.Logic.{⊎-elim}
-use mathlib.Core.Path.{_≡_, sym, ap, _∙_, subst}
-use Prim.Native.Nat.{ℕ, _<_}
+use mathlib.Core.Path.{_≡_, refl, sym, ap, _∙_, subst}
+use Prim.Native.Nat.{ℕ, _≤_, _<_}
 use native.Mathlib.Omega.{arith}
+use borrow.Author.Tests.{ne-eqb}
 use lib.ListN.{length-replicate, getD-replicate}
-use Rattle.common.proofs.Tests.{by-test, by-choice}
+use Rattle.common.proofs.Tests.{by-test}
 use Rattle.network.specs.declared.header.Header.{Header}
 use Rattle.network.specs.declared.opening.Answer.{Answer}
-use Rattle.transport.specs.declared.form.Form.{Form}
-use Rattle.transport.specs.declared.form.Form.the-variants as form
-use Rattle.transport.specs.Form.{formOf}
-use Rattle.transport.specs.Ranges.{Kept}
-use Rattle.transport.proofs.Ranges.{keeps-to-ranges}
-use Rattle.transport.proofs.ReadsBack.{segO-fits}
-use Rattle.memory.specs.Cache.{cacheEntries, noSeen, remembered}
-use Rattle.memory.specs.Session.{sessionSlots, noSession, noSessions, sessionAt, isFree}
-use Rattle.memory.proofs.CacheLaws.{length-remembered}
+use Rattle.memory.specs.declared.session.Segment.{Segment}
+use Rattle.memory.specs.declared.session.Session.{Session}
+use Rattle.memory.specs.declared.session.SessionKey.{SessionKey}
+use Rattle.memory.specs.Cache.{cacheEntries, noSeen}
+use Rattle.memory.specs.Session.{sessionSlots, noSession, noSessions, sessionAt, sessionKey, segmentKey, noKey, isFree, begun, stored, complete}
 use Rattle.memory.proofs.ReplayMap.{kept-none}
+use Rattle.memory.proofs.SessionSlots.{session-key}
+use Rattle.memory.proofs.Within.{same-last, Opens, joins-opens}
 use Rattle.node.specs.declared.addresses.Node.{Node}
-use Rattle.node.specs.Addresses.{forNode}
 use Rattle.node.specs.Made.{WellMade, NextWell}
 use Rattle.node.specs.Setup.{making}
 use Rattle.node.proofs.SetupLaws.{makes-well}
 use Rattle.receiver.specs.declared.give_up.GivenUp.{GivenUp}
 use Rattle.receiver.specs.declared.state.Receiver.{Receiver}
 use Rattle.receiver.specs.Fresh.{paper, fresh, settingUp}
-use Rattle.receiver.specs.Good.{Good, GoodFresh, GoodHear, GoodGiveUp}
-use Rattle.receiver.specs.Hearing.{Outcome, takenAs, taken, passed}
-use Rattle.receiver.specs.State.{withCache}
+use Rattle.receiver.specs.Good.{Gathering, Good, GoodFresh, GoodHear, GoodGiveUp}
+use Rattle.receiver.specs.Segmented.{accessUpAs, controlUp}
+use Rattle.receiver.specs.State.{withSession}
+use Rattle.receiver.specs.Whole.{admitted, openedAs, wholeControlUp, acted}
+use Rattle.receiver.proofs.Gathered.{gathering-begun, gathering-stored}
+use Rattle.receiver.proofs.GoodState.{Left, good-caching, good-outgoing, good-admitted, good-upgraded, good-freed, good-opened}
 use Rattle.receiver.proofs.Laws.GiveUp.{by-giving-up}
-use Rattle.receiver.proofs.Laws.Heard.{openingOf, heard-either}
-use Rattle.receiver.proofs.GoodState.{Left, good-cache, good-freed}
+use Rattle.receiver.proofs.Laws.Heard.{openingOf, caching}
+use Rattle.receiver.proofs.Laws.Ways.{Goes, Ways, walk-left}
 use Rattle.receiver.proofs.Opened.{Clear, ClearIn, opening-clear}
-use Rattle.receiver.proofs.GoodWhole.{good-access, good-control, good-acknowledgement}
-use Rattle.receiver.proofs.GoodSegmented.{good-segmented}
 
 -- ---- setup
 good-fresh-of : (node : Node) (next : List ℕ) → WellMade node → NextWell (node .elements) next → Good (fresh node next)
@@ -63,39 +62,63 @@ good-fresh s e =
     (λ t. let f : _≡_ {A = ℕ} 14 0 = ap paper (rw t at e) in absurd (omega arith))
 
 -- ---- hearing
-module _ (r : Receiver) (g : Good r) (h : Header) (c : Clear h) (msg : List ℕ) where
-  good-taken-as : (f : Form) → Kept h f → Left (takenAs f r h msg)
-  unfolding takenAs
-  good-taken-as form.Wrong k = g
-  good-taken-as (form.Access akf aid) k = good-access r g h akf aid msg
-  good-taken-as (form.AccessSegment akf aid szmic seqZero segO segN) k =
-      good-segmented r g h c msg szmic segO segN (k .2 .segN-fits) (segO-fits segO segN (h .len) 16 (k .2 .fits)) seqZero
-  good-taken-as (form.Control opcode) k = good-control r g h opcode msg
-  good-taken-as (form.ControlSegment opcode seqZero segO segN) k =
-      good-segmented r g h c msg false segO segN (k .2 .segN-fits) (segO-fits segO segN (h .len) 12 (k .2 .fits)) seqZero
-  good-taken-as (form.Acknowledgement obo seqZero bits) k = good-acknowledgement r g h obo seqZero bits
+module _ (q : Receiver) (g : Good q) (h : Header) (c : Clear h) where
+  -- the session that a segment goes to gathers, and is found by its key
+  record Sits (seg : Segment) (s : Session) : Type 0 where
+    gathers : Gathering s
+    key-is : sessionKey s ≡ segmentKey (h .src) seg
+    used : isFree s ≡ false
+    within : seg .sego ≤ s .terms .segn
 
-  good-taken : Left (taken r h msg)
-  unfolding taken
-  good-taken = by-choice Left (forNode (r .node) (h .dst)) (λ t. good-taken-as (formOf h) (keeps-to-ranges h)) (λ t. g)
+  sits : (seg : Segment) (slot : ℕ) (s : Session) → Goes q h seg slot s → Sits seg s
+  unfolding begun
+  sits seg slot s k =
+      let o = k .segO-most in
+      let sent = ne-eqb (h .src) 0 (c .sent) in
+      ⊎-elim
+      (λ j.
+      let i = j .0 .within in
+      let l = g .session-places in
+      let key = segmentKey (h .src) seg in
+      let e : sessionKey (sessionAt (q .sessions) slot) ≡ key = rw (j .0 .own) (session-key (q .sessions) key (omega (arith, j .0 .own))) in
+      let used : isFree (sessionAt (q .sessions) slot) ≡ false = ap noKey e ∙ sent in
+      let n = same-last (sessionAt (q .sessions) slot .terms) (seg .terms) (j .0 .same) in
+      subst (Sits seg) (sym (j .1)) (record { gathers = g .gathering slot i used; key-is = e; used = used; within = omega arith }))
+      (λ j. subst (Sits seg) (sym (j .1)) (record { gathers = gathering-begun (h .src) seg (k .segN-fits); key-is = refl; used = sent; within = o }))
+      (k .stands)
 
-abbrev LeftHeard : Outcome → Type 0
-LeftHeard o = Good (o .heard .receiver)
+  good-stored :
+      (seg : Segment) (slot : ℕ) (s : Session) → Goes q h seg slot s
+      → (let n = stored s h (seg .sego) in complete n ≡ false → Good (withSession q slot n))
+  unfolding stored
+  good-stored seg slot s k t =
+      let f = sits seg slot s k in
+      let o : Opens (q .sessions) (segmentKey (h .src) seg) slot = ⊎-elim (λ j. joins-opens (j .0)) (λ j. j .0) (k .stands) in
+      good-opened q g slot (stored s h (seg .sego)) (subst (λ (a : SessionKey). Opens (q .sessions) a slot) (sym (f .key-is)) o) (f .used)
+      (gathering-stored s h (seg .sego) (f .gathers) (c .places) (f .within) t)
 
-good-passed : (r : Receiver) → Good r → (h : Header) → Clear h → (trials : ℕ) (fwd msg : List ℕ) → LeftHeard (passed r h trials fwd msg)
-unfolding passed
-good-passed r g h c trials fwd msg =
-    let cache = remembered (r .cache) h in
-    good-taken (withCache r cache) (good-cache r g cache (length-remembered (r .cache) h ∙ g .cache-places)) h c msg
+  ways : (msg : List ℕ) → Ways q h msg Left
+  unfolding openedAs wholeControlUp acted accessUpAs controlUp
+  ways msg =
+      record {
+        refuses = λ n trials e. g;
+        access-whole = λ key trials len left. good-admitted q g h;
+        control-whole = λ opcode. good-admitted q g h;
+        acknowledges = λ obo seqZero bits. good-outgoing (admitted q h) (good-admitted q g h) _;
+        repeats = λ auth bits. g;
+        stores = good-stored;
+        access-gathered = λ slot s key trials len left. good-upgraded (withSession q slot noSession) (good-freed q g slot) s;
+        control-gathered = λ slot s. good-upgraded (withSession q slot noSession) (good-freed q g slot) s;
+        frees = λ slot trials. good-freed q g slot;
+      }
 
 pub good-hear : GoodHear
 good-hear r pdu fwd msg g =
     let o = openingOf r pdu in
-    ⊎-elim (λ y. subst LeftHeard (sym (y .1 .leaves)) g)
-    (λ p.
-    let c : Clear (o .header) = subst (λ (a : Answer). ClearIn a (o .header)) (p .opens) (opening-clear (r .node .materials) (r .node .networks) (r .node .iv) pdu) in
-    subst LeftHeard (sym (p .passes)) (good-passed r g (o .header) c (o .trials) fwd msg))
-    (heard-either r fwd msg pdu)
+    walk-left r pdu fwd msg Good g
+    (λ e.
+    let c : Clear (o .header) = subst (λ (a : Answer). ClearIn a (o .header)) e (opening-clear (r .node .materials) (r .node .networks) (r .node .iv) pdu) in
+    ways (caching r (o .header)) (good-caching r g (o .header)) (o .header) c msg)
 
 -- ---- giving up
 pub good-give-up : GoodGiveUp

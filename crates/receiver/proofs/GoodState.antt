@@ -1,5 +1,6 @@
 -- `Good` is kept where one part of the state changes, if that part is: each field speaks of one part. Assumes nothing.
 --   good-cache, good-replay, good-session, good-outgoing   the state with one part changed
+--   good-caching                                           a PDU more in the cache
 --   good-admitted, good-upgraded                           a message was accepted, or handed up
 --   good-freed, good-opened                                a slot is zeroed, or holds a session that gathers
 use mathlib.Core.Bool.{true, false, true≢false}
@@ -21,6 +22,7 @@ use Rattle.memory.specs.declared.session.Session.{Session}
 use Rattle.memory.specs.Cache.{cacheEntries}
 use Rattle.memory.specs.Replay.{ReplayKept}
 use Rattle.memory.specs.Session.{sessionSlots, noSession, sessionAt, sessionKey, isFree, SessionsApart}
+use Rattle.memory.proofs.CacheLaws.{length-remembered}
 use Rattle.memory.proofs.ReplayMap.{kept-accepted, kept-handedUp}
 use Rattle.memory.proofs.SessionSlots.{apart-freed, apart-opened}
 use Rattle.memory.proofs.Within.{Opens}
@@ -30,6 +32,7 @@ use Rattle.receiver.specs.Good.{Gathering, Good}
 use Rattle.receiver.specs.Segmented.{upgraded}
 use Rattle.receiver.specs.State.{withCache, withReplay, withSession, withOutgoing}
 use Rattle.receiver.specs.Whole.{pairOf, admitted}
+use Rattle.receiver.proofs.Laws.Heard.{caching}
 
 -- what taking a PDU leaves is good
 abbrev pub Left : Lent Taken → Type 0
@@ -84,6 +87,9 @@ module _ (r : Receiver) (g : Good r) where
 
   pub good-cache : (c : Cache) → length (c .entries) ≡ cacheEntries → Good (withCache r c)
   good-cache c e = changed c e (r .replay) (g .replay-kept) (r .sessions) sessions-good (r .out)
+
+  pub good-caching : (h : Header) → Good (caching r h)
+  good-caching h = good-cache (caching r h .cache) (length-remembered (r .cache) h ∙ g .cache-places)
 
   pub good-outgoing : (out : Outgoing) → Good (withOutgoing r out)
   good-outgoing out = changed (r .cache) (g .cache-places) (r .replay) (g .replay-kept) (r .sessions) sessions-good out

@@ -2,6 +2,7 @@
 --   Heard     a call refuses before the cache, or the PDU passes; one that opens
 --   Form      a message by its form
 --   Segment   a segment by what stands in the receiver
+--   Ways      the ways a call can end
 --   After     what is left behind the cache
 --   Refusal   what a refusal leaves
 --   Fixed     what no call changes
@@ -10,6 +11,7 @@
 pub mod Heard
 pub mod Form
 pub mod Segment
+pub mod Ways
 pub mod After
 pub mod Refusal
 pub mod Fixed

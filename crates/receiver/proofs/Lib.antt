@@ -8,6 +8,4 @@ pub mod Opened
 pub mod Gathered
 pub mod Laws
 pub mod GoodState
-pub mod GoodWhole
-pub mod GoodSegmented
 pub mod Good

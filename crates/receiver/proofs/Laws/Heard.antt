@@ -1,14 +1,13 @@
 -- A call refuses before the cache and leaves everything, or the PDU opened and is new, and passes: the tests in front are walked once. One that opens and is in the
 -- cache leaves everything; one that is new, and for this node, leaves what the message of its form leaves. Assumes nothing.
 --   early            the refusals before the cache: 16, 1 to 5
---   heard-either     a call refuses so, or the PDU passes
+--   walk-hearing     what holds of each such refusal, and of what a PDU leaves that passes, holds of the call
 --   heard-unopened   one that does not open is refused so
 --   heard-again, heard-new   one that opens
 --   heard-forwarded, heard-kept   what it forwards
 use mathlib.Core.Bool.{Bool, true, false, _||_}
 use mathlib.Core.List.{List}
-use mathlib.Core.Logic.{_⊎_, inl, inr, ⊎-elim}
-use mathlib.Core.Path.{_≡_, refl, sym, ap, _∙_, subst}
+use mathlib.Core.Path.{_≡_, refl, ap, _∙_}
 use Prim.Native.Nat.{ℕ, _≤_}
 use borrow.Author.Tests.{le-ltb, ltb-false}
 use lib.Dec.{eqb, leb, ltb}
@@ -53,48 +52,29 @@ openingOf r pdu = opening (r .node .materials) (r .node .networks) (r .node .iv)
 abbrev pub caching : Receiver → Header → Receiver
 caching r h = withCache r (remembered (r .cache) h)
 
--- it opened and is new: it is cached, forwarded and taken
-pub record Passes (r : Receiver) (pdu fwd msg : List ℕ) (o : Outcome) : Type 0 where
-  pub opens : openingOf r pdu .answer ≡ network.Opened
-  pub room : 384 ≤ length msg
-  pub passes : o ≡ passed r (openingOf r pdu .header) (openingOf r pdu .trials) fwd msg
+module _ (r : Receiver) (fwd msg pdu : List ℕ) where
+  abbrev o : Opening
+  o = openingOf r pdu
 
-module _ (r : Receiver) (fwd msg : List ℕ) where
-  refuses : (n : Refusal) (trials : ℕ) → early n ≡ true → Early r fwd msg (outcome (refusedHeard r n trials) fwd msg)
-  refuses n trials e = (n, record { is-early = e; tried = trials; leaves = refl })
+  module _ (P : Outcome → Type 0) (refuses : (n : Refusal) (trials : ℕ) → early n ≡ true → P (outcome (refusedHeard r n trials) fwd msg)) where
+    walk-opened : (a : network-answer.Answer) (h : Header) (trials : ℕ) → (a ≡ network.Opened → P (passed r h trials fwd msg)) → P (openedAs a r h trials fwd msg)
+    unfolding openedAs uncached
+    walk-opened network.WrongLength h trials f = refuses refusal.WrongLength trials refl
+    walk-opened network.NoCandidate h trials f = refuses refusal.NoCandidate trials refl
+    walk-opened network.NotAuthentic h trials f = refuses refusal.NotAuthentic trials refl
+    walk-opened network.WrongAddress h trials f = refuses refusal.WrongAddress trials refl
+    walk-opened network.Opened h trials f =
+        by-choice P (seen (r .cache) h) {y = passed r h trials fwd msg} (λ _. refuses refusal.Cached trials refl) (λ _. f refl)
 
-  refused-or-opened : (a : network-answer.Answer) (h : Header) (trials : ℕ) → Early r fwd msg (openedAs a r h trials fwd msg) ⊎ (a ≡ network.Opened)
-  unfolding openedAs
-  refused-or-opened network.WrongLength h trials = inl (refuses refusal.WrongLength trials refl)
-  refused-or-opened network.NoCandidate h trials = inl (refuses refusal.NoCandidate trials refl)
-  refused-or-opened network.NotAuthentic h trials = inl (refuses refusal.NotAuthentic trials refl)
-  refused-or-opened network.WrongAddress h trials = inl (refuses refusal.WrongAddress trials refl)
-  refused-or-opened network.Opened h trials = inr refl
+    pub walk-hearing : (o .answer ≡ network.Opened → 384 ≤ length msg → P (passed r (o .header) (o .trials) fwd msg)) → P (hearing r pdu fwd msg)
+    unfolding hearing
+    walk-hearing passes =
+        by-choice P (ltb (length fwd) 29) (λ _. refuses refusal.ShortBuffer 0 refl)
+        (λ _. by-choice P (ltb (length msg) 384) (λ _. refuses refusal.ShortBuffer 0 refl)
+        (λ u. walk-opened (o .answer) (o .header) (o .trials) (λ e. passes e (ltb-false (length msg) 384 u))))
 
-  module _ (pdu : List ℕ) where
-    abbrev o : Opening
-    o = openingOf r pdu
-
-    abbrev Either : Outcome → Type 0
-    Either x = Early r fwd msg x ⊎ Passes r pdu fwd msg x
-
-    either-uncached : 384 ≤ length msg → o .answer ≡ network.Opened → Either (uncached r (o .header) (o .trials) fwd msg)
-    unfolding uncached
-    either-uncached room e =
-        by-choice Either (seen (r .cache) (o .header)) {y = passed r (o .header) (o .trials) fwd msg}
-        (λ _. inl (refuses refusal.Cached (o .trials) refl)) (λ _. inr (record { opens = e; room = room; passes = refl }))
-
-    pub heard-either : Early r fwd msg (hearing r pdu fwd msg) ⊎ Passes r pdu fwd msg (hearing r pdu fwd msg)
-    unfolding hearing openedAs
-    heard-either =
-        by-choice Either (ltb (length fwd) 29) (λ _. inl (refuses refusal.ShortBuffer 0 refl))
-        (λ _. by-choice Either (ltb (length msg) 384) (λ _. inl (refuses refusal.ShortBuffer 0 refl))
-        (λ u. ⊎-elim inl
-        (λ e. subst (λ (x : network-answer.Answer). Either (openedAs x r (o .header) (o .trials) fwd msg)) (sym e) (either-uncached (ltb-false (length msg) 384 u) e))
-        (refused-or-opened (o .answer) (o .header) (o .trials))))
-
-    pub heard-unopened : (o .answer ≡ network.Opened → ⊥) → Early r fwd msg (hearing r pdu fwd msg)
-    heard-unopened n = ⊎-elim (λ y. y) (λ p. absurd (n (p .opens))) heard-either
+  pub heard-unopened : (o .answer ≡ network.Opened → ⊥) → Early r fwd msg (hearing r pdu fwd msg)
+  heard-unopened n = walk-hearing (Early r fwd msg) (λ n trials e. (n, record { is-early = e; tried = trials; leaves = refl })) (λ e _. absurd (n e))
 
 -- ---- a PDU that opens
 module _ (r : Receiver) (pdu fwd msg : List ℕ) (wide : 29 ≤ length fwd) (big : 384 ≤ length msg) (h : Header) (trials : ℕ)

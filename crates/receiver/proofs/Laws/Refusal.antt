@@ -2,10 +2,10 @@
 -- nothing.
 --   Late             a refusal that leaves the PDU cached and forwarded: 6 to 13
 --   heard-refused    each refusal is of one kind or the other
-use mathlib.Core.Bool.{false}
+use mathlib.Core.Bool.{true, false}
 use mathlib.Core.List.{List}
-use mathlib.Core.Logic.{_⊎_, inl, inr, ⊎-elim}
-use mathlib.Core.Path.{_≡_, refl, sym, ap, _∙_, subst}
+use mathlib.Core.Logic.{_⊎_, inl, inr}
+use mathlib.Core.Path.{_≡_, refl, subst}
 use Prim.Native.Nat.{ℕ, _≤_}
 use lib.ListN.{length}
 use Rattle.network.specs.declared.header.Header.{Header}
@@ -13,42 +13,38 @@ use Rattle.receiver.specs.declared.answer.Answer.{Answer}
 use Rattle.receiver.specs.declared.answer.Answer.the-variants.{Refused}
 use Rattle.receiver.specs.declared.answer.Refusal.{Refusal}
 use Rattle.receiver.specs.declared.state.Receiver.{Receiver}
-use Rattle.receiver.specs.Hearing.{Outcome, relayed, passed, hearing}
+use Rattle.receiver.specs.Hearing.{Outcome, outcome, refusedHeard, relayed, taken, passed, hearing}
 use Rattle.receiver.proofs.Laws.After.{Stays, After, after-taken}
-use Rattle.receiver.proofs.Laws.Heard.{early, Refuses, Early, openingOf, caching, heard-either}
-
--- cached, forwarded and taken
-abbrev Passed : Receiver → Header → List ℕ → List ℕ → Outcome → Type 0
-Passed r h fwd msg o = After (caching r h) msg (o .heard .answer) (o .heard .receiver) (o .message) × (o .forward ≡ relayed (r .node) h fwd .buffer)
+use Rattle.receiver.proofs.Laws.Heard.{early, Refuses, openingOf, caching, walk-hearing}
 
 module _ (r : Receiver) (pdu fwd msg : List ℕ) where
   abbrev h : Header
   h = openingOf r pdu .header
 
-  passed-leaves : 384 ≤ length msg → (trials : ℕ) → Passed r h fwd msg (passed r h trials fwd msg)
-  unfolding passed
-  passed-leaves room trials = (after-taken (caching r h) msg room h, refl)
-
   -- n, with the PDU cached
-  pub record Late (n : Refusal) : Type 0 where
+  pub record Late (n : Refusal) (o : Outcome) : Type 0 where
     pub not-early : early n ≡ false
-    pub stays : Stays (caching r h) (hearing r pdu fwd msg .heard .receiver) n
-    pub message-stays : hearing r pdu fwd msg .message ≡ msg
-    pub forwarded-as : hearing r pdu fwd msg .forward ≡ relayed (r .node) h fwd .buffer
+    pub stays : Stays (caching r h) (o .heard .receiver) n
+    pub message-stays : o .message ≡ msg
+    pub forwarded-as : o .forward ≡ relayed (r .node) h fwd .buffer
 
-  module _ (n : Refusal) (e : hearing r pdu fwd msg .heard .answer ≡ Refused n) where
-    early-is : Early r fwd msg (hearing r pdu fwd msg) → Refuses r fwd msg n (hearing r pdu fwd msg)
-    early-is y =
-        let same : y .0 ≡ n = let q : Refused (y .0) ≡ Refused n = sym (ap (λ (o : Outcome). o .heard .answer) (y .1 .leaves)) ∙ e in cc in
-        subst (λ (m : Refusal). Refuses r fwd msg m (hearing r pdu fwd msg)) same (y .1)
+  module _ (n : Refusal) where
+    abbrev Either : Outcome → Type 0
+    Either o = o .heard .answer ≡ Refused n → Refuses r fwd msg n o ⊎ Late n o
 
-    late-is : Passed r h fwd msg (hearing r pdu fwd msg) → Late n
-    late-is l =
-        let o = hearing r pdu fwd msg in
-        let a : After (caching r h) msg (Refused n) (o .heard .receiver) (o .message) =
-        subst (λ (x : Answer). After (caching r h) msg x (o .heard .receiver) (o .message)) e (l .0) in
-        record { not-early = a .2; stays = a .0; message-stays = a .1; forwarded-as = l .1 }
+    early-is : (m : Refusal) (trials : ℕ) → early m ≡ true → Either (outcome (refusedHeard r m trials) fwd msg)
+    early-is m trials t e =
+        let o = outcome (refusedHeard r m trials) fwd msg in
+        let same : m ≡ n = cc in
+        inl (subst (λ (k : Refusal). Refuses r fwd msg k o) same (record { is-early = t; tried = trials; leaves = refl }))
 
-    pub heard-refused : Refuses r fwd msg n (hearing r pdu fwd msg) ⊎ Late n
-    heard-refused =
-        ⊎-elim (λ y. inl (early-is y)) (λ p. inr (late-is (subst (Passed r h fwd msg) (sym (p .passes)) (passed-leaves (p .room) _)))) (heard-either r fwd msg pdu)
+    late-is : 384 ≤ length msg → (trials : ℕ) → Either (passed r h trials fwd msg)
+    unfolding passed
+    late-is room trials e =
+        let t = taken (caching r h) h msg in
+        let a : After (caching r h) msg (Refused n) (t .answer .receiver) (t .buffer) =
+        subst (λ (x : Answer). After (caching r h) msg x (t .answer .receiver) (t .buffer)) e (after-taken (caching r h) msg room h) in
+        inr (record { not-early = a .2; stays = a .0; message-stays = a .1; forwarded-as = refl })
+
+    pub heard-refused : Either (hearing r pdu fwd msg)
+    heard-refused = walk-hearing r fwd msg pdu Either early-is (λ _ room. late-is room _)
