@@ -46,9 +46,9 @@ use Rattle.receiver.proofs.Good.{good-hear}
 use Rattle.receiver.proofs.GoodState.{good-cache}
 use Rattle.receiver.proofs.Laws.Fixed.{fixed-heard}
 use Rattle.receiver.proofs.Laws.Heard.{heard-unopened, heard-again, Leaves, heard-new}
-use Rattle.demands.specs.Call.{Call, Hear, Acknowledge, Outcome, Heard, step, left}
+use Rattle.demands.specs.Call.{Call, Hear, Acknowledge, Heard, Outcome, leftHeard, step}
 use Rattle.demands.specs.Interleaved as scene
-use Rattle.demands.specs.Interleaved.{Event, Segment, Foreign, Ask, speechAt, callAs, comeWith, isLastMissing, Spent, Comes, storedAs, isStored, tried, handedAs, handed}
+use Rattle.demands.specs.Interleaved.{Event, Segment, Foreign, Ask, speechAt, callAs, comeWith, isLastMissing, Spent, Comes, isStored, handedAs, handed}
 use Rattle.demands.specs.Refusal.{noKeyOpens}
 use Rattle.demands.specs.Speech.{Speech, lastOf, headerOf, segmentPdu, Speakable, Handed, handUp, networkPlace, applicationPlace}
 use Rattle.demands.proofs.Invariant.{good-step}
@@ -69,10 +69,10 @@ has-with x i j low h =
 
 -- a PDU that no key opens hands up nothing
 foreign-none : (r : Receiver) (pdu fwd msg : List ℕ) → noKeyOpens (opening (r .node .materials) (r .node .networks) (r .node .iv) pdu .answer) ≡ true
-    → handedAs (hearing r pdu fwd msg .heard .answer) (hearing r pdu fwd msg .message) ≡ []
+    → handed (step r (Hear pdu fwd msg)) ≡ []
 foreign-none r pdu fwd msg t =
     let y = heard-unopened r fwd msg pdu (unopened (opening (r .node .materials) (r .node .networks) (r .node .iv) pdu .answer) t) in
-    ap (λ (o : hear.Outcome). handedAs (o .heard .answer) (o .message)) (y .1 .leaves)
+    ap (λ (o : hear.Outcome). handed (leftHeard o)) (y .1 .leaves)
 
 module _ (node : Node) (speeches : List Speech) (spent : Spent) where
   abbrev Seen : Receiver → (ℕ → ℕ) → Type 0
@@ -89,7 +89,7 @@ module _ (node : Node) (speeches : List Speech) (spent : Spent) where
   -- a segment that is new is stored where another is missing
   abbrev pub StoresAt : (ℕ → ℕ) → Event → Outcome → Type 0
   StoresAt filled (Segment k i seq ttl) o =
-      hasBit (filled k) i ≡ false → eqb (withBit (filled k) i) (allBits (lastOf node (speechAt speeches k))) ≡ false → isStored o ≡ true
+      hasBit (filled k) i ≡ false → eqb (withBit (filled k) i) (allBits (lastOf node (speechAt speeches k))) ≡ false → isStored (o .answer) ≡ true
   StoresAt filled (Foreign pdu) o = Unit {0}
   StoresAt filled (Ask net src) o = Unit {0}
 
@@ -97,7 +97,7 @@ module _ (node : Node) (speeches : List Speech) (spent : Spent) where
   abbrev pub CountsAt : (ℕ → ℕ) → Event → Outcome → Type 0
   CountsAt filled (Segment k i seq ttl) o =
       let s = speechAt speeches k in
-      tried o
+      o .tried
       ≡ record { network = networkPlace node s; application = if isLastMissing (filled k) i (lastOf node s) then applicationPlace node s (s .words) else 0 }
   CountsAt filled (Foreign pdu) o = Unit {0}
   CountsAt filled (Ask net src) o = Unit {0}
@@ -106,7 +106,7 @@ module _ (node : Node) (speeches : List Speech) (spent : Spent) where
     pub hands : handed (step r c) ≡ dueOf filled e
     pub stores : StoresAt filled e (step r c)
     pub counts : CountsAt filled e (step r c)
-    pub scenery : Seen (left (step r c)) (λ k. comeWith k (filled k) e)
+    pub scenery : Seen (step r c .receiver) (λ k. comeWith k (filled k) e)
 
   module _ (made : WellMade node) (few : length speeches ≤ 8) (speak : (k : ℕ) → k < length speeches → Speakable node (speechAt speeches k))
       (differ : (j k : ℕ) → j < length speeches → k < length speeches → speakerOf speeches j ≡ speakerOf speeches k → j ≡ k)
@@ -158,8 +158,8 @@ module _ (node : Node) (speeches : List Speech) (spent : Spent) where
       unfolding headerOf
       again e =
           let there : hasBit (filled k) i ≡ true = rw (sent .number-spent) (sc .seen-come k h (sent .one-of) refl e) in
-          let o : step r (Hear pdu fwd msg) ≡ Heard (outcome (refusedHeard r refusal.Cached trials) fwd msg) =
-          ap Heard (heard-again r pdu fwd msg wide big h trials opens e) in
+          let o : step r (Hear pdu fwd msg) ≡ leftHeard (outcome (refusedHeard r refusal.Cached trials) fwd msg) =
+          ap leftHeard (heard-again r pdu fwd msg wide big h trials opens e) in
           let more : (j : ℕ) → comeWith j (filled j) (Segment k i seq ttl) ≡ filled j =
           λ j. by-test (eqb k j)
           (λ u. rw u (with-of-set (filled j) i (subst (λ (n : ℕ). hasBit (filled n) i ≡ true) (eqb-true k j u) there)))
@@ -167,8 +167,8 @@ module _ (node : Node) (speeches : List Speech) (spent : Spent) where
           record {
             hands = ap handed o ∙ rw there refl;
             stores = λ f _. absurd (true≢false (sym there ∙ f));
-            counts = ap tried o ∙ rw there refl;
-            scenery = rw (ap left o) (refilled node speeches spent r filled _ more sc);
+            counts = ap (λ (x : Outcome). x .tried) o ∙ rw there refl;
+            scenery = rw (ap (λ (x : Outcome). x .receiver) o) (refilled node speeches spent r filled _ more sc);
           }
 
       -- it is new: it is placed
@@ -182,10 +182,10 @@ module _ (node : Node) (speeches : List Speech) (spent : Spent) where
 
       -- what the call hands up and leaves is what placing it does
       record Does : Type 0 where
-        hands-as : handed (step r (Hear pdu fwd msg)) ≡ handedAs (t .answer .answer) (t .buffer)
-        stored-as : isStored (step r (Hear pdu fwd msg)) ≡ storedAs (t .answer .answer)
-        tried-as : tried (step r (Hear pdu fwd msg)) ≡ record { network = trials; application = t .answer .trials }
-        left-is : left (step r (Hear pdu fwd msg)) ≡ t .answer .receiver
+        hands-as : handed (step r (Hear pdu fwd msg)) ≡ handedAs (Heard (t .answer .answer)) (t .buffer)
+        stored-as : isStored (step r (Hear pdu fwd msg) .answer) ≡ isStored (Heard (t .answer .answer))
+        tried-as : step r (Hear pdu fwd msg) .tried ≡ record { network = trials; application = t .answer .trials }
+        left-is : step r (Hear pdu fwd msg) .receiver ≡ t .answer .receiver
 
       leaves : seen (r .cache) h ≡ false → Leaves r pdu fwd msg wide big h trials opens t
       unfolding headerOf
@@ -197,8 +197,8 @@ module _ (node : Node) (speeches : List Speech) (spent : Spent) where
       does e =
           let l = leaves e in
           record {
-            hands-as = ap (λ (a : Answer). handedAs a (hearing r pdu fwd msg .message)) (l .answers) ∙ ap (handedAs (t .answer .answer)) (l .message-is);
-            stored-as = ap storedAs (l .answers);
+            hands-as = ap (λ (a : Answer). handedAs (Heard a) (hearing r pdu fwd msg .message)) (l .answers) ∙ ap (handedAs (Heard (t .answer .answer))) (l .message-is);
+            stored-as = ap (λ (a : Answer). isStored (Heard a)) (l .answers);
             tried-as =
                 ap (λ (n : ℕ). record { network = n; application = hearing r pdu fwd msg .heard .application }) (l .network-is)
                 ∙ ap (λ (n : ℕ). record { network = trials; application = n }) (l .application-is);

@@ -47,10 +47,9 @@ use Rattle.sending.proofs.Laws.Allowed.{ttl-low, whole-short, segment-allowed}
 use Rattle.sending.proofs.Laws.Calls.{access-whole, access-begun, control-whole, control-begun, segment-sent}
 use Rattle.sending.proofs.Laws.Stamped.{stamps, address-local, element-back}
 use Rattle.sending.proofs.Laws.Transmitted.{saying, Sends, saying-is, starting-is}
-use Rattle.demands.specs.Call.{SendSegment, Outcome, Said, step, left, run}
+use Rattle.demands.specs.Call.{SendSegment, Outcome, madeBy, leftSaid, step, run}
 use Rattle.demands.specs.Interleaved.{nodeOf, Each}
-use Rattle.demands.specs.NeverTwice.{madeBy, made}
-use Rattle.demands.specs.ReadBack.{restOf, saidBy, Between, accepted, GoesOut}
+use Rattle.demands.specs.ReadBack.{restAs, saidBy, Between, accepted, GoesOut}
 use Rattle.demands.specs.Speech.{Words, Access, Control, Speech, keyOf, envelopeOf, akfOf, aidOf, octetsOf, lastOf, Speakable}
 use Rattle.demands.proofs.SaidLaws.{access-stamped, control-stamped, Kept, kept, header-said, key-said, request-of, words-of, near, held}
 use Rattle.demands.proofs.SegmentsSent.{Keeps, said-at}
@@ -58,6 +57,10 @@ use Rattle.demands.proofs.SentLaws.{allowedAs, wholeAs, headerAs, keptA
 use Rattle.demands.proofs.SpeechCut.{last-low, cut-is}
 use Rattle.demands.proofs.SpeechSegment.{segment-sealable}
 use Rattle.demands.proofs.WholeSent.{wholeHeader}
+
+-- a call made a PDU, and so does each that sends the rest of its message
+abbrev All : List ℕ → Outcome → Type 0
+All buf o = Each (λ x. x .made ≡ true) (o ∷ run (o .receiver) (restAs (o .answer) buf))
 
 -- ---- a transmission that sealing does not refuse is sent
 module _ (r : Receiver) (element : ℕ) (h : Header) (buf : List ℕ) (left-seq : nextSeq r element ≤ 0xFFFFFF) (key : h .key < 4) (wide : 29 ≤ length buf)
@@ -192,16 +195,16 @@ module _ (sender : Receiver) (setup : Setup) (q : Request) (words : Words) (buf 
         (subst (λ (x : Outgoing). madeBy (saying r (q .element) (segmentHeader x n) buf .answer .answer) ≡ true) (sym (k .out-is)) said)
 
     -- segment n and those behind it
-    rest-made : (m n : ℕ) (r : Receiver) → At r n → n + m ≡ lastOf node s + 1 → Each (λ x. made x ≡ true) (run r (tabFrom (λ j. SendSegment j buf) n m))
+    rest-made : (m n : ℕ) (r : Receiver) → At r n → n + m ≡ lastOf node s + 1 → Each (λ x. x .made ≡ true) (run r (tabFrom (λ j. SendSegment j buf) n m))
     rest-made zero n r k e = tt {0}
     rest-made (suc m) n r k e =
         let here = segment-made r n k (omega arith) in
         let next = said-at sender own node (b .shared) q there s refl o keeping first r n k buf here .keeps in
-        (here, rest-made m (suc n) (left (step r (SendSegment n buf))) next (omega arith))
+        (here, rest-made m (suc n) (step r (SendSegment n buf) .receiver) next (omega arith))
 
     begun-all :
         (x : Lent Spoken) → StartedBy sender (q .element) o x → madeBy (x .answer .answer) ≡ true
-        → Each (λ y. made y ≡ true) (Said x ∷ run (x .answer .receiver) (restOf (Said x) buf))
+        → All buf (leftSaid x)
     begun-all x g m =
         let places = b .good .next-well .places in
         let t = there in
@@ -218,10 +221,7 @@ module _ (sender : Receiver) (setup : Setup) (q : Request) (words : Words) (buf 
 
 -- ---- each way
 module _ (sender : Receiver) (setup : Setup) (q : Request) (buf : List ℕ) (wide : 29 ≤ length buf) (enough : nextSeq sender (q .element) + 31 ≤ 0xFFFFFF) where
-  abbrev All : Outcome → Type 0
-  All o = Each (λ x. made x ≡ true) (o ∷ run (left o) (restOf o buf))
-
-  said-all : (r : Receiver) (element : ℕ) (h : Header) → madeBy (saying r element h buf .answer .answer) ≡ true → All (Said (saying r element h buf))
+  said-all : (r : Receiver) (element : ℕ) (h : Header) → madeBy (saying r element h buf .answer .answer) ≡ true → All buf (leftSaid (saying r element h buf))
   said-all r element h m = let g = said-by r element buf h m in (m, rw (g .says) (tt {0}))
 
   -- a whole access message has 6 to 16 octets, and a TransMIC of 4
@@ -240,7 +240,7 @@ module _ (sender : Receiver) (setup : Setup) (q : Request) (buf : List ℕ) (wid
       whole-made sender setup q words buf b a wide enough (headerAs sender q words) false (accessOctet false (akfOf key) (aidOf node key) ∷ octetsOf node s)
       (access-stamped sender node (b .shared) q key payload a) (omega arith) (omega arith)
 
-  goes : (words : Words) → Between sender setup q words → accepted sender q words ≡ true → All (Said (sendingAs sender q words buf))
+  goes : (words : Words) → Between sender setup q words → accepted sender q words ≡ true → All buf (leftSaid (sendingAs sender q words buf))
   goes (Access key szmic payload) b a =
       by-test (access.isWhole szmic (length payload))
       (λ w. rw (access-whole sender buf wide q key szmic payload a w) (said-all sender (q .element) (headerAs sender q (Access key szmic payload)) (access-goes key szmic payload b a w)))

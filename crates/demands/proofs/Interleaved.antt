@@ -38,7 +38,7 @@ use Rattle.receiver.proofs.Good.{good-fresh}
 use Rattle.sending.specs.Acknowledge.{chosen}
 use Rattle.sending.proofs.Laws.Calls.{acknowledgement-sent, chosen-session, chosen-last}
 use Rattle.sending.proofs.Laws.Stamped.{element-low}
-use Rattle.demands.specs.Call.{step, left, run, after}
+use Rattle.demands.specs.Call.{step, run, after}
 use Rattle.demands.specs.Interleaved.{Event, Segment, Foreign, Ask, Arrival, start, nodeOf, speechAt, callOf, calls, comeWith, comeFrom, come, ComeNames, Spent, Arrives, Each, Scene, AllCome, dueAs, behind, HandedUp, Acknowledges, messages, turns, EndsAlike}
 use Rattle.demands.specs.Speech.{Speech, lastOf, Speakable, Handed, handUp}
 use Rattle.demands.proofs.ArrivalLaws.{dueOf, Next, event-next}
@@ -67,7 +67,7 @@ module _ (node : Node) (made : WellMade node) (speeches : List Speech) (few : le
   seen-behind r filled sc [] e = sc
   seen-behind r filled sc (a ∷ l) e =
       let n = arrival-next r filled sc a (e .0) in
-      seen-behind (left (step r (callOf node speeches a))) (λ k. comeWith k (filled k) (a .event)) (n .scenery) l (e .1)
+      seen-behind (step r (callOf node speeches a) .receiver) (λ k. comeWith k (filled k) (a .event)) (n .scenery) l (e .1)
 
   -- ---- one message of each source
   module _ (k : ℕ) (hk : k < length speeches) where
@@ -80,7 +80,7 @@ module _ (node : Node) (made : WellMade node) (speeches : List Speech) (few : le
         let n = arrival-next r filled sc a (e .0) in
         rw (n .hands, picked-due node speeches k spent hk differ filled (a .event) (e .0 .comes))
         (ap (λ (x : List Handed). dueWith node speeches k (filled k) (a .event) ++ x)
-        (messages-are (left (step r (callOf node speeches a))) (λ j. comeWith j (filled j) (a .event)) (n .scenery) l (e .1)))
+        (messages-are (step r (callOf node speeches a) .receiver) (λ j. comeWith j (filled j) (a .event)) (n .scenery) l (e .1)))
 
   -- ---- behind all of them
   module _ (r : Receiver) (filled : ℕ → ℕ) (sc : Seen r filled) (k : ℕ) (hk : k < length speeches)

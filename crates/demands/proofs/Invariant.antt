@@ -30,7 +30,7 @@ use Rattle.sending.specs.Stop.{stopping}
 use Rattle.sending.specs.Transmission.{nextSeq}
 use Rattle.sending.proofs.Laws.Calls.{walk-access, walk-control, walk-segment, walk-acknowledge}
 use Rattle.sending.proofs.Laws.Transmitted.{used, saying, by-saying, by-starting, by-stopping}
-use Rattle.demands.specs.Call.{Call, Hear, GiveUp, SendAccess, SendControl, SendSegment, Acknowledge, Stop, step, left, after}
+use Rattle.demands.specs.Call.{Call, Hear, GiveUp, SendAccess, SendControl, SendSegment, Acknowledge, Stop, step, after}
 use Rattle.demands.specs.Invariant.{GoodStep, GoodAfter}
 
 -- ---- a next SEQ that rises
@@ -90,7 +90,7 @@ good-step r Stop g = stopped r g
 
 good-run : (r : Receiver) (l : List Call) → Good r → Good (after r l)
 good-run r [] g = g
-good-run r (c ∷ l) g = good-run (left (step r c)) l (good-step r c g)
+good-run r (c ∷ l) g = good-run (step r c .receiver) l (good-step r c g)
 
 pub good-after : GoodAfter
 good-after s l e = good-run (settingUp s .receiver) l (good-fresh s e)

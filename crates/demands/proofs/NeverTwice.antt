@@ -4,7 +4,7 @@
 -- call away: what it used lies one below where the rest begins, so below all that the rest uses of that element. Two
 -- equal uses would then lie below each other. What was used is also what was sent, since the header that was sealed
 -- carries it. Assumes nothing.
-use mathlib.Core.Bool.{true, false≢true}
+use mathlib.Core.Bool.{true, false, false≢true}
 use mathlib.Core.List.{List, [], _∷_, _++_}
 use mathlib.Core.Path.{_≡_, refl, sym, ap, _∙_, subst}
 use Prim.Native.Nat.{ℕ, _+_, _≤_, _<_}
@@ -40,32 +40,44 @@ use Rattle.sending.proofs.Laws.Allowed.{Asked, access-allows, control-allows}
 use Rattle.sending.proofs.Laws.Calls.{walk-access, walk-control, walk-segment, walk-acknowledge}
 use Rattle.sending.proofs.Laws.Stamped.{stamps}
 use Rattle.sending.proofs.Laws.Transmitted.{used, used-own, used-rises, saying, pduBy, Sends, sealing-is, by-saying, by-starting, by-stopping}
-use Rattle.demands.specs.Call.{Call, Hear, GiveUp, SendAccess, SendControl, SendSegment, Acknowledge, Stop, Outcome, Heard, Said, Ended, step, left}
-use Rattle.demands.specs.NeverTwice.{Use, speaker, madeBy, made, uses, lentFor, lengthBy, Carries, Carried, AllAbove, Rising, NoneEqual, Distinct, Rise, NeverTwice}
+use Rattle.demands.specs.Call.{Call, Hear, GiveUp, SendAccess, SendControl, SendSegment, Acknowledge, Stop, Outcome, lengthBy, leftSaid, step}
+use Rattle.demands.specs.NeverTwice.{Use, speaker, uses, lentFor, Carried, AllAbove, Rising, NoneEqual, Distinct, Rise, NeverTwice}
 use Rattle.demands.proofs.Invariant.{good-step}
 
--- ---- a call that sends
+-- ---- one call
 module _ (r : Receiver) (element : ℕ) (buf : List ℕ) where
   -- the PDU was sealed from a header with the element's address and next SEQ, which is then used
-  pub record Takes (s : Lent Spoken) : Type 0 where
+  pub record Takes (o : Outcome) : Type 0 where
     pub header : Header
     pub from-element : header .src ≡ addressOf (r .node) element
     pub with-next : header .seq ≡ nextSeq r element
-    pub made-of : sealing (keyAt (r .node .materials) (header .key)) header buf ≡ lent (Sealed (lengthBy (s .answer .answer))) (s .buffer)
-    pub raised : element < length (r .next) → nextSeq (s .answer .receiver) element ≡ nextSeq r element + 1
+    pub made-of : sealing (keyAt (r .node .materials) (header .key)) header buf ≡ lent (Sealed (o .octets)) (o .pdu)
+    pub raised : element < length (r .next) → nextSeq (o .receiver) element ≡ nextSeq r element + 1
 
-  pub record Speaks (s : Lent Spoken) : Type 0 where
-    pub rises : (any : ℕ) → nextSeq r any ≤ nextSeq (s .answer .receiver) any
-    pub takes : madeBy (s .answer .answer) ≡ true → Takes s
-    pub within : madeBy (s .answer .answer) ≡ true → element < 8
+  pub record Speaks (o : Outcome) : Type 0 where
+    pub rises : (any : ℕ) → nextSeq r any ≤ nextSeq (o .receiver) any
+    pub takes : o .made ≡ true → Takes o
+    pub within : o .made ≡ true → element < 8
 
-  refused : (n : Refusal) → Speaks (lent (refusedAt r n) buf)
-  refused n = record { rises = λ any. omega arith; takes = λ e. absurd (false≢true e); within = λ e. absurd (false≢true e) }
+  -- nothing is made, and every next SEQ stays
+  silent : (o : Outcome) → o .made ≡ false → o .receiver .next ≡ r .next → Speaks o
+  silent o n e =
+      record {
+        rises = λ any. let f = ap (λ (l : List ℕ). getD l any 0) e in omega arith;
+        takes = λ m. absurd (false≢true (sym n ∙ m));
+        within = λ m. absurd (false≢true (sym n ∙ m));
+      }
+
+  abbrev Speaking : Lent Spoken → Type 0
+  Speaking s = Speaks (leftSaid s)
+
+  refused : (n : Refusal) → Speaking (lent (refusedAt r n) buf)
+  refused n = silent (leftSaid (lent (refusedAt r n) buf)) refl refl
 
   -- the PDU of this header was sent, and q is left
   module _ (low : element < 8) (h : Header) (c : Sends r element h buf) (a : Answer) (q : Receiver) (next : q .next ≡ used r element .next)
       (long : lengthBy a ≡ length (pduBy r element h)) where
-    takes-sent : Takes (lent (record { answer = a; receiver = q }) (onto (pduBy r element h) buf))
+    takes-sent : Takes (leftSaid (lent (record { answer = a; receiver = q }) (onto (pduBy r element h) buf)))
     takes-sent =
         let s = stamps r element h in
         record {
@@ -76,28 +88,20 @@ module _ (r : Receiver) (element : ℕ) (buf : List ℕ) where
           raised = λ k. ap (λ (l : List ℕ). getD l element 0) next ∙ used-own r element k;
         }
 
-    speaks-sent : Speaks (lent (record { answer = a; receiver = q }) (onto (pduBy r element h) buf))
+    speaks-sent : Speaking (lent (record { answer = a; receiver = q }) (onto (pduBy r element h) buf))
     speaks-sent =
         record { rises = λ any. rw next (used-rises r element any); takes = λ _. takes-sent; within = λ _. low }
 
-  said : (low : element < 8) (h : Header) → Speaks (saying r element h buf)
-  said low h = by-saying r element h buf Speaks refused (λ c. speaks-sent low h c _ (used r element) refl refl)
+  said : (low : element < 8) (h : Header) → Speaking (saying r element h buf)
+  said low h = by-saying r element h buf Speaking refused (λ c. speaks-sent low h c _ (used r element) refl refl)
 
-  started : (low : element < 8) (o : Outgoing) → Speaks (starting r element o buf)
-  started low o = by-starting r element o buf Speaks refused (λ c. speaks-sent low (segmentHeader o 0) c _ (withOutgoing (used r element) o) refl refl)
+  started : (low : element < 8) (o : Outgoing) → Speaking (starting r element o buf)
+  started low o = by-starting r element o buf Speaking refused (λ c. speaks-sent low (segmentHeader o 0) c _ (withOutgoing (used r element) o) refl refl)
 
 -- ---- the calls
 -- the element of a request that is allowed is one of eight
 element-low : (r : Receiver) (q : Request) → Asked (r .node) q → q .element < 8
 element-low r q a = omega arith
-
-abbrev SpeaksBy : Receiver → Call → Outcome → Type 0
-SpeaksBy r c (Heard o) = (any : ℕ) → nextSeq r any ≤ nextSeq (o .heard .receiver) any
-SpeaksBy r c (Said s) = Speaks r (speaker r c) (lentFor c) s
-SpeaksBy r c (Ended g) = (any : ℕ) → nextSeq r any ≤ nextSeq (g .receiver) any
-
-same-next : (l m : List ℕ) → m ≡ l → (any : ℕ) → getD l any 0 ≤ getD m any 0
-same-next l m e any = let f = ap (λ (k : List ℕ). getD k any 0) e in omega arith
 
 given-next : (r : Receiver) (src : ℕ) → givingUp r src .receiver .next ≡ r .next
 given-next r src = by-giving-up (λ (g : GivenUp). g .receiver .next ≡ r .next) r src refl (λ _. refl)
@@ -105,50 +109,37 @@ given-next r src = by-giving-up (λ (g : GivenUp). g .receiver .next ≡ r .next
 stopped-next : (r : Receiver) → stopping r .receiver .next ≡ r .next
 stopped-next r = by-stopping (λ (g : GivenUp). g .receiver .next ≡ r .next) r refl refl
 
-speaks : (r : Receiver) (c : Call) → SpeaksBy r c (step r c)
-speaks r (Hear pdu fwd msg) = same-next (r .next) _ (fixed-heard r fwd msg _ .next-stays)
-speaks r (GiveUp src) = same-next (r .next) _ (given-next r src)
+speaks : (r : Receiver) (c : Call) → Speaks r (speaker r c) (lentFor c) (step r c)
+speaks r (Hear pdu fwd msg) = silent r 0 [] _ refl (fixed-heard r fwd msg _ .next-stays)
+speaks r (GiveUp src) = silent r 0 [] _ refl (given-next r src)
 speaks r (SendAccess q key szmic payload buf) =
     let e = q .element in
     let low : accessAllowed r q key szmic (length payload) ≡ true → e < 8 = λ a. element-low r q (access-allows r q key szmic (length payload) a .asks) in
-    walk-access r buf (Speaks r e buf) (refused r e buf) q key szmic payload (λ a _. said r e buf (low a) _) (λ a _. started r e buf (low a) _)
+    walk-access r buf (Speaking r e buf) (refused r e buf) q key szmic payload (λ a _. said r e buf (low a) _) (λ a _. started r e buf (low a) _)
 speaks r (SendControl q opcode parameters buf) =
     let e = q .element in
     let low : control.controlAllowed r q opcode (length parameters) ≡ true → e < 8 = λ a. element-low r q (control-allows r q opcode (length parameters) a .asks) in
-    walk-control r buf (Speaks r e buf) (refused r e buf) q opcode parameters (λ a _. said r e buf (low a) _) (λ a _. started r e buf (low a) _)
+    walk-control r buf (Speaking r e buf) (refused r e buf) q opcode parameters (λ a _. said r e buf (low a) _) (λ a _. started r e buf (low a) _)
 speaks r (SendSegment n buf) =
     let e = elementOf (r .node) (r .out .src) in
-    walk-segment r buf (Speaks r e buf) (refused r e buf) n (λ low _. said r e buf low _)
+    walk-segment r buf (Speaking r e buf) (refused r e buf) n (λ low _. said r e buf low _)
 speaks r (Acknowledge net src buf) =
     let e = elementOf (r .node) (chosen (r .replay) (r .sessions) src .dst) in
-    walk-acknowledge r buf (Speaks r e buf) (refused r e buf) net src (λ low. said r e buf low _)
-speaks r Stop = same-next (r .next) _ (stopped-next r)
-
-carried : (r : Receiver) (c : Call) (o : Outcome) → SpeaksBy r c o → step r c ≡ o → made o ≡ true → Carries r c
-carried r c (Heard o) s e m = absurd (false≢true m)
-carried r c (Ended g) s e m = absurd (false≢true m)
-carried r c (Said o) s e m =
-    let t = s .takes m in
-    record { header = t .header; from-speaker = t .from-element; with-next = t .with-next; sealed = rw e (t .made-of) }
+    walk-acknowledge r buf (Speaking r e buf) (refused r e buf) net src (λ low. said r e buf low _)
+speaks r Stop = silent r 0 [] _ refl (stopped-next r)
 
 pub carries : Carried
-carries r c m = carried r c (step r c) (speaks r c) refl m
+carries r c m =
+    let t = speaks r c .takes m in
+    record { header = t .header; from-speaker = t .from-element; with-next = t .with-next; sealed = t .made-of }
 
 -- ---- a list of calls
--- no next SEQ falls, and the speaker's rises where a PDU is made
-module _ (r : Receiver) (c : Call) where
-  rises-by : (o : Outcome) → SpeaksBy r c o → (any : ℕ) → nextSeq r any ≤ nextSeq (left o) any
-  rises-by (Heard o) s = s
-  rises-by (Said o) s = s .rises
-  rises-by (Ended o) s = s
-
-  takes-by : (o : Outcome) → SpeaksBy r c o → Good r → made o ≡ true → nextSeq (left o) (speaker r c) ≡ nextSeq r (speaker r c) + 1
-  takes-by (Heard o) s g m = absurd (false≢true m)
-  takes-by (Ended o) s g m = absurd (false≢true m)
-  takes-by (Said o) s g m =
-      let low = s .within m in
-      let places = g .next-well .places in
-      s .takes m .raised (omega arith)
+-- the speaker's next SEQ rises where a PDU is made
+takes-next : (r : Receiver) (c : Call) → Good r → step r c .made ≡ true → nextSeq (step r c .receiver) (speaker r c) ≡ nextSeq r (speaker r c) + 1
+takes-next r c g m =
+    let low = speaks r c .within m in
+    let places = g .next-well .places in
+    speaks r c .takes m .raised (omega arith)
 
 -- every use of a list has at least the next SEQ of its element
 abbrev From : Receiver → List Use → Type 0
@@ -169,16 +160,17 @@ above-from u q e (v ∷ l) f =
 from-uses : (r : Receiver) (l : List Call) → From r (uses r l)
 from-uses r [] = tt {0}
 from-uses r (c ∷ l) =
-    let rest = from-earlier r (left (step r c)) (rises-by r c (step r c) (speaks r c)) (uses (left (step r c)) l) (from-uses (left (step r c)) l) in
-    by-choice (λ (us : List Use). From r (us ++ uses (left (step r c)) l)) (made (step r c)) (λ _. (omega arith, rest)) (λ _. rest)
+    let q = step r c .receiver in
+    let rest = from-earlier r q (speaks r c .rises) (uses q l) (from-uses q l) in
+    by-choice (λ (us : List Use). From r (us ++ uses q l)) (step r c .made) (λ _. (omega arith, rest)) (λ _. rest)
 
 pub rise : Rise
 rise r [] g = tt {0}
 rise r (c ∷ l) g =
-    let q = left (step r c) in
+    let q = step r c .receiver in
     let rest = rise q l (good-step r c g) in
-    by-choice (λ (us : List Use). Rising (us ++ uses q l)) (made (step r c))
-    (λ m. (above-from _ q (takes-by r c (step r c) (speaks r c) g m) (uses q l) (from-uses q l), rest))
+    by-choice (λ (us : List Use). Rising (us ++ uses q l)) (step r c .made)
+    (λ m. (above-from _ q (takes-next r c g m) (uses q l) (from-uses q l), rest))
     (λ _. rest)
 
 -- ---- so none is used twice

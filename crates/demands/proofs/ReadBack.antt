@@ -39,12 +39,11 @@ use Rattle.sending.specs.Request.{ttlOf}
 use Rattle.sending.specs.Transmission.{sendingIv, nextSeq, stamped}
 use Rattle.sending.proofs.Laws.Allowed.{whole-short}
 use Rattle.sending.proofs.Laws.Stamped.{stamps}
-use Rattle.demands.specs.Call.{Outcome, Said, step, left, run}
+use Rattle.demands.specs.Call.{Tried, Outcome, leftSaid, step, run}
 use Rattle.demands.specs.Interleaved as scene
 use Rattle.demands.specs.Interleaved.{Spent, start, nodeOf, speechAt, Each}
-use Rattle.demands.specs.NeverTwice.{made}
-use Rattle.demands.specs.ReadBack.{sayCall, restOf, pduMade, saidBy, OwnKeyFirst, Sending, Heard, ReadBack}
-use Rattle.demands.specs.Speech.{Words, Access, Control, Speech, akfOf, aidOf, octetsOf, lastOf, headerOf, segmentPdu, Speakable, Handed, handUp, Tried, networkPlace, applicationPlace}
+use Rattle.demands.specs.ReadBack.{sayCall, restAs, pduMade, saidBy, OwnKeyFirst, Sending, Heard, ReadBack}
+use Rattle.demands.specs.Speech.{Words, Access, Control, Speech, akfOf, aidOf, octetsOf, lastOf, headerOf, segmentPdu, Speakable, Handed, handUp, networkPlace, applicationPlace}
 use Rattle.demands.proofs.SaidLaws.{access-read, opcode-range, request-of, words-of, near, held, Kept, kept, access-stamped, control-stamped}
 use Rattle.demands.proofs.SceneLaws.{begins}
 use Rattle.demands.proofs.SegmentsHeard.{heard-in-order}
@@ -77,20 +76,20 @@ module _ (sender : Receiver) (setup : Setup) (q : Request) (words : Words) (buf 
   well = good-fresh setup (p .between .ready) .node-made
 
   -- ---- what was sent, by the answer to the first call
-  step-is : (ws : Words) → step sender (sayCall q ws buf) ≡ Said (sendingAs sender q ws buf)
+  step-is : (ws : Words) → step sender (sayCall q ws buf) ≡ leftSaid (sendingAs sender q ws buf)
   step-is (Access key szmic payload) = refl
   step-is (Control code parameters) = refl
 
   abbrev madeOf : Outcome → List (List ℕ)
-  madeOf o = pduMade o ∷ map pduMade (run (left o) (restOf o buf))
+  madeOf o = pduMade o ∷ map pduMade (run (o .receiver) (restAs (o .answer) buf))
 
   abbrev Made : Outcome → Type 0
-  Made o = Each (λ x. made x ≡ true) (o ∷ run (left o) (restOf o buf))
+  Made o = Each (λ x. x .made ≡ true) (o ∷ run (o .receiver) (restAs (o .answer) buf))
 
-  all-made : Made (Said said)
+  all-made : Made (leftSaid said)
   all-made = subst Made (step-is words) (p .sent)
 
-  all-first : Each (OwnKeyFirst node s) (madeOf (Said said))
+  all-first : Each (OwnKeyFirst node s) (madeOf (leftSaid said))
   all-first = subst (λ (o : Outcome). Each (OwnKeyFirst node s) (madeOf o)) (step-is words) (p .own-key-first)
 
   abbrev Read : List (List ℕ) → Type 0
@@ -136,7 +135,7 @@ module _ (sender : Receiver) (setup : Setup) (q : Request) (words : Words) (buf 
     can-zero : Can sender (p .between .good .node-made) node (p .between .shared) q there s refl o keeping first 0
     can-zero = can-said sender (p .between .good .node-made) node (p .between .shared) q there s refl o keeping first sender 0 refl zero-next _ _ (b .transmitted-is)
 
-    pdu-zero : pduMade (Said said) ≡ pduOfSegment 0
+    pdu-zero : pduMade (leftSaid said) ≡ pduOfSegment 0
     pdu-zero =
         rw (b .says)
         (pdu-said sender (p .between .good .node-made) node (p .between .shared) q there s refl o keeping first sender 0 refl zero-next (b .len) _ (b .transmitted-is))
@@ -158,9 +157,9 @@ module _ (sender : Receiver) (setup : Setup) (q : Request) (words : Words) (buf 
         rest-sent sender (p .between .good .node-made) node (p .between .shared) q there s refl o keeping first buf (said .answer .receiver) 1 last keeps-one
         (rw (b .says, last-is) at (all-made .1))
 
-    made-are : madeOf (Said said) ≡ tabFrom pduOfSegment 0 (suc last)
+    made-are : madeOf (leftSaid said) ≡ tabFrom pduOfSegment 0 (suc last)
     made-are =
-        ap (λ (x : List ℕ). x ∷ map pduMade (run (said .answer .receiver) (restOf (Said said) buf))) pdu-zero
+        ap (λ (x : List ℕ). x ∷ map pduMade (run (said .answer .receiver) (restAs (leftSaid said .answer) buf))) pdu-zero
         ∙ rw (b .says, last-is) (ap (λ (l : List (List ℕ)). pduOfSegment 0 ∷ l) (rest .pdus-are))
 
     -- the speech is one that the receiver is to read
@@ -205,7 +204,7 @@ module _ (sender : Receiver) (setup : Setup) (q : Request) (words : Words) (buf 
     one zero h = speaks
     one (suc k) h = absurd (omega arith)
 
-    read-segments : Read (madeOf (Said said))
+    read-segments : Read (madeOf (leftSaid said))
     read-segments =
         let x = heard-in-order node well s speaks spent (λ n. first + n) (ttlOf (q .ttl)) fwd msg wide big sent last 0 (omega arith) (start setup) (λ _. 0)
         (begins setup (p .between .ready) (s ∷ []) spent one) refl in
@@ -226,7 +225,7 @@ module _ (sender : Receiver) (setup : Setup) (q : Request) (words : Words) (buf 
         let e = sym (stamps sender (q .element) (headerAs sender q words) .key-stays) ∙ ap (λ (x : Header). x .key) shape in
         ap (keyAt (sender .node .materials)) e ∙ ap (λ (k : List NetworkKeys). keyAt k (q .network)) (p .between .shared .materials-same)
 
-    made-one : madeOf (Said said) ≡ pduOf key h ∷ []
+    made-one : madeOf (leftSaid said) ≡ pduOf key h ∷ []
     made-one = rw (b .says) (ap (λ (x : List ℕ). x ∷ []) (b .transmitted-is .pdu ∙ ap₂ pduOf own-key shape))
 
     can-one : sealable key h ≡ true
@@ -247,7 +246,7 @@ module _ (sender : Receiver) (setup : Setup) (q : Request) (words : Words) (buf 
 
     read-one :
         Reads setup (pduOf key h) fwd msg (handUp s) (record { network = networkPlace node s; application = applicationPlace node s words })
-        → Read (madeOf (Said said))
+        → Read (madeOf (leftSaid said))
     read-one g =
         subst Read (sym made-one)
         (record { hands = ap (λ (x : List Handed). x ∷ []) (g .hands); stores = tt {0}; counts = ap (λ (x : Tried). x ∷ []) (g .counts) })
@@ -257,7 +256,7 @@ module _ (sender : Receiver) (setup : Setup) (q : Request) (buf fwd msg : List �
   read-whole :
       (words : Words) (p : Sending sender setup q words buf) → allowedAs sender q words ≡ true → wholeAs sender q words ≡ true
       → (b : SaidBy sender (q .element) (headerAs sender q words) (sendingAs sender q words buf))
-      → Read sender setup q words buf fwd msg p wide big (madeOf sender setup q words buf fwd msg p wide big (Said (sendingAs sender q words buf)))
+      → Read sender setup q words buf fwd msg p wide big (madeOf sender setup q words buf fwd msg p wide big (leftSaid (sendingAs sender q words buf)))
   read-whole (Access key true payload) p a w b = absurd (true≢false (whole-short true (length payload) w .0))
   read-whole (Access key false payload) p a w b =
       let words = Access key false payload in
@@ -282,7 +281,7 @@ module _ (sender : Receiver) (setup : Setup) (q : Request) (buf fwd msg : List �
 
   read-way :
       (words : Words) (p : Sending sender setup q words buf) → Way sender q words (sendingAs sender q words buf)
-      → Read sender setup q words buf fwd msg p wide big (madeOf sender setup q words buf fwd msg p wide big (Said (sendingAs sender q words buf)))
+      → Read sender setup q words buf fwd msg p wide big (madeOf sender setup q words buf fwd msg p wide big (leftSaid (sendingAs sender q words buf)))
   read-way words p (Whole a w b) = read-whole words p a w b
   read-way words p (Begun a w b) = read-segments sender setup q words buf fwd msg p wide big a w b
 

@@ -17,11 +17,11 @@ use Rattle.common.proofs.Tests.{by-test}
 use Rattle.node.specs.declared.addresses.Node.{Node}
 use Rattle.node.specs.Made.{WellMade}
 use Rattle.receiver.specs.declared.state.Receiver.{Receiver}
-use Rattle.demands.specs.Call.{Hear, step, left, run}
+use Rattle.demands.specs.Call.{Hear, Tried, step, run}
 use Rattle.demands.specs.Interleaved as scene
-use Rattle.demands.specs.Interleaved.{Segment, speechAt, comeWith, isLastMissing, Spent, handed, tried}
+use Rattle.demands.specs.Interleaved.{Segment, speechAt, comeWith, isLastMissing, Spent, handed}
 use Rattle.demands.specs.ReadBack.{lastOnly, storedFirst, countedLast, hearAll}
-use Rattle.demands.specs.Speech.{Speech, lastOf, segmentPdu, Speakable, Handed, handUp, Tried, networkPlace}
+use Rattle.demands.specs.Speech.{Speech, lastOf, segmentPdu, Speakable, Handed, handUp, networkPlace}
 use Rattle.demands.proofs.ArrivalLaws.{Next, event-next}
 use Rattle.demands.proofs.SceneLaws.{Scenery}
 use Rattle.demands.proofs.SpeechCut.{last-low}
@@ -92,7 +92,7 @@ module _ (node : Node) (made : WellMade node) (s : Speech) (w : Speakable node s
   pub record InOrder (r : Receiver) (n m : ℕ) : Type 0 where
     pub hands : map handed (run r (hearAll fwd msg (told n m))) ≡ lastOnly (handUp s) (told n m)
     pub stores : storedFirst (run r (hearAll fwd msg (told n m)))
-    pub counts : map tried (run r (hearAll fwd msg (told n m))) ≡ countedLast node s (told n m)
+    pub counts : map (λ o. o .tried) (run r (hearAll fwd msg (told n m))) ≡ countedLast node s (told n m)
 
   pub heard-in-order :
       (m n : ℕ) → n + m ≡ lastOf node s → (r : Receiver) (filled : ℕ → ℕ) → Scenery node (s ∷ []) spent r filled → filled 0 ≡ below n → InOrder r n m
@@ -105,7 +105,7 @@ module _ (node : Node) (made : WellMade node) (s : Speech) (w : Speakable node s
   heard-in-order (suc m) n e r filled sc f =
       let low = last-low node s w in
       let x = next r filled sc n (omega arith) in
-      let y = heard-in-order m (suc n) (omega arith) (left (step r (Hear (pduAt n) fwd msg))) (λ k. comeWith k (filled k) (Segment 0 n (number n) ttl)) (x .scenery)
+      let y = heard-in-order m (suc n) (omega arith) (step r (Hear (pduAt n) fwd msg) .receiver) (λ k. comeWith k (filled k) (Segment 0 n (number n) ttl)) (x .scenery)
       (rw f (below-more n (omega arith))) in
       let b = not-last n (lastOf node s) (omega arith) low in
       record {

@@ -28,9 +28,8 @@ use Rattle.sending.specs.Transmission.{addressOf, nextSeq, stamped}
 use Rattle.sending.proofs.Laws.Calls.{walk-segment}
 use Rattle.sending.proofs.Laws.Stamped.{element-back}
 use Rattle.sending.proofs.Laws.Transmitted.{used, saying}
-use Rattle.demands.specs.Call.{Call, SendSegment, Outcome, step, left, run}
+use Rattle.demands.specs.Call.{Call, SendSegment, Outcome, madeBy, step, run}
 use Rattle.demands.specs.Interleaved.{Each}
-use Rattle.demands.specs.NeverTwice.{madeBy, made}
 use Rattle.demands.specs.ReadBack.{Shared, pduMade}
 use Rattle.demands.specs.Speech.{Speech, headerOf, segmentPdu}
 use Rattle.demands.proofs.SaidLaws.{Kept, header-said, key-said}
@@ -106,9 +105,9 @@ module _ (sender : Receiver) (made-node : WellMade (sender .node)) (node : Node)
   pub record SaidAt (r : Receiver) (n : ℕ) (out : Outcome) : Type 0 where
     pub can : Can n
     pub pdu : pduMade out ≡ pduAt n
-    pub keeps : Keeps (left out) (suc n)
+    pub keeps : Keeps (out .receiver) (suc n)
 
-  pub said-at : (r : Receiver) (n : ℕ) → Keeps r n → (buf : List ℕ) → made (step r (SendSegment n buf)) ≡ true → SaidAt r n (step r (SendSegment n buf))
+  pub said-at : (r : Receiver) (n : ℕ) → Keeps r n → (buf : List ℕ) → step r (SendSegment n buf) .made ≡ true → SaidAt r n (step r (SendSegment n buf))
   said-at r n k buf m =
       let b = segment-said r n k buf m in
       record {
@@ -125,11 +124,11 @@ module _ (sender : Receiver) (made-node : WellMade (sender .node)) (node : Node)
     pub pdus-are : map pduMade (run r (rest buf n m)) ≡ tabFrom pduAt n m
     pub can : (j : ℕ) → n ≤ j → j < n + m → Can j
 
-  pub rest-sent : (buf : List ℕ) (r : Receiver) (n m : ℕ) → Keeps r n → Each (λ x. made x ≡ true) (run r (rest buf n m)) → Rest buf r n m
+  pub rest-sent : (buf : List ℕ) (r : Receiver) (n m : ℕ) → Keeps r n → Each (λ x. x .made ≡ true) (run r (rest buf n m)) → Rest buf r n m
   rest-sent buf r n zero k e = record { pdus-are = refl; can = λ j l h. absurd (omega arith) }
   rest-sent buf r n (suc m) k e =
       let x = said-at r n k buf (e .0) in
-      let y = rest-sent buf (left (step r (SendSegment n buf))) (suc n) m (x .keeps) (e .1) in
+      let y = rest-sent buf (step r (SendSegment n buf) .receiver) (suc n) m (x .keeps) (e .1) in
       record {
         pdus-are = rw (x .pdu, y .pdus-are) refl;
         can = λ j l h.

@@ -28,7 +28,7 @@ use Rattle.sending.specs.Segment.{segmentHeader, starting}
 use Rattle.sending.specs.Transmission.{sendingIv, stamped}
 use Rattle.sending.proofs.Laws.Calls.{accessHeader, walk-access, walk-control}
 use Rattle.sending.proofs.Laws.Transmitted.{used, saying, pduBy, Sends, by-saying, by-starting}
-use Rattle.demands.specs.NeverTwice.{madeBy}
+use Rattle.demands.specs.Call.{madeBy}
 use Rattle.demands.specs.Speech.{Words, Access, Control}
 
 -- ---- a transmission

@@ -36,6 +36,7 @@ use Rattle.receiver.specs.Good.{Good}
 use Rattle.receiver.specs.Segmented as segments
 use Rattle.receiver.specs.State.{withReplay, withSession}
 use Rattle.receiver.proofs.Laws.Segment.{placed-last, placed-repeat, placed-join, placed-open, gathered-stored, gathered-up, upgraded-is}
+use Rattle.demands.specs.Call.{Heard}
 use Rattle.demands.specs.Interleaved.{isLastMissing, handedAs}
 use Rattle.demands.specs.Speech.{Words, Access, Control, Speech, lastOf, headerOf, Speakable, handUpAs, handUp, applicationPlace}
 use Rattle.demands.proofs.GatherLaws.{Holds, holds-begun, segment-stored, newLen, newBytes, holds-more, holds-all}
@@ -46,7 +47,7 @@ use Rattle.demands.proofs.StageLaws.{segmentAt, keyOf, Unheard, Stage, 
 -- what was taken in r is t: a segment of s, of which these places were filled
 pub record Step (node : Node) (s : Speech) (r : Receiver) (bits i : ℕ) (t : Lent Taken) : Type 0 where
   -- the message is handed up where this was the last segment that was missing
-  pub due : handedAs (t .answer .answer) (t .buffer) ≡ (if isLastMissing bits i (lastOf node s) then handUp s ∷ [] else [])
+  pub due : handedAs (Heard (t .answer .answer)) (t .buffer) ≡ (if isLastMissing bits i (lastOf node s) then handUp s ∷ [] else [])
   -- it is stored where it is new and another is missing
   pub stores :
       hasBit bits i ≡ false → eqb (withBit bits i) (allBits (lastOf node s)) ≡ false → t .answer .answer ≡ Stored (s .src) (s .auth) (withBit bits i)
@@ -71,7 +72,7 @@ last-missing : (bits i segN : ℕ) → hasBit bits i ≡ false → (all : Bool) 
 last-missing bits i segN fresh all e = rw fresh e
 
 -- what is handed up is no other answer, and its octets are read back
-handed-up : (s : Speech) (ws : Words) (msg : List ℕ) → handedAs (handUpAs s ws .answer) (onto (handUpAs s ws .octets) msg) ≡ handUpAs s ws ∷ []
+handed-up : (s : Speech) (ws : Words) (msg : List ℕ) → handedAs (Heard (handUpAs s ws .answer)) (onto (handUpAs s ws .octets) msg) ≡ handUpAs s ws ∷ []
 handed-up s (Access key szmic payload) msg =
     ap (λ (l : List ℕ). record { answer = handUpAs s (Access key szmic payload) .answer; octets = l } ∷ []) (take-append-seam payload _)
 handed-up s (Control code parameters) msg =
@@ -83,7 +84,7 @@ module _ (node : Node) (made : WellMade node) (s : Speech) (w : Speakable node s
     low = let l = last-low node s w in omega arith
 
     -- ---- a repeat
-    again : hasBit bits i ≡ true → Stage node s (r .replay) (r .sessions) bits → (a : Answer) → handedAs a msg ≡ []
+    again : hasBit bits i ≡ true → Stage node s (r .replay) (r .sessions) bits → (a : Answer) → handedAs (Heard a) msg ≡ []
         → Step node s r bits i (lent (record { answer = a; trials = 0; receiver = r }) msg)
     again b st a e =
         record {

@@ -33,14 +33,14 @@ use Rattle.receiver.specs.Whole as whole
 use Rattle.receiver.proofs.Laws.Form.{taken-access, taken-control}
 use Rattle.receiver.proofs.Laws.Fresh.{fresh-unseen, fresh-admits}
 use Rattle.receiver.proofs.Laws.Heard.{heard-new}
-use Rattle.demands.specs.Call.{Hear, step}
-use Rattle.demands.specs.Interleaved.{start, nodeOf, handedAs, handed, tried}
-use Rattle.demands.specs.Speech.{Handed, Tried}
+use Rattle.demands.specs.Call.{Hear, Heard, Tried, step}
+use Rattle.demands.specs.Interleaved.{start, nodeOf, handedAs, handed}
+use Rattle.demands.specs.Speech.{Handed}
 
 -- what a fresh receiver hands up of one PDU, and the keys that it counts
 pub record Reads (setup : Setup) (pdu fwd msg : List ℕ) (m : Handed) (n : Tried) : Type 0 where
   pub hands : handed (step (start setup) (Hear pdu fwd msg)) ≡ m ∷ []
-  pub counts : tried (step (start setup) (Hear pdu fwd msg)) ≡ n
+  pub counts : step (start setup) (Hear pdu fwd msg) .tried ≡ n
 
 module _ (setup : Setup) (h : Header) (sealed : sealable (keyAt (nodeOf setup .materials) (h .key)) h ≡ true) (formed : Formed h)
     (receives : Receives (nodeOf setup .materials) (nodeOf setup .networks) (nodeOf setup .iv) h (pduOf (keyAt (nodeOf setup .materials) (h .key)) h))
@@ -58,8 +58,8 @@ module _ (setup : Setup) (h : Header) (sealed : sealable (keyAt (nodeOf setup .m
 
   -- what is handed up and counted is what the message of its form hands up and counts
   record Whole (t : Lent Taken) : Type 0 where
-    hands-as : handed (step (start setup) (Hear pdu fwd msg)) ≡ handedAs (t .answer .answer) (t .buffer)
-    tried-as : tried (step (start setup) (Hear pdu fwd msg)) ≡ record { network = place; application = t .answer .trials }
+    hands-as : handed (step (start setup) (Hear pdu fwd msg)) ≡ handedAs (Heard (t .answer .answer)) (t .buffer)
+    tried-as : step (start setup) (Hear pdu fwd msg) .tried ≡ record { network = place; application = t .answer .trials }
 
   heard-whole : (t : Lent Taken) → takenAs (formOf h) q h msg ≡ t → Whole t
   heard-whole t e =

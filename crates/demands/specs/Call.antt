@@ -1,17 +1,22 @@
 -- The receiver's public calls, what each leaves, and a run of them: what the theorems about lists of calls speak of.
 --   Call         one call, with what it is given and the buffers that it is lent
---   step r c     what call c leaves of receiver r: its answer, the new state, the lent buffers
+--   Outcome      what a call leaves: the new state, its answer, the lent buffers, the PDU that it made, the keys tried
+--   step r c     what call c leaves of receiver r
 --   run r l      what each call of a list leaves
 --   after r l    the receiver behind the last
-use mathlib.Core.Bool.{Bool}
+use mathlib.Core.Bool.{Bool, true, false}
 use mathlib.Core.List.{List, [], _∷_}
 use Prim.Native.Nat.{ℕ}
 use Rattle.common.specs.Lent.{Lent}
 use Rattle.transport.specs.declared.securing.MessageKey.{MessageKey}
+use Rattle.receiver.specs.declared.answer.Answer as heard-answer
+use Rattle.receiver.specs.declared.give_up.Answer as ended-answer
 use Rattle.receiver.specs.declared.give_up.GivenUp.{GivenUp}
 use Rattle.receiver.specs.declared.state.Receiver.{Receiver}
 use Rattle.receiver.specs.GiveUp.{givingUp}
 use Rattle.receiver.specs.Hearing as hear
+use Rattle.sending.specs.declared.answer.Answer as said-answer
+use Rattle.sending.specs.declared.answer.Answer.the-variants.{Sent, Started, Refused}
 use Rattle.sending.specs.declared.answer.Spoken.{Spoken}
 use Rattle.sending.specs.declared.request.Request.{Request}
 use Rattle.sending.specs.Access.{sendingAccess}
@@ -32,32 +37,92 @@ pub data Call : Type 0 where
   Acknowledge : (net src : ℕ) (buf : List ℕ) → Call
   Stop : Call
 
--- what a call leaves
-pub data Outcome : Type 0 where
-  Heard : hear.Outcome → Outcome
-  Said : Lent Spoken → Outcome
-  Ended : GivenUp → Outcome
+-- ---- what a call leaves
+-- what it answers, by the kind of call
+pub data Answer : Type 0 where
+  Heard : heard-answer.Answer → Answer
+  Said : said-answer.Answer → Answer
+  Ended : ended-answer.Answer → Answer
+
+-- how many keys an answer counts as tried
+pub record Tried : Type 0 where
+  pub network : ℕ
+  pub application : ℕ
+
+pub record Outcome : Type 0 where
+  -- the new state
+  pub receiver : Receiver
+  pub answer : Answer
+  -- the buffers that it was lent for a PDU and for a message, as they are left; empty where it was lent none
+  pub pdu : List ℕ
+  pub message : List ℕ
+  -- a PDU of its own was made, and how many octets of the buffer are a PDU: that one, or the one forwarded
+  pub made : Bool
+  pub octets : ℕ
+  pub tried : Tried
+
+-- the answer of a call that sends tells of a PDU, and of its octets
+abbrev pub madeBy : said-answer.Answer → Bool
+madeBy (Sent len) = true
+madeBy (Started len segN) = true
+madeBy (Refused n) = false
+
+abbrev pub lengthBy : said-answer.Answer → ℕ
+lengthBy (Sent len) = len
+lengthBy (Started len segN) = len
+lengthBy (Refused n) = 0
+
+-- of hearing, sending, and giving up a session or the outgoing message
+abbrev pub leftHeard : hear.Outcome → Outcome
+leftHeard o =
+    record {
+      receiver = o .heard .receiver;
+      answer = Heard (o .heard .answer);
+      pdu = o .forward;
+      message = o .message;
+      made = false;
+      octets = o .heard .forwarded;
+      tried = record { network = o .heard .network; application = o .heard .application };
+    }
+
+abbrev pub leftSaid : Lent Spoken → Outcome
+leftSaid s =
+    record {
+      receiver = s .answer .receiver;
+      answer = Said (s .answer .answer);
+      pdu = s .buffer;
+      message = [];
+      made = madeBy (s .answer .answer);
+      octets = lengthBy (s .answer .answer);
+      tried = record { network = 0; application = 0 };
+    }
+
+abbrev pub leftEnded : GivenUp → Outcome
+leftEnded g =
+    record {
+      receiver = g .receiver;
+      answer = Ended (g .answer);
+      pdu = [];
+      message = [];
+      made = false;
+      octets = 0;
+      tried = record { network = 0; application = 0 };
+    }
 
 abbrev pub step : Receiver → Call → Outcome
-step r (Hear pdu fwd msg) = Heard (hear.hearing r pdu fwd msg)
-step r (GiveUp src) = Ended (givingUp r src)
-step r (SendAccess q key szmic payload buf) = Said (sendingAccess r q key szmic payload buf)
-step r (SendControl q opcode parameters buf) = Said (sendingControl r q opcode parameters buf)
-step r (SendSegment n buf) = Said (sendingSegment r n buf)
-step r (Acknowledge net src buf) = Said (acknowledging r net src buf)
-step r Stop = Ended (stopping r)
-
--- the new state
-abbrev pub left : Outcome → Receiver
-left (Heard o) = o .heard .receiver
-left (Said s) = s .answer .receiver
-left (Ended g) = g .receiver
+step r (Hear pdu fwd msg) = leftHeard (hear.hearing r pdu fwd msg)
+step r (GiveUp src) = leftEnded (givingUp r src)
+step r (SendAccess q key szmic payload buf) = leftSaid (sendingAccess r q key szmic payload buf)
+step r (SendControl q opcode parameters buf) = leftSaid (sendingControl r q opcode parameters buf)
+step r (SendSegment n buf) = leftSaid (sendingSegment r n buf)
+step r (Acknowledge net src buf) = leftSaid (acknowledging r net src buf)
+step r Stop = leftEnded (stopping r)
 
 -- each call finds what the one before it left
 abbrev pub run : Receiver → List Call → List Outcome
 run r [] = []
-run r (c ∷ l) = step r c ∷ run (left (step r c)) l
+run r (c ∷ l) = step r c ∷ run (step r c .receiver) l
 
 abbrev pub after : Receiver → List Call → Receiver
 after r [] = r
-after r (c ∷ l) = after (left (step r c)) l
+after r (c ∷ l) = after (step r c .receiver) l

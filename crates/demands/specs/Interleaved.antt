@@ -26,15 +26,15 @@ use Rattle.memory.specs.Session.{noSessions}
 use Rattle.node.specs.declared.addresses.Node.{Node}
 use Rattle.node.specs.declared.setup.Setup.{Setup}
 use Rattle.receiver.specs.declared.fresh.Answer.the-variants.{Ready}
-use Rattle.receiver.specs.declared.answer.Answer.{Answer}
+use Rattle.receiver.specs.declared.answer.Answer as heard-answer
 use Rattle.receiver.specs.declared.answer.Answer.the-variants as answer
 use Rattle.receiver.specs.declared.state.Receiver.{Receiver}
 use Rattle.receiver.specs.Fresh.{settingUp}
 use Rattle.sending.specs.Acknowledge.{acknowledging, sayingAcknowledgement}
 use Rattle.sending.specs.Segment.{elementOf}
-use Rattle.demands.specs.Call.{Call, Hear, Acknowledge, Outcome, Heard, Said, Ended, step, run, after}
+use Rattle.demands.specs.Call.{Call, Hear, Acknowledge, Answer, Heard, Said, Ended, Outcome, step, run, after}
 use Rattle.demands.specs.Refusal.{noKeyOpens}
-use Rattle.demands.specs.Speech.{Control, Speech, lastOf, headerOf, segmentPdu, Speakable, Handed, handUp, Tried}
+use Rattle.demands.specs.Speech.{Control, Speech, lastOf, headerOf, segmentPdu, Speakable, Handed, handUp}
 
 -- ---- a fresh receiver
 abbrev pub start : Setup → Receiver
@@ -156,38 +156,29 @@ AllCome setup speeches l = (k i : ℕ) → k < length speeches → i ≤ lastOf 
 
 -- ---- 1: the answer to an arrival hands up a message exactly where that arrival brings its last missing segment
 abbrev pub handedAs : Answer → List ℕ → List Handed
-handedAs (answer.Refused n) msg = []
-handedAs (answer.Stored src auth bits) msg = []
-handedAs (answer.Repeated src auth bits) msg = []
-handedAs (answer.Access src dst net key pair len) msg = record { answer = answer.Access src dst net key pair len; octets = take len msg } ∷ []
-handedAs (answer.Control src dst net opcode pair len) msg = record { answer = answer.Control src dst net opcode pair len; octets = take len msg } ∷ []
-handedAs (answer.Acknowledgement src bits effect) msg = []
+handedAs (Heard (answer.Refused n)) msg = []
+handedAs (Heard (answer.Stored src auth bits)) msg = []
+handedAs (Heard (answer.Repeated src auth bits)) msg = []
+handedAs (Heard (answer.Access src dst net key pair len)) msg = record { answer = answer.Access src dst net key pair len; octets = take len msg } ∷ []
+handedAs (Heard (answer.Control src dst net opcode pair len)) msg = record { answer = answer.Control src dst net opcode pair len; octets = take len msg } ∷ []
+handedAs (Heard (answer.Acknowledgement src bits effect)) msg = []
+handedAs (Said a) msg = []
+handedAs (Ended a) msg = []
 
 -- what a call hands up: its answer, with as many octets of the message buffer as it tells
 abbrev pub handed : Outcome → List Handed
-handed (Heard o) = handedAs (o .heard .answer) (o .message)
-handed (Said s) = []
-handed (Ended g) = []
+handed o = handedAs (o .answer) (o .message)
 
 -- a segment was stored
-abbrev pub storedAs : Answer → Bool
-storedAs (answer.Refused n) = false
-storedAs (answer.Stored src auth bits) = true
-storedAs (answer.Repeated src auth bits) = false
-storedAs (answer.Access src dst net key pair len) = false
-storedAs (answer.Control src dst net opcode pair len) = false
-storedAs (answer.Acknowledgement src bits effect) = false
-
-abbrev pub isStored : Outcome → Bool
-isStored (Heard o) = storedAs (o .heard .answer)
-isStored (Said s) = false
-isStored (Ended g) = false
-
--- how many keys an answer counts as tried
-abbrev pub tried : Outcome → Tried
-tried (Heard o) = record { network = o .heard .network; application = o .heard .application }
-tried (Said s) = record { network = 0; application = 0 }
-tried (Ended g) = record { network = 0; application = 0 }
+abbrev pub isStored : Answer → Bool
+isStored (Heard (answer.Refused n)) = false
+isStored (Heard (answer.Stored src auth bits)) = true
+isStored (Heard (answer.Repeated src auth bits)) = false
+isStored (Heard (answer.Access src dst net key pair len)) = false
+isStored (Heard (answer.Control src dst net opcode pair len)) = false
+isStored (Heard (answer.Acknowledgement src bits effect)) = false
+isStored (Said a) = false
+isStored (Ended a) = false
 
 abbrev pub dueAs : Node → List Speech → List Arrival → Event → List Handed
 dueAs node speeches before (Segment k i seq ttl) =
@@ -234,7 +225,7 @@ inTurn zero l = []
 inTurn (suc n) l = inTurn n l ++ arrivalsOf n l
 
 -- all that a run hands up of a source
-abbrev pub sourceOf : Answer → ℕ
+abbrev pub sourceOf : heard-answer.Answer → ℕ
 sourceOf (answer.Refused n) = 0
 sourceOf (answer.Stored src auth bits) = src
 sourceOf (answer.Repeated src auth bits) = src

@@ -6,11 +6,11 @@ use Rattle.receiver.specs.declared.fresh.Answer.the-variants.{Ready}
 use Rattle.receiver.specs.declared.state.Receiver.{Receiver}
 use Rattle.receiver.specs.Fresh.{settingUp}
 use Rattle.receiver.specs.Good.{Good}
-use Rattle.demands.specs.Call.{Call, step, left, after}
+use Rattle.demands.specs.Call.{Call, step, after}
 
 -- kept by every call
 abbrev pub GoodStep : Type 0
-GoodStep = (r : Receiver) (c : Call) → Good r → Good (left (step r c))
+GoodStep = (r : Receiver) (c : Call) → Good r → Good (step r c .receiver)
 
 -- true after setup and any list of calls
 abbrev pub GoodAfter : Type 0

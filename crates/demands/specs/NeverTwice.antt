@@ -5,7 +5,7 @@
 --   uses r l          what the calls of a list use, in their order
 --   Carried           the PDU that a call makes carries what it used, and no other call makes one
 --   Rise, NeverTwice  the two promises
-use mathlib.Core.Bool.{Bool, true, false}
+use mathlib.Core.Bool.{true}
 use mathlib.Core.List.{List, [], _∷_, _++_}
 use mathlib.Core.Path.{_≡_}
 use Prim.Native.Nat.{ℕ, _<_}
@@ -17,12 +17,10 @@ use Rattle.network.specs.Candidates.{keyAt}
 use Rattle.network.specs.Sealing.{sealing}
 use Rattle.receiver.specs.declared.state.Receiver.{Receiver}
 use Rattle.receiver.specs.Good.{Good}
-use Rattle.sending.specs.declared.answer.Answer.{Answer}
-use Rattle.sending.specs.declared.answer.Answer.the-variants.{Sent, Started, Refused}
 use Rattle.sending.specs.Acknowledge.{chosen}
 use Rattle.sending.specs.Segment.{elementOf}
 use Rattle.sending.specs.Transmission.{addressOf, nextSeq}
-use Rattle.demands.specs.Call.{Call, Hear, GiveUp, SendAccess, SendControl, SendSegment, Acknowledge, Stop, Outcome, Heard, Said, Ended, step, left}
+use Rattle.demands.specs.Call.{Call, Hear, GiveUp, SendAccess, SendControl, SendSegment, Acknowledge, Stop, step}
 
 -- an element, by its number, and a sequence number of it
 pub record Use : Type 0 where
@@ -39,29 +37,18 @@ speaker r (SendSegment n buf) = elementOf (r .node) (r .out .src)
 speaker r (Acknowledge net src buf) = elementOf (r .node) (chosen (r .replay) (r .sessions) src .dst)
 speaker r Stop = 0
 
--- the answer tells of a PDU
-abbrev pub madeBy : Answer → Bool
-madeBy (Sent len) = true
-madeBy (Started len segN) = true
-madeBy (Refused n) = false
-
-abbrev pub made : Outcome → Bool
-made (Heard o) = false
-made (Said s) = madeBy (s .answer .answer)
-made (Ended g) = false
-
 -- what a call uses
 abbrev pub used : Receiver → Call → List Use
 used r c =
-    if made (step r c) then record { element = speaker r c; seq = nextSeq r (speaker r c) } ∷ [] else
+    if step r c .made then record { element = speaker r c; seq = nextSeq r (speaker r c) } ∷ [] else
     []
 
 abbrev pub uses : Receiver → List Call → List Use
 uses r [] = []
-uses r (c ∷ l) = used r c ++ uses (left (step r c)) l
+uses r (c ∷ l) = used r c ++ uses (step r c .receiver) l
 
 -- ---- what is used is what is sent
--- the buffer that a call is lent for a PDU, and what it holds afterwards
+-- the buffer that a call is lent for a PDU that it makes
 abbrev pub lentFor : Call → List ℕ
 lentFor (Hear pdu fwd msg) = []
 lentFor (GiveUp src) = []
@@ -71,31 +58,15 @@ lentFor (SendSegment n buf) = buf
 lentFor (Acknowledge net src buf) = buf
 lentFor Stop = []
 
-abbrev pub holds : Outcome → List ℕ
-holds (Heard o) = []
-holds (Said s) = s .buffer
-holds (Ended g) = []
-
--- the octets of a PDU, as the answer tells them
-abbrev pub lengthBy : Answer → ℕ
-lengthBy (Sent len) = len
-lengthBy (Started len segN) = len
-lengthBy (Refused n) = 0
-
-abbrev pub octetsMade : Outcome → ℕ
-octetsMade (Heard o) = 0
-octetsMade (Said s) = lengthBy (s .answer .answer)
-octetsMade (Ended g) = 0
-
 -- the PDU was sealed from a header with the speaker's address and next SEQ, and what sealing left is what the call leaves
 pub record Carries (r : Receiver) (c : Call) : Type 0 where
   pub header : Header
   pub from-speaker : header .src ≡ addressOf (r .node) (speaker r c)
   pub with-next : header .seq ≡ nextSeq r (speaker r c)
-  pub sealed : sealing (keyAt (r .node .materials) (header .key)) header (lentFor c) ≡ lent (Sealed (octetsMade (step r c))) (holds (step r c))
+  pub sealed : sealing (keyAt (r .node .materials) (header .key)) header (lentFor c) ≡ lent (Sealed (step r c .octets)) (step r c .pdu)
 
 abbrev pub Carried : Type 0
-Carried = (r : Receiver) (c : Call) → made (step r c) ≡ true → Carries r c
+Carried = (r : Receiver) (c : Call) → step r c .made ≡ true → Carries r c
 
 -- ---- the promises
 -- every later use of the same element has a greater SEQ

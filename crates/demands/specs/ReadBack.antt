@@ -22,17 +22,15 @@ use Rattle.receiver.specs.declared.fresh.Answer.the-variants.{Ready}
 use Rattle.receiver.specs.declared.state.Receiver.{Receiver}
 use Rattle.receiver.specs.Fresh.{settingUp}
 use Rattle.receiver.specs.Good.{Good}
-use Rattle.sending.specs.declared.answer.Answer.{Answer}
 use Rattle.sending.specs.declared.answer.Answer.the-variants.{Sent, Started, Refused}
 use Rattle.sending.specs.declared.request.Request.{Request}
 use Rattle.sending.specs.Access.{accessAllowed}
 use Rattle.sending.specs.Control.{controlAllowed}
 use Rattle.sending.specs.Transmission.{sendingIv, addressOf, nextSeq}
-use Rattle.demands.specs.Call.{Call, Hear, SendAccess, SendControl, SendSegment, Outcome, Said, Ended, step, run}
+use Rattle.demands.specs.Call.{Call, Hear, SendAccess, SendControl, SendSegment, Said, Ended, Tried, Outcome, step, run}
 use Rattle.demands.specs.Call as call
-use Rattle.demands.specs.Interleaved.{start, nodeOf, Each, handed, isStored, tried}
-use Rattle.demands.specs.NeverTwice.{made, holds, octetsMade}
-use Rattle.demands.specs.Speech.{Words, Access, Control, Speech, envelopeOf, octetsOf, Handed, handUp, Tried, networkPlace, applicationPlace}
+use Rattle.demands.specs.Interleaved.{start, nodeOf, Each, handed, isStored}
+use Rattle.demands.specs.Speech.{Words, Access, Control, Speech, envelopeOf, octetsOf, Handed, handUp, networkPlace, applicationPlace}
 
 -- ---- the sender
 -- the call that sends a message
@@ -41,22 +39,19 @@ sayCall q (Access key szmic payload) buf = SendAccess q key szmic payload buf
 sayCall q (Control opcode parameters) buf = SendControl q opcode parameters buf
 
 -- a message that was begun with segment 0 has segments 1 to SegN besides
-abbrev pub restAs : Answer → List ℕ → List Call
-restAs (Sent len) buf = []
-restAs (Started len segN) buf = tabFrom (λ n. SendSegment n buf) 1 segN
-restAs (Refused n) buf = []
-
-abbrev pub restOf : Outcome → List ℕ → List Call
-restOf (call.Heard o) buf = []
-restOf (Said s) buf = restAs (s .answer .answer) buf
-restOf (Ended g) buf = []
+abbrev pub restAs : call.Answer → List ℕ → List Call
+restAs (Said (Sent len)) buf = []
+restAs (Said (Started len segN)) buf = tabFrom (λ n. SendSegment n buf) 1 segN
+restAs (Said (Refused n)) buf = []
+restAs (call.Heard a) buf = []
+restAs (Ended a) buf = []
 
 abbrev pub sentInFull : Receiver → Request → Words → List ℕ → List Call
-sentInFull sender q words buf = let c = sayCall q words buf in c ∷ restOf (step sender c) buf
+sentInFull sender q words buf = let c = sayCall q words buf in c ∷ restAs (step sender c .answer) buf
 
 -- the PDU that a call made
 abbrev pub pduMade : Outcome → List ℕ
-pduMade o = take (octetsMade o) (holds o)
+pduMade o = take (o .octets) (o .pdu)
 
 abbrev pub outcomes : Receiver → Request → Words → List ℕ → List Outcome
 outcomes sender q words buf = run sender (sentInFull sender q words buf)
@@ -112,7 +107,7 @@ pub record Between (sender : Receiver) (setup : Setup) (q : Request) (words : Wo
 pub record Sending (sender : Receiver) (setup : Setup) (q : Request) (words : Words) (buf : List ℕ) : Type 0 where
   pub between : Between sender setup q words
   -- each call made a PDU: the message was sent in full
-  pub sent : Each (λ o. made o ≡ true) (outcomes sender q words buf)
+  pub sent : Each (λ o. o .made ≡ true) (outcomes sender q words buf)
   pub own-key-first : Each (OwnKeyFirst (nodeOf setup) (saidBy sender q words)) (pdus sender q words buf)
 
 -- ---- the promise
@@ -125,7 +120,7 @@ lastOnly m (p ∷ r ∷ l) = [] ∷ lastOnly m (r ∷ l)
 abbrev pub storedFirst : List Outcome → Type 0
 storedFirst [] = Unit {0}
 storedFirst (o ∷ []) = Unit {0}
-storedFirst (o ∷ p ∷ l) = (isStored o ≡ true) × storedFirst (p ∷ l)
+storedFirst (o ∷ p ∷ l) = (isStored (o .answer) ≡ true) × storedFirst (p ∷ l)
 
 abbrev pub hearAll : List ℕ → List ℕ → List (List ℕ) → List Call
 hearAll fwd msg l = map (λ p. Hear p fwd msg) l
@@ -139,7 +134,7 @@ countedLast node s (p ∷ r ∷ l) = record { network = networkPlace node s; app
 pub record Heard (setup : Setup) (s : Speech) (fwd msg : List ℕ) (l : List (List ℕ)) : Type 0 where
   pub hands : map handed (run (start setup) (hearAll fwd msg l)) ≡ lastOnly (handUp s) l
   pub stores : storedFirst (run (start setup) (hearAll fwd msg l))
-  pub counts : map tried (run (start setup) (hearAll fwd msg l)) ≡ countedLast (nodeOf setup) s l
+  pub counts : map (λ o. o .tried) (run (start setup) (hearAll fwd msg l)) ≡ countedLast (nodeOf setup) s l
 
 abbrev pub ReadBack : Type 0
 ReadBack =
@@ -160,4 +155,4 @@ abbrev pub GoesOut : Type 0
 GoesOut =
     (sender : Receiver) (setup : Setup) (q : Request) (words : Words) (buf : List ℕ)
     → Between sender setup q words → accepted sender q words ≡ true → 29 ≤ length buf → nextSeq sender (q .element) + 31 ≤ 0xFFFFFF
-    → Each (λ o. made o ≡ true) (outcomes sender q words buf)
+    → Each (λ o. o .made ≡ true) (outcomes sender q words buf)

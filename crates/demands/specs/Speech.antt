@@ -170,11 +170,6 @@ abbrev pub handUp : Speech → Handed
 handUp s = handUpAs s (s .words)
 
 -- ---- how many keys are tried
--- what an answer counts
-pub record Tried : Type 0 where
-  pub network : ℕ
-  pub application : ℕ
-
 -- the place, from 1, of the message's network key among those with its NID
 abbrev pub networkPlace : Node → Speech → ℕ
 networkPlace node s = length (candidates (node .materials) (s .network) (keyAt (node .materials) (s .network) .nid)) + 1
