@@ -17,7 +17,9 @@ use Rattle.network.specs.declared.header.Header.{Header}
 use Rattle.network.specs.declared.sealing.Answer.the-variants.{Sealed}
 use Rattle.network.specs.Candidates.{keyAt}
 use Rattle.network.specs.Sealing.{sealing}
+use Rattle.transport.specs.declared.securing.Envelope.{Envelope}
 use Rattle.memory.specs.declared.outgoing.Outgoing.{Outgoing}
+use Rattle.memory.specs.declared.pair.Pair.{Pair}
 use Rattle.receiver.specs.declared.give_up.GivenUp.{GivenUp}
 use Rattle.receiver.specs.declared.answer.Refusal.{Refusal}
 use Rattle.receiver.specs.declared.state.Receiver.{Receiver}
@@ -26,30 +28,33 @@ use Rattle.receiver.specs.Good.{Good}
 use Rattle.receiver.specs.State.{withOutgoing}
 use Rattle.receiver.proofs.Laws.Fixed.{fixed-heard}
 use Rattle.receiver.proofs.Laws.GiveUp.{by-giving-up}
+use Rattle.sending.specs.declared.acknowledge.Chosen.{Chosen}
 use Rattle.sending.specs.declared.answer.Answer.{Answer}
 use Rattle.sending.specs.declared.answer.Spoken.{Spoken}
 use Rattle.sending.specs.declared.request.Request.{Request}
-use Rattle.sending.specs.Access.{accessAllowed}
-use Rattle.sending.specs.Acknowledge.{chosen}
+use Rattle.sending.specs.Access.{keyed, accessAllowed, envelopeOf}
+use Rattle.sending.specs.Acknowledge.{chosen, acknowledgementHeader}
 use Rattle.sending.specs.Answer.{refusedAt}
 use Rattle.sending.specs.Control as control
 use Rattle.sending.specs.Segment.{segmentHeader, starting, elementOf}
 use Rattle.sending.specs.Stop.{stopping}
-use Rattle.sending.specs.Transmission.{addressOf, nextSeq, stamped}
+use Rattle.sending.specs.Transmission.{sendingIv, addressOf, nextSeq, stamped}
 use Rattle.sending.proofs.Laws.Allowed.{Asked, access-allows, control-allows}
 use Rattle.sending.proofs.Laws.Calls.{walk-access, walk-control, walk-segment, walk-acknowledge}
+use Rattle.sending.proofs.Laws.Shapes.{whole-access, whole-control, segment-out, keeps-access, keeps-control, envelope-is}
 use Rattle.sending.proofs.Laws.Stamped.{stamps}
 use Rattle.sending.proofs.Laws.Transmitted.{used, used-own, used-rises, saying, pduBy, Sends, sealing-is, by-saying, by-starting, by-stopping}
 use Rattle.demands.specs.Call.{Call, Hear, GiveUp, SendAccess, SendControl, SendSegment, Acknowledge, Stop, Outcome, lengthBy, leftSaid, step}
-use Rattle.demands.specs.NeverTwice.{Use, speaker, uses, lentFor, Carried, AllAbove, Rising, NoneEqual, Distinct, Rise, NeverTwice}
+use Rattle.demands.specs.NeverTwice.{Use, speaker, indexSent, uses, lentFor, Carried, AllAbove, Rising, NoneEqual, Distinct, Rise, NeverTwice}
 use Rattle.demands.proofs.Invariant.{good-step}
 
 -- ---- one call
-module _ (r : Receiver) (element : ℕ) (buf : List ℕ) where
-  -- the PDU was sealed from a header with the element's address and next SEQ, which is then used
+module _ (r : Receiver) (element iv : ℕ) (buf : List ℕ) where
+  -- the PDU was sealed from a header with the element's address, the IV Index and the next SEQ, which is then used
   pub record Takes (o : Outcome) : Type 0 where
     pub header : Header
     pub from-element : header .src ≡ addressOf (r .node) element
+    pub under-index : header .iv ≡ iv
     pub with-next : header .seq ≡ nextSeq r element
     pub made-of : sealing (keyAt (r .node .materials) (header .key)) header buf ≡ lent (Sealed (o .octets)) (o .pdu)
     pub raised : element < length (r .next) → nextSeq (o .receiver) element ≡ nextSeq r element + 1
@@ -75,7 +80,7 @@ module _ (r : Receiver) (element : ℕ) (buf : List ℕ) where
   refused n = silent (leftSaid (lent (refusedAt r n) buf)) refl refl
 
   -- the PDU of this header was sent, and q is left
-  module _ (low : element < 8) (h : Header) (c : Sends r element h buf) (a : Answer) (q : Receiver) (next : q .next ≡ used r element .next)
+  module _ (low : element < 8) (h : Header) (i : stamped r element h .iv ≡ iv) (c : Sends r element h buf) (a : Answer) (q : Receiver) (next : q .next ≡ used r element .next)
       (long : lengthBy a ≡ length (pduBy r element h)) where
     takes-sent : Takes (leftSaid (lent (record { answer = a; receiver = q }) (onto (pduBy r element h) buf)))
     takes-sent =
@@ -83,6 +88,7 @@ module _ (r : Receiver) (element : ℕ) (buf : List ℕ) where
         record {
           header = stamped r element h;
           from-element = s .from-element;
+          under-index = i;
           with-next = s .with-next;
           made-of = ap (λ (n : ℕ). sealing (keyAt (r .node .materials) n) (stamped r element h) buf) (s .key-stays) ∙ rw long (sealing-is r element h buf c);
           raised = λ k. ap (λ (l : List ℕ). getD l element 0) next ∙ used-own r element k;
@@ -92,11 +98,13 @@ module _ (r : Receiver) (element : ℕ) (buf : List ℕ) where
     speaks-sent =
         record { rises = λ any. rw next (used-rises r element any); takes = λ _. takes-sent; within = λ _. low }
 
-  said : (low : element < 8) (h : Header) → Speaking (saying r element h buf)
-  said low h = by-saying r element h buf Speaking refused (λ c. speaks-sent low h c _ (used r element) refl refl)
+  said : (low : element < 8) (h : Header) → stamped r element h .iv ≡ iv → Speaking (saying r element h buf)
+  said low h i = by-saying r element h buf Speaking refused (λ c. speaks-sent low h i c _ (used r element) refl refl)
 
-  started : (low : element < 8) (o : Outgoing) → Speaking (starting r element o buf)
-  started low o = by-starting r element o buf Speaking refused (λ c. speaks-sent low (segmentHeader o 0) c _ (withOutgoing (used r element) o) refl refl)
+  started : (low : element < 8) (o : Outgoing) → o .auth .iv ≡ iv → Speaking (starting r element o buf)
+  started low o i =
+      by-starting r element o buf Speaking refused
+      (λ c. speaks-sent low (segmentHeader o 0) (ap (λ (h : Header). h .iv) (segment-out r element o 0) ∙ i) c _ (withOutgoing (used r element) o) refl refl)
 
 -- ---- the calls
 -- the element of a request that is allowed is one of eight
@@ -109,29 +117,44 @@ given-next r src = by-giving-up (λ (g : GivenUp). g .receiver .next ≡ r .next
 stopped-next : (r : Receiver) → stopping r .receiver .next ≡ r .next
 stopped-next r = by-stopping (λ (g : GivenUp). g .receiver .next ≡ r .next) r refl refl
 
-speaks : (r : Receiver) (c : Call) → Speaks r (speaker r c) (lentFor c) (step r c)
-speaks r (Hear pdu fwd msg) = silent r 0 [] _ refl (fixed-heard r fwd msg _ .next-stays)
-speaks r (GiveUp src) = silent r 0 [] _ refl (given-next r src)
+-- an acknowledgement carries the IV Index that it is given
+acknowledged-under : (r : Receiver) (element iv net src : ℕ) (c : Chosen) → stamped r element (acknowledgementHeader iv net src c) .iv ≡ iv
+unfolding stamped acknowledgementHeader
+acknowledged-under r element iv net src c = refl
+
+speaks : (r : Receiver) (c : Call) → Speaks r (speaker r c) (indexSent r c) (lentFor c) (step r c)
+speaks r (Hear pdu fwd msg) = silent r 0 0 [] _ refl (fixed-heard r fwd msg _ .next-stays)
+speaks r (GiveUp src) = silent r 0 0 [] _ refl (given-next r src)
 speaks r (SendAccess q key szmic payload buf) =
     let e = q .element in
     let low : accessAllowed r q key szmic (length payload) ≡ true → e < 8 = λ a. element-low r q (access-allows r q key szmic (length payload) a .asks) in
-    walk-access r buf (Speaking r e buf) (refused r e buf) q key szmic payload (λ a _. said r e buf (low a) _) (λ a _. started r e buf (low a) _)
+    let iv = sendingIv (r .node) in
+    let k = keyed (r .node) key in
+    let under = ap (λ (v : Envelope). v .iv) (envelope-is r q k szmic) in
+    walk-access r buf (Speaking r e iv buf) (refused r e iv buf) q key szmic payload
+    (λ a _. said r e iv buf (low a) _ (ap (λ (h : Header). h .iv) (whole-access r e (envelopeOf r q k szmic) q k payload) ∙ under))
+    (λ a _. started r e iv buf (low a) _ (ap (λ (p : Pair). p .iv) (keeps-access (envelopeOf r q k szmic) q k payload .auth-is) ∙ under))
 speaks r (SendControl q opcode parameters buf) =
     let e = q .element in
     let low : control.controlAllowed r q opcode (length parameters) ≡ true → e < 8 = λ a. element-low r q (control-allows r q opcode (length parameters) a .asks) in
-    walk-control r buf (Speaking r e buf) (refused r e buf) q opcode parameters (λ a _. said r e buf (low a) _) (λ a _. started r e buf (low a) _)
+    let iv = sendingIv (r .node) in
+    walk-control r buf (Speaking r e iv buf) (refused r e iv buf) q opcode parameters
+    (λ a _. said r e iv buf (low a) _ (ap (λ (h : Header). h .iv) (whole-control r e iv q opcode parameters)))
+    (λ a _. started r e iv buf (low a) _ (ap (λ (p : Pair). p .iv) (keeps-control r q opcode parameters .auth-is)))
 speaks r (SendSegment n buf) =
     let e = elementOf (r .node) (r .out .src) in
-    walk-segment r buf (Speaking r e buf) (refused r e buf) n (λ low _. said r e buf low _)
+    let iv = r .out .auth .iv in
+    walk-segment r buf (Speaking r e iv buf) (refused r e iv buf) n (λ low _. said r e iv buf low _ (ap (λ (h : Header). h .iv) (segment-out r e (r .out) n)))
 speaks r (Acknowledge net src buf) =
     let e = elementOf (r .node) (chosen (r .replay) (r .sessions) src .dst) in
-    walk-acknowledge r buf (Speaking r e buf) (refused r e buf) net src (λ low. said r e buf low _)
-speaks r Stop = silent r 0 [] _ refl (stopped-next r)
+    let iv = sendingIv (r .node) in
+    walk-acknowledge r buf (Speaking r e iv buf) (refused r e iv buf) net src (λ low. said r e iv buf low _ (acknowledged-under r e iv net src _))
+speaks r Stop = silent r 0 0 [] _ refl (stopped-next r)
 
 pub carries : Carried
 carries r c m =
     let t = speaks r c .takes m in
-    record { header = t .header; from-speaker = t .from-element; with-next = t .with-next; sealed = t .made-of }
+    record { header = t .header; from-speaker = t .from-element; under-index = t .under-index; with-next = t .with-next; sealed = t .made-of }
 
 -- ---- a list of calls
 -- the speaker's next SEQ rises where a PDU is made

@@ -1,7 +1,7 @@
 -- Every transmission takes a new SEQ of its element (document 01, "Sending"): over any list of calls the sequence numbers of an element rise, so no
 -- (element, IV Index, SEQ) is used twice.
 --   Use               what a transmission uses up
---   used r c          what call c uses: nothing, or the next SEQ of the element that sends
+--   used r c          what call c uses: nothing, or the next SEQ of the element that sends, under the IV Index that it sends with
 --   uses r l          what the calls of a list use, in their order
 --   Carried           the PDU that a call makes carries what it used, and no other call makes one
 --   Rise, NeverTwice  the two promises
@@ -19,12 +19,13 @@ use Rattle.receiver.specs.declared.state.Receiver.{Receiver}
 use Rattle.receiver.specs.Good.{Good}
 use Rattle.sending.specs.Acknowledge.{chosen}
 use Rattle.sending.specs.Segment.{elementOf}
-use Rattle.sending.specs.Transmission.{addressOf, nextSeq}
+use Rattle.sending.specs.Transmission.{sendingIv, addressOf, nextSeq}
 use Rattle.demands.specs.Call.{Call, Hear, GiveUp, SendAccess, SendControl, SendSegment, Acknowledge, Stop, step}
 
--- an element, by its number, and a sequence number of it
+-- an element, by its number, an IV Index, and a sequence number of the element
 pub record Use : Type 0 where
   pub element : ℕ
+  pub iv : ℕ
   pub seq : ℕ
 
 -- the element that sends: the one named; of a segment the one that began the message; of an acknowledgement the one that was spoken to
@@ -37,10 +38,20 @@ speaker r (SendSegment n buf) = elementOf (r .node) (r .out .src)
 speaker r (Acknowledge net src buf) = elementOf (r .node) (chosen (r .replay) (r .sessions) src .dst)
 speaker r Stop = 0
 
+-- the IV Index that it sends with; a segment goes out under the one that its message was begun with
+abbrev pub indexSent : Receiver → Call → ℕ
+indexSent r (Hear pdu fwd msg) = 0
+indexSent r (GiveUp src) = 0
+indexSent r (SendAccess q key szmic payload buf) = sendingIv (r .node)
+indexSent r (SendControl q opcode parameters buf) = sendingIv (r .node)
+indexSent r (SendSegment n buf) = r .out .auth .iv
+indexSent r (Acknowledge net src buf) = sendingIv (r .node)
+indexSent r Stop = 0
+
 -- what a call uses
 abbrev pub used : Receiver → Call → List Use
 used r c =
-    if step r c .made then record { element = speaker r c; seq = nextSeq r (speaker r c) } ∷ [] else
+    if step r c .made then record { element = speaker r c; iv = indexSent r c; seq = nextSeq r (speaker r c) } ∷ [] else
     []
 
 abbrev pub uses : Receiver → List Call → List Use
@@ -58,10 +69,11 @@ lentFor (SendSegment n buf) = buf
 lentFor (Acknowledge net src buf) = buf
 lentFor Stop = []
 
--- the PDU was sealed from a header with the speaker's address and next SEQ, and what sealing left is what the call leaves
+-- the PDU was sealed from a header with the speaker's address and next SEQ, under the IV Index that is sent with, and what sealing left is what the call leaves
 pub record Carries (r : Receiver) (c : Call) : Type 0 where
   pub header : Header
   pub from-speaker : header .src ≡ addressOf (r .node) (speaker r c)
+  pub under-index : header .iv ≡ indexSent r c
   pub with-next : header .seq ≡ nextSeq r (speaker r c)
   pub sealed : sealing (keyAt (r .node .materials) (header .key)) header (lentFor c) ≡ lent (Sealed (step r c .octets)) (step r c .pdu)
 
@@ -91,6 +103,6 @@ Distinct (u ∷ l) = NoneEqual u l × Distinct l
 abbrev pub Rise : Type 0
 Rise = (r : Receiver) (l : List Call) → Good r → Rising (uses r l)
 
--- an IV Index besides could only tell more of them apart
+-- none is the same in element, IV Index and SEQ
 abbrev pub NeverTwice : Type 0
 NeverTwice = (r : Receiver) (l : List Call) → Good r → Distinct (uses r l)
