@@ -17,6 +17,9 @@ use Rattle.memory.specs.declared.pair.Pair.{Pair}
 use Rattle.memory.specs.declared.replay.Entry.{Entry}
 use Rattle.memory.specs.declared.replay.Last.{Last}
 use Rattle.memory.specs.declared.session.Session.{Session}
+use Rattle.memory.specs.Cache.{cacheEntries}
+use Rattle.memory.specs.Replay.{replayEntries}
+use Rattle.memory.specs.Session.{sessionSlots, isFree}
 use Rattle.transport.specs.declared.securing.MessageKey.{MessageKey}
 use Rattle.transport.specs.declared.securing.MessageKey.the-variants.{Application, Device}
 use Rattle.receiver.specs.declared.answer.Answer.{Answer}
@@ -137,13 +140,13 @@ next-most next elements =
 seen-most : (src seq : ℕ) → AtMost 36 (seenText src seq)
 seen-most src seq = by-choice (AtMost 36) (eqb src 0) (λ t. none) (λ t. both (named-most " " 4 src) (named-most ":" 6 seq))
 
-oldest-few : (c : Cache) → length (c .entries) ≤ 16 → length (oldestFirst c) ≤ 16
+oldest-few : (c : Cache) → length (c .entries) ≤ cacheEntries → length (oldestFirst c) ≤ cacheEntries
 oldest-few c h = simp (length-append, length-drop, length-take) (omega arith)
 
-cache-most : (c : Cache) → length (c .entries) ≤ 16 → AtMost 582 (cacheText c)
+cache-most : (c : Cache) → length (c .entries) ≤ cacheEntries → AtMost 582 (cacheText c)
 cache-most c h =
     both (label-most "cache")
-    (both (placed-most (λ i e. seenText (e .src) (e .seq)) 36 (λ i e. seen-most (e .src) (e .seq)) 16 0 (oldestFirst c) (oldest-few c h)) (label-most "\n"))
+    (both (placed-most (λ i e. seenText (e .src) (e .seq)) 36 (λ i e. seen-most (e .src) (e .seq)) cacheEntries 0 (oldestFirst c) (oldest-few c h)) (label-most "\n"))
 
 last-most : (l : Last) → AtMost 86 (lastText l)
 last-most l =
@@ -158,7 +161,7 @@ entry-most e =
 
 session-most : (slot : ℕ) (s : Session) → AtMost 115 (sessionText slot s)
 session-most slot s =
-    by-choice (AtMost 115) (eqb (s .src) 0) (λ t. none)
+    by-choice (AtMost 115) (isFree s) (λ t. none)
     (λ t. both (named-most "session " 1 slot) (both (segments-most (s .src) (s .auth) (s .filled)) (label-most "\n")))
 
 so-far-most : (segn heard : ℕ) → AtMost 48 (heardSoFar segn heard)
@@ -175,6 +178,6 @@ receiver-fits r h1 h2 h3 =
     let text =
     both (next-most (r .next) (r .node .elements))
     (both (cache-most (r .cache) h1)
-    (both (placed-most (λ i e. entryText e) 154 (λ i e. entry-most e) 32 0 (r .replay) h2)
-    (both (placed-most sessionText 115 session-most 8 0 (r .sessions) h3) (both (sending-most (r .out)) (label-most "end\n"))))) in
+    (both (placed-most (λ i e. entryText e) 154 (λ i e. entry-most e) replayEntries 0 (r .replay) h2)
+    (both (placed-most sessionText 115 session-most sessionSlots 0 (r .sessions) h3) (both (sending-most (r .out)) (label-most "end\n"))))) in
     omega (arith, text)

@@ -9,6 +9,9 @@ use mathlib.Core.List.{List, _++_}
 use mathlib.Core.Path.{_≡_}
 use Prim.Native.Nat.{ℕ, _+_, _≤_}
 use lib.ListN.{length, take}
+use Rattle.memory.specs.Cache.{cacheEntries}
+use Rattle.memory.specs.Replay.{replayEntries}
+use Rattle.memory.specs.Session.{sessionSlots}
 use Rattle.receiver.specs.declared.answer.Answer.{Answer}
 use Rattle.receiver.specs.declared.fresh.Answer.{Answer as SettingUp}
 use Rattle.receiver.specs.declared.give_up.Answer.{Answer as GivingUp}
@@ -54,7 +57,7 @@ NotedFits = (r : Reply) → Fits (notedText r)
 -- all that a receiver holds
 abbrev pub ReceiverFits : Type 0
 ReceiverFits =
-    (r : Receiver) → length (r .cache .entries) ≤ 16 → length (r .replay) ≤ 32 → length (r .sessions) ≤ 8 → Fits (receiverText r)
+    (r : Receiver) → length (r .cache .entries) ≤ cacheEntries → length (r .replay) ≤ replayEntries → length (r .sessions) ≤ sessionSlots → Fits (receiverText r)
 
 -- what a message says, however long it is
 abbrev pub ReadingsFit : Type 0

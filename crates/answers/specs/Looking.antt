@@ -12,6 +12,8 @@ use Rattle.memory.specs.declared.replay.Last.{Last}
 use Rattle.memory.specs.declared.replay.Entry.{Entry}
 use Rattle.memory.specs.declared.session.Session.{Session}
 use Rattle.memory.specs.declared.outgoing.Outgoing.{Outgoing}
+use Rattle.memory.specs.Cache.{cacheEntries}
+use Rattle.memory.specs.Session.{isFree}
 use Rattle.receiver.specs.declared.state.Receiver.{Receiver}
 use Rattle.text.specs.Octets.{octets}
 use Rattle.answers.specs.Answer.{named, pairText, segmentsText}
@@ -31,7 +33,7 @@ seenText src seq = if eqb src 0 then [] else named " " 4 src ++ named ":" 6 seq
 
 -- the place that is filled next is that of the oldest entry
 abbrev pub oldestFirst : Cache → List Seen
-oldestFirst c = drop (c .next % 16) (c .entries) ++ take (c .next % 16) (c .entries)
+oldestFirst c = drop (c .next % cacheEntries) (c .entries) ++ take (c .next % cacheEntries) (c .entries)
 
 abbrev pub cacheText : Cache → List ℕ
 cacheText c = octets "cache" ++ (placedText (λ i e. seenText (e .src) (e .seq)) 0 (oldestFirst c) ++ octets "\n")
@@ -49,7 +51,7 @@ entryText e =
 
 abbrev pub sessionText : ℕ → Session → List ℕ
 sessionText slot s =
-    if eqb (s .src) 0 then [] else
+    if isFree s then [] else
     named "session " 1 slot ++ (segmentsText (s .src) (s .auth) (s .filled) ++ octets "\n")
 
 -- SegN of the outgoing message, and its segments that were heard

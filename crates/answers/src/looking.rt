@@ -3,8 +3,10 @@ use super::answer::put_pair;
 use super::answer::put_segments;
 use memory::cache::Cache;
 use memory::outgoing::Outgoing;
+use memory::replay::ENTRIES;
 use memory::replay::Entry;
 use memory::replay::Last;
+use memory::session::SLOTS;
 use memory::session::Session;
 use receiver::state::Receiver;
 use text::number;
@@ -40,11 +42,11 @@ fn put_cache(cache: Cache, out: &mut [u8], at: usize) -> usize
     ensures { λ r. ⌜ lent r (now (out .exit)) ≡ putting (cacheText cache) (now (out .entry)) at ⌝ }
 {
     let entries = cache.entries;
-    let oldest = cache.next % 16;
+    let oldest = cache.next % memory::cache::ENTRIES;
     let mut to = text::put(b"cache", out, at);
     let mut i: usize = 0;
-    while i < 16 {
-        let e = entries[(oldest + i) % 16];
+    while i < memory::cache::ENTRIES {
+        let e = entries[(oldest + i) % memory::cache::ENTRIES];
         to = put_seen(e.src, e.seq, out, to);
         i += 1;
     }
@@ -89,12 +91,12 @@ fn put_entry(e: Entry, out: &mut [u8], at: usize) -> usize
     text::put(b"\n", out, last)
 }
 
-fn put_replay(replay: [Entry; 32], out: &mut [u8], at: usize) -> usize
+fn put_replay(replay: [Entry; ENTRIES], out: &mut [u8], at: usize) -> usize
     ensures { λ r. ⌜ lent r (now (out .exit)) ≡ putting (placedText (λ i e. entryText e) 0 replay) (now (out .entry)) at ⌝ }
 {
     let mut to = text::put(b"", out, at);
     let mut i: usize = 0;
-    while i < 32 {
+    while i < ENTRIES {
         to = put_entry(replay[i], out, to);
         i += 1;
     }
@@ -113,12 +115,12 @@ fn put_session(slot: usize, s: Session, out: &mut [u8], at: usize) -> usize
     text::put(b"\n", out, to)
 }
 
-fn put_sessions(sessions: [Session; 8], out: &mut [u8], at: usize) -> usize
+fn put_sessions(sessions: [Session; SLOTS], out: &mut [u8], at: usize) -> usize
     ensures { λ r. ⌜ lent r (now (out .exit)) ≡ putting (placedText sessionText 0 sessions) (now (out .entry)) at ⌝ }
 {
     let mut to = text::put(b"", out, at);
     let mut i: usize = 0;
-    while i < 8 {
+    while i < SLOTS {
         to = put_session(i, sessions[i], out, to);
         i += 1;
     }

@@ -12,6 +12,9 @@ use lib.Seq.{take-all}
 use Rattle.common.specs.Lent.{lent}
 use Rattle.common.proofs.Tests.{by-test}
 use Rattle.transport.specs.declared.securing.MessageKey.{MessageKey}
+use Rattle.memory.specs.Cache.{cacheEntries}
+use Rattle.memory.specs.Replay.{replayEntries}
+use Rattle.memory.specs.Session.{sessionSlots}
 use Rattle.receiver.specs.declared.answer.Heard.{Heard}
 use Rattle.receiver.specs.declared.give_up.GivenUp.{GivenUp}
 use Rattle.receiver.specs.declared.state.Receiver.{Receiver}
@@ -147,7 +150,7 @@ module _ (r : Receiver) (pdu : List ℕ) where
   heard-fits-lent room y z j k h1 l1 h2 l2 f = rw (← lent-is (room .forward) j y h1 l1, ← lent-is (room .message) k z h2 l2) f
 
 -- a receiver's lists are arrays
-pub shown-fits : (r : Receiver) → length (r .cache .entries) ≡ 16 → length (r .replay) ≡ 32 → length (r .sessions) ≡ 8 → Fits (shows r .text)
+pub shown-fits : (r : Receiver) → length (r .cache .entries) ≡ cacheEntries → length (r .replay) ≡ replayEntries → length (r .sessions) ≡ sessionSlots → Fits (shows r .text)
 unfolding shows
 shown-fits r h1 h2 h3 = receiver-fits r (omega (arith, h1)) (omega (arith, h2)) (omega (arith, h3))
 

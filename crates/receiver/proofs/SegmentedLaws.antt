@@ -29,7 +29,7 @@ use Rattle.memory.specs.declared.decision.Decision.the-variants.{Stale, Differs
 use Rattle.memory.specs.declared.session.Segment.{Segment}
 use Rattle.memory.specs.declared.session.Session.{Session}
 use Rattle.memory.specs.Decision.{decision}
-use Rattle.memory.specs.Session.{sessionAt, noSession, begun, stored, complete}
+use Rattle.memory.specs.Session.{sessionSlots, noSession, sessionAt, begun, stored, complete}
 use Rattle.receiver.specs.declared.answer.Answer.the-variants as answer
 use Rattle.receiver.specs.declared.answer.Refusal.the-variants as refusal
 use Rattle.receiver.specs.declared.answer.Taken.{Taken}
@@ -172,12 +172,12 @@ pub ruleset placed-rules = (placed-stale, placed-differs, placed-no-entry, place
 -- a segment joins or opens a session in one of the eight slots
 pub join-slot :
     (replay : List Entry) (sessions : List Session) (src : ℕ) (seg : Segment) (d : Decision) → d ≡ decision replay sessions src seg
-    → (i : ℕ) → d ≡ Join i → i < 8
+    → (i : ℕ) → d ≡ Join i → i < sessionSlots
 join-slot replay sessions src seg d e i k = join-within replay sessions src seg i (sym e ∙ k)
 
 pub open-slot :
     (replay : List Entry) (sessions : List Session) (src : ℕ) (seg : Segment) (d : Decision) → d ≡ decision replay sessions src seg
-    → (i : ℕ) → d ≡ Open i → i < 8
+    → (i : ℕ) → d ≡ Open i → i < sessionSlots
 open-slot replay sessions src seg d e i k = open-within replay sessions src seg i (sym e ∙ k)
 
 pub joined :

@@ -21,8 +21,8 @@ pub struct Ready {
 fn receiver(node: Node, next: [u32; 8]) -> Receiver
     ensures { λ r. ⌜ r ≡ fresh node next ⌝ }
 {
-    let replay = [memory::replay::none(); 32];
-    let sessions = [memory::session::none(); 8];
+    let replay = [memory::replay::none(); memory::replay::ENTRIES];
+    let sessions = [memory::session::none(); memory::session::SLOTS];
     Receiver {
         node,
         next,

@@ -20,7 +20,7 @@ ghost use lib.ListN.{length};
 ghost use Rattle.common.specs.Lent.{lent};
 ghost use Rattle.common.specs.Lists.{onto};
 ghost use Rattle.transport.specs.Securing.{unsecuring};
-ghost use Rattle.memory.specs.Session.{sessionAt, stored};
+ghost use Rattle.memory.specs.Session.{sessionSlots, sessionAt, stored};
 ghost use Rattle.receiver.specs.Segmented.{segmentOf, sessionEnvelope, messageOf, upgraded, controlUp, accessUp, gathered, placed, segmented};
 
 // A segment as its header and form tell it.
@@ -159,7 +159,7 @@ fn access_up(r: Receiver, s: Session, message: &mut [u8]) -> Taken
 
 // The session in a slot with one segment more: kept, or complete, and the slot is freed.
 fn gather(r: Receiver, slot: usize, s: Session, message: &mut [u8]) -> Taken
-    requires { ⌜ (slot < 8) × (384 ≤ length (now message)) ⌝ }
+    requires { ⌜ (slot < sessionSlots) × (384 ≤ length (now message)) ⌝ }
     ensures { λ t. ⌜ lent t (now (message .exit)) ≡ gathered r slot s (now (message .entry)) ⌝ }
 {
     let auth = s.auth;
@@ -184,7 +184,7 @@ fn gather(r: Receiver, slot: usize, s: Session, message: &mut [u8]) -> Taken
 
 // A segment that joins the session in a slot.
 fn join(r: Receiver, h: Header, seg: Segment, slot: usize, message: &mut [u8]) -> Taken
-    requires { ⌜ (slot < 8) × (384 ≤ length (now message)) ⌝ }
+    requires { ⌜ (slot < sessionSlots) × (384 ≤ length (now message)) ⌝ }
     ensures { λ t. ⌜ lent t (now (message .exit)) ≡ gathered r slot (stored (sessionAt (r .sessions) slot) h (seg .sego)) (now (message .entry)) ⌝ }
 {
     let sessions = r.sessions;

@@ -1,11 +1,14 @@
 // The receiver's whole state, by value.
 use memory::cache::Cache;
 use memory::outgoing::Outgoing;
+use memory::replay::ENTRIES;
 use memory::replay::Entry;
+use memory::session::SLOTS;
 use memory::session::Session;
 use node::addresses::Node;
 ghost use mathlib.Core.Path.{_≡_};
 ghost use Prim.Native.Nat.{_<_};
+ghost use Rattle.memory.specs.Session.{sessionSlots};
 ghost use Rattle.receiver.specs.State.{withCache, withReplay, withSession, withOutgoing};
 
 pub struct Receiver {
@@ -13,8 +16,8 @@ pub struct Receiver {
     // Each element's next SEQ.
     pub next: [u32; 8],
     pub cache: Cache,
-    pub replay: [Entry; 32],
-    pub sessions: [Session; 8],
+    pub replay: [Entry; ENTRIES],
+    pub sessions: [Session; SLOTS],
     // The outgoing segmented message.
     pub out: Outgoing,
 }
@@ -27,7 +30,7 @@ pub(crate) fn with_cache(r: Receiver, cache: Cache) -> Receiver
     q
 }
 
-pub(crate) fn with_replay(r: Receiver, replay: [Entry; 32]) -> Receiver
+pub(crate) fn with_replay(r: Receiver, replay: [Entry; ENTRIES]) -> Receiver
     ensures { λ q. ⌜ q ≡ withReplay r replay ⌝ }
 {
     let mut q = r;
@@ -36,7 +39,7 @@ pub(crate) fn with_replay(r: Receiver, replay: [Entry; 32]) -> Receiver
 }
 
 pub(crate) fn with_session(r: Receiver, slot: usize, s: Session) -> Receiver
-    requires { ⌜ slot < 8 ⌝ }
+    requires { ⌜ slot < sessionSlots ⌝ }
     ensures { λ q. ⌜ q ≡ withSession r slot s ⌝ }
 {
     let mut q = r;

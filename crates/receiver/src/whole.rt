@@ -4,6 +4,7 @@ use super::answer::Refusal;
 use super::answer::Taken;
 use super::state::Receiver;
 use memory::pair::Pair;
+use memory::replay::ENTRIES;
 use memory::replay::Entry;
 use network::header::Header;
 use node::addresses::Node;
@@ -37,7 +38,7 @@ pub(crate) fn refuse(r: Receiver, refusal: Refusal, trials: usize) -> Taken
     }
 }
 
-fn admit(replay: [Entry; 32], h: Header) -> Admission
+fn admit(replay: [Entry; ENTRIES], h: Header) -> Admission
     ensures { λ r. ⌜ r ≡ admission replay h ⌝ }
 {
     let pair = Pair {

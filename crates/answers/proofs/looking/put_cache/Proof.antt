@@ -8,6 +8,7 @@ use borrow.Author.Needs.{needs}
 use lib.ListN.{length, take, drop}
 use Rattle.common.proofs.Lists.{length-mapped}
 use Rattle.memory.specs.declared.cache.Seen.{Seen}
+use Rattle.memory.specs.Cache.{cacheEntries}
 use Rattle.text.specs.Written.{putting}
 use Rattle.text.proofs.WrittenLaws.{put-then}
 use Rattle.answers.specs.Looking.{seenText}
@@ -21,23 +22,23 @@ each k e = seenText (e .src) (e .seq)
 
 abbrev Inv-loop : tie.InvT-loop
 Inv-loop out₀ at entries oldest to₀ i₀ t10 out to i =
-    (oldest < 16) × (length entries ≡ 16) × PutSo each (drop oldest entries ++ take oldest entries) 16 out₀ to₀ out to i
+    (oldest < cacheEntries) × (length entries ≡ cacheEntries) × PutSo each (drop oldest entries ++ take oldest entries) cacheEntries out₀ to₀ out to i
 
 abbrev μ-loop : tie.MeasureT-loop
-μ-loop out₀ at entries oldest to₀ i₀ t10 out to i = 16 - i
+μ-loop out₀ at entries oldest to₀ i₀ t10 out to i = cacheEntries - i
 
 loop-holds : tie.Need-loop-holds Inv-loop μ-loop
 loop-holds c =
     let a = c .before .before .before .before .before .before .before .before .args in
-    let all : length (a .cache .entries) ≡ 16 = search (needs, length-mapped) in
-    (omega arith, all, so-none _ _ _ (length-rotated (a .cache .entries) (a .cache .next % 16) (omega arith) ∙ all) (c .before .before .put .ensures))
+    let all : length (a .cache .entries) ≡ cacheEntries = search (needs, length-mapped) in
+    (omega arith, all, so-none _ _ _ (length-rotated (a .cache .entries) (a .cache .next % cacheEntries) (omega arith) ∙ all) (c .before .before .put .ensures))
 
 loop-again : tie.Need-loop-again Inv-loop μ-loop
 loop-again c =
     let l = c .before .before .before .before .before .before .loop in
     let a = c .before .before .before .before .before .before .before .before .before .before .before .before .before .before .before .args in
     let none : Seen = record { src = 0; seq = 0 } in
-    let here = rotated none (a .cache .entries) (a .cache .next % 16) (l .i) (l .inv .1) (l .inv .0) (omega arith) in
+    let here = rotated none (a .cache .entries) (a .cache .next % cacheEntries) (l .i) (l .inv .1) (l .inv .0) (omega arith) in
     let text = ap (λ (e : Seen). putting (seenText (e .src) (e .seq)) (l .out) (l .to)) (sym here) in
     (l .inv .0, l .inv .1, so-more none (omega arith) (l .inv .2) (c .before .before .put-seen .ensures ∙ text))
 

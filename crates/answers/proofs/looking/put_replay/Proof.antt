@@ -5,6 +5,7 @@ use Prim.Native.Nat.{ℕ, _-_}
 use native.Mathlib.Omega.{arith}
 use borrow.Author.Needs.{needs}
 use Rattle.memory.specs.declared.replay.Entry.{Entry}
+use Rattle.memory.specs.Replay.{replayEntries}
 use Rattle.text.proofs.WrittenLaws.{put-then}
 use Rattle.answers.specs.Looking.{entryText}
 use Rattle.answers.proofs.LookingLaws.{PutSo, so-none, so-more, so-all}
@@ -16,10 +17,10 @@ abbrev each : ℕ → Entry → List ℕ
 each k e = entryText e
 
 abbrev Inv-loop : tie.InvT-loop
-Inv-loop out₀ at replay to₀ i₀ out to i = PutSo each replay 32 out₀ to₀ out to i
+Inv-loop out₀ at replay to₀ i₀ out to i = PutSo each replay replayEntries out₀ to₀ out to i
 
 abbrev μ-loop : tie.MeasureT-loop
-μ-loop out₀ at replay to₀ i₀ out to i = 32 - i
+μ-loop out₀ at replay to₀ i₀ out to i = replayEntries - i
 
 loop-holds : tie.Need-loop-holds Inv-loop μ-loop
 loop-holds c = so-none _ _ _ (c .before .before .before .before .before .before .good .0 .1 .0 .1) (c .before .before .put .ensures)

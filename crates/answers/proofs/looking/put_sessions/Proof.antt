@@ -4,16 +4,17 @@ use Prim.Native.Nat.{_-_}
 use native.Mathlib.Omega.{arith}
 use borrow.Author.Needs.{needs}
 use Rattle.text.proofs.WrittenLaws.{put-then}
+use Rattle.memory.specs.Session.{sessionSlots}
 use Rattle.answers.specs.Looking.{sessionText}
 use Rattle.answers.proofs.LookingLaws.{PutSo, so-none, so-more, so-all}
 use Rattle.answers.proofs.looking.put_sessions.Statement.{statement}
 use Rattle.answers.proofs.looking.put_sessions.Tie as tie
 
 abbrev Inv-loop : tie.InvT-loop
-Inv-loop out₀ at sessions to₀ i₀ out to i = PutSo sessionText sessions 8 out₀ to₀ out to i
+Inv-loop out₀ at sessions to₀ i₀ out to i = PutSo sessionText sessions sessionSlots out₀ to₀ out to i
 
 abbrev μ-loop : tie.MeasureT-loop
-μ-loop out₀ at sessions to₀ i₀ out to i = 8 - i
+μ-loop out₀ at sessions to₀ i₀ out to i = sessionSlots - i
 
 loop-holds : tie.Need-loop-holds Inv-loop μ-loop
 loop-holds c = so-none _ _ _ (c .before .before .before .before .before .before .good .0 .1 .0 .1) (c .before .before .put .ensures)

@@ -4,6 +4,9 @@ use mathlib.Core.Path.{_≡_}
 use borrow.Author.Needs.{needs}
 use lib.ListN.{length}
 use Rattle.common.proofs.Lists.{length-mapped}
+use Rattle.memory.specs.Cache.{cacheEntries}
+use Rattle.memory.specs.Replay.{replayEntries}
+use Rattle.memory.specs.Session.{sessionSlots}
 use Rattle.console.proofs.ReceivingLaws.{shown, shown-fits}
 use Rattle.console.proofs.receiving.show.Statement.{statement}
 use Rattle.console.proofs.receiving.show.Tie as tie
@@ -11,9 +14,9 @@ use Rattle.console.proofs.receiving.show.Tie as tie
 returns : tie.Need-returns
 returns c =
     let r = c .before .before .before .before .before .before .args .r in
-    let cache : length (r .cache .entries) ≡ 16 = search (needs, length-mapped) in
-    let replay : length (r .replay) ≡ 32 = search (needs, length-mapped) in
-    let sessions : length (r .sessions) ≡ 8 = search (needs, length-mapped) in
+    let cache : length (r .cache .entries) ≡ cacheEntries = search (needs, length-mapped) in
+    let replay : length (r .replay) ≡ replayEntries = search (needs, length-mapped) in
+    let sessions : length (r .sessions) ≡ sessionSlots = search (needs, length-mapped) in
     (search shown, shown-fits r cache replay sessions)
 
 pub show-spec : {M : Type 1} → statement M
