@@ -4,5 +4,6 @@ pub mod header;
 pub mod iv_index;
 pub mod nonce;
 pub mod opening;
+mod pdu;
 pub mod sealing;
 mod trial;

@@ -97,7 +97,7 @@ fn write_body(key: NetworkKeys, h: Header, clear: [u8; 18], out: &mut [u8])
     let nonce = super::nonce::network(h.ctl, h.ttl, h.seq, h.src, h.iv);
     let n = 2 + h.len;
     let ks = aes::expand(encryption);
-    let mic = super::trial::net_mic(h.ctl);
+    let mic = super::pdu::net_mic(h.ctl);
     modes::ccm::seal(ks, nonce, mic, &clear[..n], &mut out[7..]);
 }
 
@@ -129,7 +129,7 @@ fn write_front(key: NetworkKeys, h: Header, out: &mut [u8])
     requires { ⌜ (key .nid ≤ 127) × (14 ≤ length (now out)) ⌝ }
     ensures { λ _. ⌜ now (out .exit) ≡ onto (firstOctet (h .iv) (key .nid) ∷ obfuscated key (h .iv) (clearFront h) (take 7 (drop 7 (now (out .entry))))) (now (out .entry)) ⌝ }
 {
-    let hidden = super::trial::obfuscate(key, h.iv, clear_front(h), super::trial::seven(out, 7));
+    let hidden = super::pdu::obfuscate(key, h.iv, clear_front(h), super::pdu::seven(out, 7));
     let front = [
         first_octet(h.iv, key.nid),
         hidden[0],

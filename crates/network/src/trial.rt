@@ -1,16 +1,15 @@
 // One key tried on one PDU, and the candidate keys tried in order.
 use super::header::Header;
 use keys::NetworkKeys;
-use modes::ccm::MicSize;
 ghost use mathlib.Core.Path.{_≡_};
 ghost use mathlib.Core.Bool.{_&&_};
 ghost use Prim.Native.Nat.{_+_, _*_, _-_, _≤_};
 ghost use lib.Dec.{ltb};
-ghost use lib.ListN.{length, take, drop};
+ghost use lib.ListN.{length, drop};
 ghost use Rattle.common.specs.Lent.{lent};
 ghost use Rattle.aes.specs.KeyExpansion.{keySchedule};
 ghost use Rattle.modes.specs.Ccm.{micOctets, opening};
-ghost use Rattle.network.specs.Pdu.{netMic, obfuscated, frontOf};
+ghost use Rattle.network.specs.Pdu.{netMic, frontOf};
 ghost use Rattle.network.specs.Trial.{noTrial, ctlOf, seqOf, srcOf, nonceOf, headerOf, tried};
 ghost use Rattle.network.specs.Candidates.{searched};
 
@@ -27,63 +26,13 @@ pub struct Found {
     pub header: Header,
 }
 
-// Octets 1-6 hidden, or shown again, by the privacy key. The random octets are octets 7-13 of the PDU.
-pub(crate) fn obfuscate(key: NetworkKeys, iv: u32, front: [u8; 6], random: [u8; 7]) -> [u8; 6]
-    ensures { λ r. ⌜ r ≡ obfuscated key iv front random ⌝ }
-{
-    let privacy = key.privacy;
-    let block = [
-        0,
-        0,
-        0,
-        0,
-        0,
-        (iv / 256 / 256 / 256 % 256) as u8,
-        (iv / 256 / 256 % 256) as u8,
-        (iv / 256 % 256) as u8,
-        (iv % 256) as u8,
-        random[0],
-        random[1],
-        random[2],
-        random[3],
-        random[4],
-        random[5],
-        random[6],
-    ];
-    let b = aes::encrypt(aes::expand(privacy), block);
-    [
-        front[0] ^ b[0],
-        front[1] ^ b[1],
-        front[2] ^ b[2],
-        front[3] ^ b[3],
-        front[4] ^ b[4],
-        front[5] ^ b[5],
-    ]
-}
-
-// The seven octets of s from `at` on.
-pub(crate) fn seven(s: &[u8], at: usize) -> [u8; 7]
-    requires { ⌜ at + 7 ≤ length (now s) ⌝ }
-    ensures { λ r. ⌜ r ≡ take 7 (drop at (now (s .entry))) ⌝ }
-{
-    [
-        s[at],
-        s[at + 1],
-        s[at + 2],
-        s[at + 3],
-        s[at + 4],
-        s[at + 5],
-        s[at + 6],
-    ]
-}
-
 // Octets 1-6 of a PDU in clear.
 fn front_of(key: NetworkKeys, iv: u32, pdu: &[u8]) -> [u8; 6]
     requires { ⌜ 14 ≤ length (now pdu) ⌝ }
     ensures { λ r. ⌜ r ≡ frontOf key iv (now (pdu .entry)) ⌝ }
 {
     let front = [pdu[1], pdu[2], pdu[3], pdu[4], pdu[5], pdu[6]];
-    obfuscate(key, iv, front, seven(pdu, 7))
+    super::pdu::obfuscate(key, iv, front, super::pdu::seven(pdu, 7))
 }
 
 // Octets as a number, high first.
@@ -151,13 +100,6 @@ fn nonce_of(iv: u32, front: [u8; 6]) -> [u8; 13]
     )
 }
 
-// The size of the NetMIC.
-pub(crate) fn net_mic(ctl: bool) -> MicSize
-    ensures { λ r. ⌜ r ≡ netMic ctl ⌝ }
-{
-    if ctl { MicSize::Eight } else { MicSize::Four }
-}
-
 // Opens the body of a PDU into out, with the nonce that its clear front gives.
 fn open_body(key: NetworkKeys, iv: u32, front: [u8; 6], pdu: &[u8], out: &mut [u8]) -> bool
     requires { ⌜ 14 ≤ length (now pdu) ⌝ }
@@ -167,7 +109,7 @@ fn open_body(key: NetworkKeys, iv: u32, front: [u8; 6], pdu: &[u8], out: &mut [u
     modes::ccm::open(
         aes::expand(encryption),
         nonce_of(iv, front),
-        net_mic(ctl_of(front)),
+        super::pdu::net_mic(ctl_of(front)),
         &pdu[7..],
         out,
     )

@@ -1,4 +1,4 @@
--- `network::trial::obfuscate` meets its contract: the block is the five zeros, the IV Index and the seven random octets, and its cipher is xored octet by octet.
+-- `network::pdu::obfuscate` meets its contract: the block is the five zeros, the IV Index and the seven random octets, and its cipher is xored octet by octet.
 -- Assumes nothing.
 use mathlib.Core.Path.{_≡_, ap, ap₂, _∙_}
 use mathlib.Core.List.{List, _++_}
@@ -10,8 +10,8 @@ use Rattle.common.proofs.Lists.{padded-all}
 use Rattle.aes.specs.Cipher.{cipher}
 use Rattle.network.specs.Octets.{octets}
 use Rattle.network.specs.Pdu.{privacyBlock, obfuscated}
-use Rattle.network.proofs.trial.obfuscate.Statement.{statement}
-use Rattle.network.proofs.trial.obfuscate.Tie as tie
+use Rattle.network.proofs.pdu.obfuscate.Statement.{statement}
+use Rattle.network.proofs.pdu.obfuscate.Tie as tie
 
 returns : tie.Need-returns
 unfolding obfuscated privacyBlock xored octets
