@@ -4,13 +4,15 @@
 --   group-range                     from 0xC000 on an address is a group's
 --   addresses-allowed               a unicast SRC and a DST that may be sent to are allowed
 --   allowed-source, allowed-some    where they are allowed, SRC is unicast and DST is not 0
-use mathlib.Core.Bool.{Bool, true, false≢true}
+--   allowed-by-kind, allowed-not    what the code answers, by its test of SRC
+use mathlib.Core.Bool.{Bool, true, false, false≢true}
 use mathlib.Core.Path.{_≡_, refl}
 use Prim.Native.Nat.{ℕ, _≤_}
 use native.Mathlib.Omega.{arith}
 use borrow.Author.Tests.{le-leb, lt-leb, leb-true, eqb-false, ne-eqb}
 use lib.Dec.{eqb, leb}
 use Rattle.common.proofs.Tests.{by-test, and-first, and-second}
+use Rattle.network.specs.declared.address.AddressKind.{AddressKind}
 use Rattle.network.specs.declared.address.AddressKind.the-variants.{Unicast, Group}
 use Rattle.network.specs.Address.{kindOf, isUnicast, destinationKind, addressesAllowed}
 
@@ -56,3 +58,13 @@ module _ (ctl : Bool) (src dst : ℕ) where
   pub allowed-some : addressesAllowed ctl src dst ≡ true → dst ≡ 0 → ⊥
   unfolding addressesAllowed kindOf
   allowed-some a e = false≢true (rw e at (and-second (isUnicast src) (destinationKind ctl (kindOf dst)) a))
+
+-- what the code answers, by its test of SRC
+module _ (ctl : Bool) (src dst : ℕ) {u : Bool} (eu : u ≡ isUnicast src) where
+  pub allowed-by-kind : {k : AddressKind} {r : Bool} → u ≡ true → k ≡ kindOf dst → r ≡ destinationKind ctl k → r ≡ addressesAllowed ctl src dst
+  unfolding addressesAllowed
+  allowed-by-kind t ek er = rw (← eu, t, ← ek) er
+
+  pub allowed-not : u ≡ false → false ≡ addressesAllowed ctl src dst
+  unfolding addressesAllowed
+  allowed-not f = rw (← eu, f)

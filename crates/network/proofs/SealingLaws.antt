@@ -1,12 +1,12 @@
--- Sealing from the code's steps: which test refuses a header, and how the body and then the front in place make the whole PDU.
--- Key laws: `sealable-..`, one for each test; `body-written`, `front-written`, `pdu-written`; the answers `seal-..`.
+-- Sealing and forwarding from the code's steps: which test refuses a header, and how the body and then the front in place make the whole PDU.
+-- Key laws: `sealable-..`, one for each test; `body-written`, `front-written`, `pdu-written`; the answers `seal-..` and `forward-..`.
 -- Assumes nothing.
 use mathlib.Core.Path.{_≡_, refl, sym, ap, ap₂, _∙_}
-use mathlib.Core.Bool.{Bool, true, false}
+use mathlib.Core.Bool.{Bool, true, false, not}
 use mathlib.Core.List.{List, [], _∷_, _++_, append-nil}
 use Prim.Native.Nat.{ℕ, _+_, _-_, _<_, _≤_}
 use native.Mathlib.Omega.{arith}
-use borrow.Author.Tests.{lt-leb, le-leb, lt-ltb, le-ltb}
+use borrow.Author.Tests.{lt-leb, le-leb, lt-ltb, le-ltb, not-true, not-false}
 use lib.Dec.{leb}
 use lib.ListN.{length, take, drop, length-append, length-drop}
 use lib.Seq.{length-take-le, take-all, take-append-le, take-append-add, drop-at, drop-length}
@@ -22,13 +22,14 @@ use Rattle.modes.proofs.CcmLaws.{mic-octets-bounds, seal-done}
 use Rattle.keys.specs.declared.NetworkKeys.{NetworkKeys}
 use Rattle.network.specs.declared.header.Header.{Header}
 use Rattle.network.specs.Address.{addressesAllowed}
+use Rattle.network.specs.Candidates.{keyAt}
 use Rattle.network.specs.Octets.{octets}
 use Rattle.network.specs.Pdu.{netMic, firstOctet, clearFront, obfuscated, bodyOf, pduOf}
 use Rattle.network.specs.declared.sealing.Answer.{Answer}
 use Rattle.network.specs.declared.sealing.Answer.the-variants.{Sealed, OutsideRules, ShortBuffer}
-use Rattle.network.specs.Sealing.{paper, sealedLength, mostTransport, sealable, sealing}
+use Rattle.network.specs.Sealing.{paper, sealedLength, mostTransport, sealable, sealing, lowered, forwarding}
 use Rattle.network.proofs.Front.{length-obfuscated}
-use Rattle.network.proofs.Sealed.{clearBody, nonceFor, length-clear, mic-octets, length-body, within}
+use Rattle.network.proofs.Sealed.{clearBody, nonceFor, length-clear, mic-octets, length-body, pdu-length, within}
 
 -- ---- the tests, in order
 module _ (key : NetworkKeys) (h : Header) where
@@ -47,24 +48,29 @@ module _ (key : NetworkKeys) (h : Header) where
       sealable-seq-high l = simp (le-leb (key .nid) 127 n, le-leb (h .ttl) 127 t, lt-leb (h .seq) 0xFFFFFF l)
 
       module _ (s : h .seq ≤ 0xFFFFFF) {ok : Bool} (e : ok ≡ addressesAllowed (h .ctl) (h .src) (h .dst)) where
-        pub sealable-address : ok ≡ false → false ≡ sealable key h
+        pub sealable-address : not ok ≡ true → false ≡ sealable key h
         unfolding sealable
-        sealable-address f = simp (le-leb (key .nid) 127 n, le-leb (h .ttl) 127 t, le-leb (h .seq) 0xFFFFFF s, ← e, f)
+        sealable-address f = simp (le-leb (key .nid) 127 n, le-leb (h .ttl) 127 t, le-leb (h .seq) 0xFFFFFF s, ← e, not-true ok f)
 
-        module _ (a : ok ≡ true) where
+        module _ (f : not ok ≡ false) where
           pub sealable-empty : h .len < 1 → false ≡ sealable key h
           unfolding sealable
-          sealable-empty l = simp (le-leb (key .nid) 127 n, le-leb (h .ttl) 127 t, le-leb (h .seq) 0xFFFFFF s, ← e, a, lt-leb 1 (h .len) l)
+          sealable-empty l = simp (le-leb (key .nid) 127 n, le-leb (h .ttl) 127 t, le-leb (h .seq) 0xFFFFFF s, ← e, not-false ok f, lt-leb 1 (h .len) l)
 
           pub sealable-by-length : {m : ℕ} → 1 ≤ h .len → m ≡ mostTransport (h .ctl) → leb (h .len) m ≡ sealable key h
           unfolding sealable
           sealable-by-length l em =
-              simp (le-leb (key .nid) 127 n, le-leb (h .ttl) 127 t, le-leb (h .seq) 0xFFFFFF s, ← e, a, le-leb 1 (h .len) l, em)
+              simp (le-leb (key .nid) 127 n, le-leb (h .ttl) 127 t, le-leb (h .seq) 0xFFFFFF s, ← e, not-false ok f, le-leb 1 (h .len) l, em)
+
+pub ruleset sealable-rules = (sealable-nid-high, sealable-ttl-high, sealable-seq-high, sealable-address, sealable-empty, sealable-by-length)
 
 -- ---- the body, written from octet 7 on, where it has 22 octets at most
 pub body-most : (ctl : Bool) (len : ℕ) → len ≤ mostTransport ctl → (len ≤ 16) × (2 + len + (if ctl then 8 else 4) ≤ 22)
 body-most true len l = (omega arith, omega arith)
 body-most false len l = (omega arith, omega arith)
+
+pub transport-most : (ctl : Bool) (len : ℕ) → len ≤ mostTransport ctl → len ≤ 16
+transport-most ctl len l = body-most ctl len l .0
 
 -- a header's transport has sixteen octets
 pub transport-sixteen : (h : Header) {clear : List ℕ} → clear ≡ octets 2 (h .dst) ++ h .transport → length clear ≡ 18 → length (h .transport) ≡ 16
@@ -73,22 +79,22 @@ transport-sixteen h e l = omega (arith, ap length e)
 
 module _ (h : Header) (sixteen : length (h .transport) ≡ 16) (fits : h .len ≤ mostTransport (h .ctl)) where
   pub transport-there : h .len ≤ length (h .transport)
-  transport-there = omega (arith, body-most (h .ctl) (h .len) fits .0)
+  transport-there = omega (arith, transport-most (h .ctl) (h .len) fits)
 
-  -- DST and all of transport hold what is sealed
-  pub clear-room : {clear : List ℕ} → clear ≡ octets 2 (h .dst) ++ h .transport → 2 + h .len ≤ length clear
-  unfolding octets
-  clear-room e = omega (arith, ap length e, body-most (h .ctl) (h .len) fits .0)
+-- DST and all of transport hold what is sealed
+pub clear-room : (ctl : Bool) (len : ℕ) (clear : List ℕ) → len ≤ mostTransport ctl → length clear ≡ 18 → 2 + len ≤ length clear
+clear-room ctl len clear fits l = omega (arith, transport-most ctl len fits)
 
-module _ (key : NetworkKeys) (h : Header) (sixteen : length (h .transport) ≡ 16) (fits : h .len ≤ mostTransport (h .ctl)) where
+module _ (key : NetworkKeys) (h : Header) (fits : h .len ≤ mostTransport (h .ctl)) where
   pub body-written :
       (out : List ℕ) {ks : List (List ℕ)} {nonce clear y : List ℕ} {size : MicSize} {ok : Bool} → 29 ≤ length out
       → ks ≡ keySchedule (key .encryption) → nonce ≡ nonceFor h → size ≡ netMic (h .ctl)
-      → clear ≡ octets 2 (h .dst) ++ h .transport
+      → clear ≡ octets 2 (h .dst) ++ h .transport → length clear ≡ 18
       → lent ok y ≡ ccm.sealing ks nonce size (take (2 + h .len) clear) (take (length out - 7) (drop 7 out))
       → take 7 out ++ (y ++ drop (length out - 7) (drop 7 out)) ≡ take 7 out ++ onto (bodyOf key h) (drop 7 out)
   unfolding bodyOf octets
-  body-written out {ks} {nonce} {clear} {y} {size} {ok} room ek en es ec e =
+  body-written out {ks} {nonce} {clear} {y} {size} {ok} room ek en es ec eighteen e =
+      let sixteen = transport-sixteen h ec eighteen in
       let d = drop 7 out in
       let ld = length-drop 7 out in
       let m = clearBody h in
@@ -119,12 +125,16 @@ length-body-written key h out {x} room e =
 
 -- ---- the front, written over octets 0-6
 pub front-written :
-    (out hidden : List ℕ) {f g : ℕ} {x : List ℕ} → length hidden ≡ 6 → 7 ≤ length out → f ≡ g
-    → x ≡ onto (take (length out) (f ∷ padded 6 hidden)) out → x ≡ onto (g ∷ hidden) out
-front-written out hidden {f} {g} {x} six room ef e =
+    (key : NetworkKeys) (h : Header) (out : List ℕ) {front random hidden x : List ℕ} {f : ℕ} → 14 ≤ length out
+    → front ≡ clearFront h → random ≡ take 7 (drop 7 out) → hidden ≡ obfuscated key (h .iv) front random → f ≡ firstOctet (h .iv) (key .nid)
+    → x ≡ onto (take (length out) (f ∷ padded 6 hidden)) out
+    → x ≡ onto (firstOctet (h .iv) (key .nid) ∷ obfuscated key (h .iv) (clearFront h) (take 7 (drop 7 out))) out
+front-written key h out {front} {random} {hidden} {x} {f} room ec er eh ef e =
+    let six : length hidden ≡ 6 = ap length eh ∙ length-obfuscated key (h .iv) front random in
     e
     ∙ ap (λ (z : List ℕ). onto z out)
-    (take-all (length out) (f ∷ padded 6 hidden) (omega arith) ∙ ap₂ _∷_ ef (padded-all 6 hidden six))
+    (take-all (length out) (f ∷ padded 6 hidden) (omega arith)
+    ∙ ap₂ _∷_ ef (padded-all 6 hidden six ∙ eh ∙ ap₂ (obfuscated key (h .iv)) ec er))
 
 -- ---- both, in this order
 module _ (key : NetworkKeys) (h : Header) (sixteen : length (h .transport) ≡ 16) (ok : sealable key h ≡ true) where
@@ -168,12 +178,55 @@ module _ (key : NetworkKeys) (h : Header) (out : List ℕ) where
   seal-short l = simp (lt-ltb (length out) 29 l)
 
   module _ (room : 29 ≤ length out) where
-    pub seal-outside : sealable key h ≡ false → lent OutsideRules out ≡ sealing key h out
-    unfolding sealing
-    seal-outside e = simp (le-ltb (length out) 29 room, e)
-
     pub seal-sealed :
         {n : ℕ} {y : List ℕ} → sealable key h ≡ true → n ≡ length (pduOf key h) → y ≡ onto (pduOf key h) out
         → lent (Sealed n) y ≡ sealing key h out
     unfolding sealing
     seal-sealed e en ey = simp (le-ltb (length out) 29 room, e) (ap₂ (λ (k : ℕ) (z : List ℕ). lent (Sealed k) z) en ey)
+
+    module _ {may : Bool} (e : may ≡ sealable key h) where
+      pub seal-outside : not may ≡ true → lent OutsideRules out ≡ sealing key h out
+      unfolding sealing
+      seal-outside f = simp (le-ltb (length out) 29 room, ← e, not-true may f)
+
+      module _ (f : not may ≡ false) where
+        allowed : sealable key h ≡ true
+        allowed = sym e ∙ not-false may f
+
+        pub seal-most : h .len ≤ mostTransport (h .ctl)
+        seal-most = within key h allowed .most-transport
+
+        pub seal-nid : key .nid ≤ 127
+        seal-nid = within key h allowed .nid-fits
+
+        pub seal-len : h .len ≤ 16
+        seal-len = transport-most (h .ctl) (h .len) seal-most
+
+        -- the body and then the front were written
+        pub seal-written :
+            {clear x y : List ℕ} {n : ℕ} → clear ≡ octets 2 (h .dst) ++ h .transport → length clear ≡ 18
+            → x ≡ take 7 out ++ onto (bodyOf key h) (drop 7 out)
+            → y ≡ onto (firstOctet (h .iv) (key .nid) ∷ obfuscated key (h .iv) (clearFront h) (take 7 (drop 7 x))) x
+            → n ≡ 9 + h .len + (if h .ctl then 8 else 4)
+            → lent (Sealed n) y ≡ sealing key h out
+        seal-written ec eighteen ex ey en =
+            let sixteen = transport-sixteen h ec eighteen in
+            seal-sealed allowed (en ∙ sym (pdu-length key h (transport-there h sixteen seal-most))) (pdu-written key h sixteen allowed out room ex ey)
+
+-- ---- the answers of forwarding
+module _ (keys : List NetworkKeys) (h : Header) (out : List ℕ) where
+  pub forward-short : length out < 29 → lent ShortBuffer out ≡ forwarding keys h out
+  unfolding forwarding
+  forward-short l = simp (lt-ltb (length out) 29 l)
+
+  module _ (room : 29 ≤ length out) where
+    pub forward-no-key : 4 ≤ h .key → lent OutsideRules out ≡ forwarding keys h out
+    unfolding forwarding
+    forward-no-key l = simp (le-ltb (length out) 29 room, le-ltb (h .key) 4 l)
+
+    pub forward-sealed :
+        {r : Lent Answer} {low : Header} → h .key < 4 → low ≡ lowered h → r ≡ sealing (keyAt keys (h .key)) low out → r ≡ forwarding keys h out
+    unfolding forwarding
+    forward-sealed l el er = simp (le-ltb (length out) 29 room, lt-ltb (h .key) 4 l) (er ∙ ap (λ (z : Header). sealing (keyAt keys (h .key)) z out) el)
+
+pub ruleset forward-rules = (forward-short, forward-no-key, forward-sealed)

@@ -93,9 +93,9 @@ fn write_body(key: NetworkKeys, h: Header, clear: [u8; 18], out: &mut [u8])
     requires { ⌜ (clear ≡ octets 2 (h .dst) ++ h .transport) × (h .len ≤ mostTransport (h .ctl)) × (29 ≤ length (now out)) ⌝ }
     ensures { λ _. ⌜ now (out .exit) ≡ take 7 (now (out .entry)) ++ onto (bodyOf key h) (drop 7 (now (out .entry))) ⌝ }
 {
+    let n = 2 + h.len;
     let encryption = key.encryption;
     let nonce = super::nonce::network(h.ctl, h.ttl, h.seq, h.src, h.iv);
-    let n = 2 + h.len;
     let ks = aes::expand(encryption);
     let mic = super::pdu::net_mic(h.ctl);
     modes::ccm::seal(ks, nonce, mic, &clear[..n], &mut out[7..]);

@@ -2,7 +2,7 @@
 -- Assumes nothing.
 use mathlib.Core.Bool.{Bool, true}
 use mathlib.Core.List.{List}
-use mathlib.Core.Path.{_≡_, sym, ap, _∙_}
+use mathlib.Core.Path.{_≡_, refl, sym, ap, _∙_}
 use Prim.Native.Nat.{ℕ, _%_, _≤_, _<_}
 use native.Mathlib.Omega.{arith}
 use borrow.Author.Tests.{eq-eqb, ne-eqb, lt-ltb, le-ltb}
@@ -47,18 +47,18 @@ module _ (credentials : List ℕ) (iv : ℕ) (pdu out : List ℕ) where
 
     pub pdu-short : length pdu < 14 → lent 1 out ≡ openDone credentials iv pdu out
     unfolding told
-    pdu-short h = early (network.open-short (pieces credentials) (pieceCount credentials) iv pdu h)
+    pdu-short h = early (network.open-short (pieces credentials) (pieceCount credentials) iv pdu h refl)
 
     module _ (low : 14 ≤ length pdu) where
       pub pdu-long : 29 < length pdu → lent 1 out ≡ openDone credentials iv pdu out
       unfolding told
-      pdu-long h = early (network.open-long (pieces credentials) (pieceCount credentials) iv pdu low h)
+      pdu-long h = early (network.open-long (pieces credentials) (pieceCount credentials) iv pdu low h refl)
 
       pub pdu-foreign :
           {b : Bool} → length pdu ≤ 29 → b ≡ eqb (length (candidates (pieces credentials) (pieceCount credentials) (getD pdu 0 0 % 128))) 0 → b ≡ true
           → lent 2 out ≡ openDone credentials iv pdu out
       unfolding told
-      pdu-foreign high e t = early (network.open-foreign (pieces credentials) (pieceCount credentials) iv pdu low high (sym t ∙ e))
+      pdu-foreign high e t = early (network.open-foreign (pieces credentials) (pieceCount credentials) iv pdu low high (sym t ∙ e) refl)
 
   module _ {held : List NetworkKeys} {count : ℕ} {o : Opening} (eh : held ≡ pieces credentials) (ec : count ≡ pieceCount credentials)
       (eo : o ≡ opening held count iv pdu) where
