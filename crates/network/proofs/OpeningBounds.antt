@@ -6,12 +6,12 @@ use mathlib.Core.List.{List}
 use mathlib.Core.Path.{refl}
 use Prim.Native.Nat.{ℕ, _/_, _%_, _≤_, _<_, min}
 use native.Mathlib.Omega.{arith}
-use borrow.Author.Tests.{ltb-true, ltb-false}
+use borrow.Author.Tests.{ltb-false}
 use lib.Dec.{eqb, ltb}
 use lib.ListN.{length, getD, drop, length-drop}
-use Rattle.common.specs.Search.{first}
-use Rattle.common.proofs.Places.{places, length-places, place-low, length-picked, picked-each}
+use Rattle.common.proofs.Picked.{places, length-places, length-picked}
 use Rattle.common.proofs.Tests.{by-test}
+use Rattle.common.proofs.Trials.{tries-places}
 use Rattle.aes.specs.KeyExpansion.{keySchedule}
 use Rattle.modes.proofs.CcmLaws.{mic-octets-bounds, length-decrypted}
 use Rattle.keys.specs.declared.NetworkKeys.{NetworkKeys}
@@ -20,12 +20,13 @@ use Rattle.network.specs.declared.iv_index.IvIndex.{IvIndex}
 use Rattle.network.specs.declared.iv_index.IvIndex.the-variants.{Index, Nothing}
 use Rattle.network.specs.declared.trial.Found.{Found}
 use Rattle.network.specs.Address.{addressesAllowed}
-use Rattle.network.specs.Candidates.{keyAt, candidates, opens, searched}
+use Rattle.network.specs.Candidates.{keyAt, candidates, opens, foundBy, searched}
 use Rattle.network.specs.Header.{noHeader}
 use Rattle.network.specs.IvIndex.{ivIndexHeard}
 use Rattle.network.specs.Opening.{judged, under, opening}
 use Rattle.network.specs.Pdu.{netMic, frontOf}
 use Rattle.network.specs.Trial.{ctlOf, headerOf, nonceOf, bodyTried, tried}
+use Rattle.network.proofs.CandidatesLaws.{hasNid}
 
 -- ---- the header that a key gives
 abbrev LowHeader : Header → Type 0
@@ -52,13 +53,7 @@ module _ (keys : List NetworkKeys) (count nid : ℕ) where
   pub candidates-most : length (candidates keys count nid) ≤ 4
   unfolding candidates
   candidates-most =
-      omega (arith, length-picked (λ i. eqb (keyAt keys i .nid) nid) (places (min count 4)), length-places (min count 4))
-
-  candidate-low : (k : ℕ) → getD (candidates keys count nid) k 0 < 4
-  unfolding candidates
-  candidate-low k =
-      picked-each (λ i. eqb (keyAt keys i .nid) nid) (λ i. i < 4) 0 (places (min count 4)) (omega arith)
-      (λ j. place-low (min count 4) j 4 (omega arith) (omega arith)) k
+      omega (arith, length-picked (hasNid keys count nid) (places (min count 4)), length-places (min count 4))
 
 -- at most four trials, a place below 4, at most 16 octets of transport
 pub record Bounded (trials : ℕ) (h : Header) : Type 0 where
@@ -72,16 +67,15 @@ refused-bounded trials m = record { trials-most = m; key-low = omega arith; len-
 
 module _ (keys : List NetworkKeys) (count : ℕ) (pdu : List ℕ) (short : length pdu ≤ 29) where
   searched-bounded : (nid iv : ℕ) → Bounded (searched keys count nid iv pdu .trials) (searched keys count nid iv pdu .header)
-  unfolding searched
+  unfolding searched candidates
   searched-bounded nid iv =
-      let cs = candidates keys count nid in
-      let p = first (opens keys iv pdu) cs in
-      let i = getD cs p 0 in
       let m = candidates-most keys count nid in
-      let h = tried-low (keyAt keys i) i iv pdu (candidate-low keys count nid p) short in
-      by-test (ltb p (length cs))
-      (λ t. rw t (record { trials-most = omega (arith, ltb-true p (length cs) t); key-low = h .0; len-most = h .1 }))
-      (λ t. rw t (refused-bounded (length cs) m))
+      tries-places (hasNid keys count nid) (opens keys iv pdu)
+      (λ t. Bounded (foundBy keys iv pdu t .trials) (foundBy keys iv pdu t .header)) (min count 4)
+      (λ i k b c o l.
+      let h = tried-low (keyAt keys i) i iv pdu (omega arith) short in
+      record { trials-most = omega arith; key-low = h .0; len-most = h .1 })
+      (refused-bounded (length (candidates keys count nid)) m)
 
   judged-bounded : (s : Found) → Bounded (s .trials) (s .header) → Bounded (judged s .trials) (judged s .header)
   unfolding judged

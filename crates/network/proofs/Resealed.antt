@@ -13,12 +13,10 @@ use lib.Seq.{getD-take}
 use Rattle.common.specs.Choice.{if_then_else_}
 use Rattle.common.specs.Lent.{lent}
 use Rattle.common.specs.Lists.{padded, onto, Octets}
-use Rattle.common.specs.Search.{first}
 use Rattle.common.proofs.Lists.{length-tab, getD-tab, tab-ext}
 use Rattle.common.proofs.Octets.{octets-take, octets-drop, octets-xored}
-use Rattle.common.proofs.Places.{places, length-places, picked-passes}
-use Rattle.common.proofs.Search.{first-passes}
 use Rattle.common.proofs.Tests.{by-test}
+use Rattle.common.proofs.Trials.{tries-places}
 use Rattle.aes.specs.KeyExpansion.{keySchedule}
 use Rattle.aes.proofs.Octets.{octets-cipher}
 use Rattle.modes.proofs.CcmLaws.{length-decrypted}
@@ -34,7 +32,7 @@ use Rattle.network.specs.declared.opening.Opening.{Opening}
 use Rattle.network.specs.declared.sealing.Answer.the-variants.{Sealed}
 use Rattle.network.specs.declared.trial.Found.{Found}
 use Rattle.network.specs.Address.{addressesAllowed}
-use Rattle.network.specs.Candidates.{keyAt, candidates, opens, searched}
+use Rattle.network.specs.Candidates.{keyAt, candidates, opens, foundBy, searched}
 use Rattle.network.specs.IvIndex.{ivIndexHeard}
 use Rattle.network.specs.Octets.{number}
 use Rattle.network.specs.Opening.{paper, refused, judged, under, opening}
@@ -43,6 +41,7 @@ use Rattle.network.specs.Resealed.{OctetKey, Resealed}
 use Rattle.network.specs.Sealing.{mostTransport, sealable, lowered}
 use Rattle.network.specs.SealOpen.{Formed}
 use Rattle.network.specs.Trial.{ctlOf, headerOf, nonceOf, bodyTried, tried}
+use Rattle.network.proofs.CandidatesLaws.{hasNid}
 use Rattle.network.proofs.Forwarded.{forwarded}
 use Rattle.network.proofs.Front.{length-obfuscated}
 use Rattle.network.proofs.OctetsLaws.{number-lt}
@@ -163,55 +162,30 @@ record Resealable (keys : List NetworkKeys) (pdu : List ℕ) (h : Header) : Type
 abbrev ResealableWhere : List NetworkKeys → List ℕ → Opening → Type 0
 ResealableWhere keys pdu o = o .answer ≡ Opened → Resealable keys pdu (o .header)
 
+-- and of a search: where a key opens the PDU and its addresses are allowed
+abbrev AgainWhere : List NetworkKeys → List ℕ → Found → Type 0
+AgainWhere keys pdu s = s .ok ≡ true → addressesAllowed (s .header .ctl) (s .header .src) (s .header .dst) ≡ true → Resealable keys pdu (s .header)
+
 -- a refusal opens nothing
 refused-none : (keys : List NetworkKeys) (pdu : List ℕ) (a : Answer) (trials : ℕ) → 0 < paper a → ResealableWhere keys pdu (refused a trials)
 refused-none keys pdu a trials h e = let z : paper a ≡ 0 = ap paper e in absurd (omega arith)
 
 module _ (keys : List NetworkKeys) (count : ℕ) (pdu : List ℕ) (held : (i : ℕ) → i < min count 4 → OctetKey (keyAt keys i)) (p : Octets pdu)
     (least : 14 ≤ length pdu) (most : length pdu ≤ 29) where
-  -- a candidate is a key that is held and has the NID
-  candidate :
-      (nid k : ℕ) → k < length (candidates keys count nid)
-      → (getD (candidates keys count nid) k 0 < min count 4) × (keyAt keys (getD (candidates keys count nid) k 0) .nid ≡ nid)
-  unfolding candidates
-  candidate nid k h =
-      let n = min count 4 in
-      let x =
-      picked-passes (λ i. eqb (keyAt keys i .nid) nid) (λ i. i < n) 0 (places n)
-      (λ j m. let l = length-places n in let b : j < n = omega arith in subst (λ (i : ℕ). i < n) (sym (getD-tab (λ (i : ℕ). i) n j 0 b)) b) k h in
-      (x .0, eqb-true (keyAt keys (getD (candidates keys count nid) k 0) .nid) nid (x .1))
+  searched-again : (nid iv : ℕ) → nid ≤ 127 → AgainWhere keys pdu (searched keys count nid iv pdu)
+  unfolding searched candidates opens
+  searched-again nid iv seven =
+      tries-places (hasNid keys count nid) (opens keys iv pdu) (λ t. AgainWhere keys pdu (foundBy keys iv pdu t)) (min count 4)
+      (λ i k low same o _ _ a.
+      let n = eqb-true (keyAt keys i .nid) nid same in
+      let x = tried-again (keyAt keys i) i iv pdu (omega arith) (held i low) p least most o a in
+      record {
+        again = subst (λ (n : ℕ). Again (keyAt keys n) pdu (tried (keyAt keys i) i iv pdu .header)) (sym (x .1)) (x .0);
+        low = omega (arith, x .1);
+      })
+      (λ ok. absurd (false≢true ok))
 
-  module _ (iv : ℕ) where
-    abbrev nid : ℕ
-    nid = getD pdu 0 0 % 128
-
-    abbrev found : Found
-    found = searched keys count nid iv pdu
-
-    searched-again : found .ok ≡ true → addressesAllowed (found .header .ctl) (found .header .src) (found .header .dst) ≡ true → Resealable keys pdu (found .header)
-    unfolding searched opens
-    searched-again =
-        let cs = candidates keys count nid in
-        let f = first (opens keys iv pdu) cs in
-        let i = getD cs f 0 in
-        by-test (ltb f (length cs))
-        (λ t. rw t
-        (λ _ a.
-        let b = ltb-true f (length cs) t in
-        let c = candidate nid f b in
-        let low = c .0 in
-        let same = c .1 in
-        let x = tried-again (keyAt keys i) i iv pdu (omega arith) (held i low) p least most (first-passes (opens keys iv pdu) cs 0 b) a in
-        let here = x .1 in
-        record {
-          again = subst (λ (n : ℕ). Again (keyAt keys n) pdu (tried (keyAt keys i) i iv pdu .header)) (sym here) (x .0);
-          low = omega arith;
-        }))
-        (λ t. rw t (λ ok. absurd (false≢true ok)))
-
-  judged-again :
-      (s : Found) → (s .ok ≡ true → addressesAllowed (s .header .ctl) (s .header .src) (s .header .dst) ≡ true → Resealable keys pdu (s .header))
-      → ResealableWhere keys pdu (judged s)
+  judged-again : (s : Found) → AgainWhere keys pdu s → ResealableWhere keys pdu (judged s)
   unfolding judged
   judged-again s r =
       by-test (s .ok)
@@ -223,7 +197,7 @@ module _ (keys : List NetworkKeys) (count : ℕ) (pdu : List ℕ) (held : (i : �
   under-again : (i : IvIndex) → ResealableWhere keys pdu (under keys count pdu i)
   unfolding under
   under-again Nothing = refused-none keys pdu NoCandidate 0 (omega arith)
-  under-again (Index iv) = judged-again (searched keys count (getD pdu 0 0 % 128) iv pdu) (searched-again iv)
+  under-again (Index iv) = judged-again (searched keys count (getD pdu 0 0 % 128) iv pdu) (searched-again (getD pdu 0 0 % 128) iv (omega arith))
 
 opening-again :
     (keys : List NetworkKeys) (count current : ℕ) (pdu : List ℕ) → ((i : ℕ) → i < min count 4 → OctetKey (keyAt keys i)) → Octets pdu

@@ -1,12 +1,12 @@
 -- The candidates of a PDU, and the trials of them in order (document 01, "The Network PDU").
 use mathlib.Core.Bool.{Bool, true, false}
 use mathlib.Core.List.{List, []}
-use Prim.Native.Nat.{ℕ, _+_, min}
-use lib.Dec.{eqb, ltb}
-use lib.ListN.{length, getD}
-use Rattle.common.specs.Choice.{if_then_else_}
+use Prim.Native.Nat.{ℕ, min}
+use lib.Dec.{eqb}
+use lib.ListN.{getD}
 use Rattle.common.specs.Lists.{tab}
-use Rattle.common.specs.Search.{first, picked}
+use Rattle.common.specs.Search.{picked}
+use Rattle.common.specs.Trials.{Outcome, Succeeded, Failed, tries}
 use Rattle.keys.specs.declared.NetworkKeys.{NetworkKeys}
 use Rattle.network.specs.declared.trial.Found.{Found}
 use Rattle.network.specs.Header.{noHeader}
@@ -28,12 +28,12 @@ candidates keys count nid = picked (λ i. eqb (keyAt keys i .nid) nid) (tab (λ 
 unfoldable pub opens : List NetworkKeys → ℕ → List ℕ → ℕ → Bool
 opens keys iv pdu i = tried (keyAt keys i) i iv pdu .ok
 
+-- what their trials say: the header under the key that authenticates, and the number of trials
+abbrev pub foundBy : List NetworkKeys → ℕ → List ℕ → Outcome ℕ → Found
+foundBy keys iv pdu (Succeeded i trials) = record { ok = true; trials = trials; header = tried (keyAt keys i) i iv pdu .header }
+foundBy keys iv pdu (Failed trials) = record { ok = false; trials = trials; header = noHeader }
+
 -- they are tried one by one, stopping at the first that authenticates; the number of trials is that key's place among the candidates, from
 -- 1, or their number when none opens it
 unfoldable pub searched : List NetworkKeys → ℕ → ℕ → ℕ → List ℕ → Found
-searched keys count nid iv pdu =
-    let cs = candidates keys count nid in
-    let p = first (opens keys iv pdu) cs in
-    let i = getD cs p 0 in
-    if ltb p (length cs) then record { ok = true; trials = p + 1; header = tried (keyAt keys i) i iv pdu .header } else
-    record { ok = false; trials = length cs; header = noHeader }
+searched keys count nid iv pdu = foundBy keys iv pdu (tries (opens keys iv pdu) (candidates keys count nid))

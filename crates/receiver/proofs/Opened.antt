@@ -6,9 +6,9 @@ use mathlib.Core.Path.{_≡_}
 use Prim.Native.Nat.{ℕ, _/_, _%_}
 use lib.Dec.{eqb, ltb}
 use lib.ListN.{length, getD, drop, length-replicate}
-use Rattle.common.specs.Search.{first}
 use Rattle.common.proofs.Lists.{length-tab}
 use Rattle.common.proofs.Tests.{by-choice}
+use Rattle.common.proofs.Trials.{tries-each}
 use Rattle.keys.specs.declared.NetworkKeys.{NetworkKeys}
 use Rattle.network.specs.declared.header.Header.{Header}
 use Rattle.network.specs.declared.iv_index.IvIndex.{IvIndex}
@@ -19,7 +19,7 @@ use Rattle.network.specs.declared.opening.Opening.{Opening}
 use Rattle.network.specs.declared.trial.Found.{Found}
 use Rattle.network.specs.declared.trial.Trial.{Trial}
 use Rattle.network.specs.Address.{addressesAllowed}
-use Rattle.network.specs.Candidates.{keyAt, candidates, opens, searched}
+use Rattle.network.specs.Candidates.{keyAt, candidates, opens, foundBy, searched}
 use Rattle.network.specs.Header.{noHeader}
 use Rattle.network.specs.IvIndex.{ivIndexHeard}
 use Rattle.network.specs.Opening.{judged, under, opening}
@@ -66,9 +66,8 @@ searched-places : (keys : List NetworkKeys) (count nid iv : ℕ) (pdu : List ℕ
 unfolding searched
 searched-places keys count nid iv pdu =
     let cs = candidates keys count nid in
-    let p = first (opens keys iv pdu) cs in
-    let i = getD cs p 0 in
-    by-choice (λ (s : Found). Places (s .header)) (ltb p (length cs)) (λ t. tried-places (keyAt keys i) i iv pdu) (λ t. no-places)
+    tries-each (opens keys iv pdu) 0 (λ t. Places (foundBy keys iv pdu t .header)) cs
+    (λ k _. let i = getD cs k 0 in tried-places (keyAt keys i) i iv pdu) (λ _. no-places)
 
 -- ---- refusal 4 lets no source 0 pass
 judged-clear : (s : Found) → Places (s .header) → ClearOf (judged s)

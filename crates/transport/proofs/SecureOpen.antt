@@ -1,22 +1,20 @@
--- `UnsecureSecure`: the keys that fit are those before the key, then the key itself, then others. None before it authenticates the message and it does
--- (`open-seal` of CCM), so the search ends at it, behind as many trials as there are keys before it that fit. The bounds hold of each way of the
--- definition: a place among four keys, a search that ends among them, and a cipher that opens at most 384 octets and else keeps the buffer; 16 was tested for.
+-- `UnsecureSecure`: no key before it that fits authenticates the message and the key does (`open-seal` of CCM), so the search ends at it, behind as many
+-- trials as there are keys before it that fit. The bounds hold of each way of the definition: a place among four keys, a search that ends among them, and
+-- a cipher that opens at most 384 octets and else keeps the buffer; 16 was tested for.
 -- Assumes nothing.
 use mathlib.Core.Bool.{Bool, true}
-use mathlib.Core.List.{List, _∷_, _++_}
-use mathlib.Core.Path.{_≡_, refl, sym, ap, _∙_, subst}
-use Prim.Native.Nat.{ℕ, suc, _+_, _-_, _<_, _≤_, min}
+use mathlib.Core.List.{List}
+use mathlib.Core.Path.{_≡_, refl, sym, ap, subst}
+use Prim.Native.Nat.{ℕ, _+_, _-_, _<_, _≤_, min}
 use native.Mathlib.Omega.{arith}
-use borrow.Author.Tests.{lt-ltb, ltb-true}
+use borrow.Author.Tests.{ltb-true}
 use lib.Dec.{ltb}
-use lib.ListN.{length, getD, drop, length-append}
-use lib.Seq.{getD-append-seam}
+use lib.ListN.{length}
 use Rattle.common.specs.Lent.{Lent, lent}
 use Rattle.common.specs.Lists.{onto}
-use Rattle.common.specs.Search.{first, picked}
-use Rattle.common.proofs.Places.{places, length-places, place-low, length-picked, picked-each, picked-split, first-at-place}
-use Rattle.common.proofs.Search.{first-passes}
+use Rattle.common.proofs.Picked.{places, length-places, length-picked}
 use Rattle.common.proofs.Tests.{by-choice}
+use Rattle.common.proofs.Trials.{tries-places, tries-at}
 use Rattle.aes.specs.KeyExpansion.{keySchedule}
 use Rattle.modes.specs.Ccm.{micOctets}
 use Rattle.modes.proofs.Opened.{opening-left}
@@ -27,9 +25,9 @@ use Rattle.transport.specs.declared.securing.MessageKey.{MessageKey}
 use Rattle.transport.specs.declared.securing.MessageKey.the-variants.{Application, Device}
 use Rattle.transport.specs.declared.securing.Opened.{Opened}
 use Rattle.transport.specs.declared.securing.Opened.the-variants.{Message, NotOpened, ShortBuffer}
-use Rattle.transport.specs.Securing.{transMic, messageNonceOf, secured, openedBy, applicationKeyAt, applicationCandidates, byApplicationKeys, byDeviceKey, unsecuring, paper, trialsOf}
-use Rattle.transport.specs.SecureOpen.{SecuredLength, Fits, UnsecureSecure, UnsecureSecureDevice, TrialsMost, Stands, MessageStands, PlaceLow, RefusedKeeps}
-use Rattle.transport.proofs.SecuringLaws.{fitsAt, opensAt, candidates-are, open-application, open-device, device-opens}
+use Rattle.transport.specs.Securing.{transMic, messageNonceOf, secured, openedBy, applicationKeyAt, applicationCandidates, opensMessage, messageBy, byApplicationKeys, byDeviceKey, unsecuring, paper, trialsOf}
+use Rattle.transport.specs.SecureOpen.{SecuredLength, Fits, Receives, UnsecureSecure, UnsecureSecureDevice, TrialsMost, Stands, MessageStands, PlaceLow, RefusedKeeps}
+use Rattle.transport.proofs.SecuringLaws.{fitsAt, open-application, open-device, device-opens}
 
 pub secured-length : SecuredLength
 unfolding secured
@@ -49,41 +47,26 @@ module _ (key : List ℕ) (e : Envelope) (m buf : List ℕ) (f : Fits m buf) whe
   message-length : length m ≡ length (secured key e m) - micOctets (transMic (e .szmic))
   message-length = omega (arith, secured-length key e m)
 
--- ---- the keys that fit, where the key at place i is one of them
-module _ (keys : List ApplicationKey) (count i : ℕ) (e : Envelope) (held : i < min count 4) where
-  abbrev behind : List ℕ
-  behind = picked (fitsAt keys count e) (drop (suc i) (places (min count 4)))
-
-  -- the key is among the first four, so those before it are all held
-  before-is : applicationCandidates keys i e ≡ picked (fitsAt keys count e) (places i)
-  before-is = let n : min i 4 ≡ i = omega arith in candidates-are keys i e ∙ rw n
-
-  candidates-split : fitsAt keys count e i ≡ true → applicationCandidates keys count e ≡ applicationCandidates keys i e ++ i ∷ behind
-  candidates-split t = rw before-is (candidates-are keys count e ∙ picked-split (fitsAt keys count e) (min count 4) i held t)
-
--- the search ends at it
-by-keys-of :
-    (keys : List ApplicationKey) (count : ℕ) (e : Envelope) (c buf a b : List ℕ) (i len : ℕ) {left : List ℕ} → applicationCandidates keys count e ≡ a ++ i ∷ b
-    → first (opensAt keys count e c buf) (a ++ i ∷ b) ≡ length a → openedBy (applicationKeyAt keys i .key) e c buf ≡ lent true left
-    → len ≡ length c - micOctets (transMic (e .szmic)) → byApplicationKeys keys count e c buf ≡ lent (Message (Application i) (length a + 1) len) left
-unfolding byApplicationKeys
-by-keys-of keys count e c buf a b i len ec ef eo el =
-    rw (ec, ef, lt-ltb (length a) (length (a ++ i ∷ b)) (simp length-append (omega arith)), getD-append-seam a i b 0, eo, el)
+-- ---- the key at place i opens the message, and none before it that fits: the search ends at it, behind those before it that fit
+by-key-at :
+    (keys : List ApplicationKey) (count i : ℕ) (e : Envelope) (c buf : List ℕ) (len : ℕ) {left : List ℕ} → Receives keys count i e c buf
+    → openedBy (applicationKeyAt keys i .key) e c buf ≡ lent true left → len ≡ length c - micOctets (transMic (e .szmic))
+    → byApplicationKeys keys count e c buf ≡ lent (Message (Application i) (length (applicationCandidates keys i e) + 1) len) left
+unfolding byApplicationKeys applicationCandidates
+by-key-at keys count i e c buf len r o l =
+    let h = r .held in
+    let n : min i 4 ≡ i = omega arith in
+    let ends =
+    tries-at (fitsAt keys count e) (opensMessage keys e c buf) (min count 4) i h (r .fitting) (ap (λ (x : Lent Bool). x .answer) o) (r .none-before) in
+    rw (ends, o, l, n)
 
 pub unsecure-secure : UnsecureSecure
 unsecure-secure keys count i device e m buf f r =
     let key = applicationKeyAt keys i .key in
     let c = secured key e m in
-    let o = opened-secured key e m buf f in
-    let before = before-is keys count i e (r .held) in
-    let rest = behind keys count i e (r .held) in
-    let ends : first (opensAt keys count e c buf) (applicationCandidates keys i e ++ i ∷ rest) ≡ length (applicationCandidates keys i e) =
-    rw before (first-at-place (fitsAt keys count e) (opensAt keys count e c buf) i rest (r .none-before) (ap (λ (x : Lent Bool). x .answer) o)) in
     sym
     (open-application keys count device e c buf (f .room) (long-enough key e m buf f) (r .akf-set)
-    (sym
-    (by-keys-of keys count e c buf (applicationCandidates keys i e) rest i (length m) (candidates-split keys count i e (r .held) (r .fitting)) ends o
-    (message-length key e m buf f))))
+    (sym (by-key-at keys count i e c buf (length m) r (opened-secured key e m buf f) (message-length key e m buf f))))
 
 pub unsecure-secure-device : UnsecureSecureDevice
 unsecure-secure-device keys count device e m buf f t =
@@ -95,13 +78,8 @@ unsecure-secure-device keys count device e m buf f t =
 -- ---- the bounds
 module _ (keys : List ApplicationKey) (count : ℕ) (e : Envelope) where
   pub candidates-most : length (applicationCandidates keys count e) ≤ 4
-  candidates-most =
-      rw (candidates-are keys count e) (omega (arith, length-picked (fitsAt keys count e) (places (min count 4)), length-places (min count 4)))
-
-  candidate-low : (k : ℕ) → getD (applicationCandidates keys count e) k 0 < 4
-  candidate-low k =
-      rw (candidates-are keys count e)
-      (picked-each (fitsAt keys count e) (λ i. i < 4) 0 (places (min count 4)) (omega arith) (λ j. place-low (min count 4) j 4 (omega arith) (omega arith)) k)
+  unfolding applicationCandidates
+  candidates-most = omega (arith, length-picked (fitsAt keys count e) (places (min count 4)), length-places (min count 4))
 
 -- what an answer says of the buffer beside it
 abbrev Says : List ℕ → List ℕ → Opened → List ℕ → Type 0
@@ -121,19 +99,11 @@ module _ (keys : List ApplicationKey) (count : ℕ) (device : List ℕ) (e : Env
   Leaves r = Says c buf (r .answer) (r .buffer)
 
   keys-leave : Leaves (byApplicationKeys keys count e c buf)
-  unfolding byApplicationKeys
+  unfolding byApplicationKeys applicationCandidates
   keys-leave =
-      let cs = applicationCandidates keys count e in
-      let p = first (opensAt keys count e c buf) cs in
       let m = candidates-most keys count e in
-      by-choice Leaves (ltb p (length cs))
-      (λ t.
-      let h = ltb-true p (length cs) t in (
-        candidate-low keys count e p,
-        omega arith,
-        stands (applicationKeyAt keys (getD cs p 0) .key) e c buf (first-passes (opensAt keys count e c buf) cs 0 h),
-      ))
-      (λ t. (m, refl))
+      tries-places (fitsAt keys count e) (opensMessage keys e c buf) (λ t. Leaves (messageBy keys e c buf t)) (min count 4)
+      (λ i k b f o l. (omega arith, omega arith, stands (applicationKeyAt keys i .key) e c buf o)) (m, refl)
 
   device-leaves : Leaves (byDeviceKey device e c buf)
   unfolding byDeviceKey

@@ -1,17 +1,16 @@
--- Securing and opening from the code's steps. An application key is passed, tried in vain, or opens the message, and past the last key none opens it;
--- the count of trials is a place among the keys that fit throughout: `Searching`. A key that does not open the message keeps the buffer, so each is
--- tried on the same one. Then the laws of the answers, each named for what is wrong or for the key. Assumes nothing.
+-- Securing and opening from the code's steps. An application key is passed, tried in vain, or opens the message, and past the last key none opens it:
+-- `Searching`. A key that does not open the message keeps the buffer, so each is tried on the same one. Then the laws of the answers, each named for what is wrong or for the key. Assumes nothing.
 use mathlib.Core.Bool.{Bool, true, false}
 use mathlib.Core.List.{List}
 use mathlib.Core.Path.{_≡_, refl, sym, ap, _∙_}
 use Prim.Native.Nat.{ℕ, _+_, _-_, _≤_, _<_, min}
-use native.Mathlib.Omega.{arith}
 use borrow.Author.Tests.{eq-eqb, lt-ltb, le-ltb}
 use lib.Dec.{eqb}
 use lib.ListN.{length}
 use Rattle.common.specs.Lent.{Lent, lent}
 use Rattle.common.specs.Search.{picked}
-use Rattle.common.proofs.Places.{places, Visited, visited-start, visited-pass, visited-tried, visited-opens, visited-end}
+use Rattle.common.proofs.Picked.{places}
+use Rattle.common.proofs.Trials.{Visited, visited-start, visited-pass, visited-tried, visited-opens, visited-end}
 use Rattle.aes.specs.KeyExpansion.{keySchedule}
 use Rattle.modes.specs.declared.ccm.MicSize.{MicSize}
 use Rattle.modes.specs.Ccm.{micOctets, sealing, opening}
@@ -22,7 +21,7 @@ use Rattle.transport.specs.declared.securing.Envelope.{Envelope}
 use Rattle.transport.specs.declared.securing.MessageKey.the-variants.{Application, Device}
 use Rattle.transport.specs.declared.securing.Opened.{Opened}
 use Rattle.transport.specs.declared.securing.Opened.the-variants.{Message, NotOpened, ShortBuffer}
-use Rattle.transport.specs.Securing.{transMic, messageNonceOf, secured, openedBy, applicationKeyAt, fitsKey, applicationCandidates, byApplicationKeys, byDeviceKey, securing, unsecuring}
+use Rattle.transport.specs.Securing.{transMic, messageNonceOf, secured, openedBy, applicationKeyAt, fitsKey, applicationCandidates, opensMessage, byApplicationKeys, byDeviceKey, securing, unsecuring}
 
 -- ---- the nonce
 module _ (e : Envelope) (n : List ℕ) where
@@ -75,53 +74,44 @@ module _ (keys : List ApplicationKey) (count : ℕ) (e : Envelope) where
   abbrev pub fitsAt : ℕ → Bool
   fitsAt i = fitsKey e (applicationKeyAt keys i)
 
-  pub candidates-are : applicationCandidates keys count e ≡ picked fitsAt (places (min count 4))
+  candidates-are : applicationCandidates keys count e ≡ picked fitsAt (places (min count 4))
   unfolding applicationCandidates
   candidates-are = refl
 
   module _ (c buf : List ℕ) where
-    -- whether it authenticates the message
-    abbrev pub opensAt : ℕ → Bool
-    opensAt i = openedBy (applicationKeyAt keys i .key) e c buf .answer
-
     -- the keys before place i are done with, n of them were tried, and none of those opens the message
     abbrev pub Searching : ℕ → ℕ → Type 0
-    Searching i n = Visited fitsAt opensAt (min count 4) i n
+    Searching i n = Visited fitsAt (opensMessage keys e c buf) (min count 4) i n
 
     pub no-key-yet : Searching 0 0
-    no-key-yet = visited-start fitsAt opensAt (min count 4)
+    no-key-yet = visited-start fitsAt (opensMessage keys e c buf) (min count 4)
 
     module _ {i n : ℕ} (s : Searching i n) where
       -- past the last key
       pub no-key-opens : min count 4 ≤ i → lent (NotOpened n) buf ≡ byApplicationKeys keys count e c buf
       unfolding byApplicationKeys
-      no-key-opens h =
-          let cs = picked fitsAt (places (min count 4)) in
-          let x = visited-end fitsAt opensAt (min count 4) s h in
-          rw (candidates-are, x .1, le-ltb (length cs) (length cs) (omega arith), x .0)
+      no-key-opens h = rw (candidates-are, visited-end fitsAt (opensMessage keys e c buf) (min count 4) s h)
 
       module _ (h : i < min count 4) where
         -- the key at i does not fit
         pub key-passed : {fit : Bool} → fit ≡ fitsAt i → fit ≡ false → Searching (i + 1) n
-        key-passed ef f = visited-pass fitsAt opensAt (min count 4) s h (sym ef ∙ f)
+        key-passed ef f = visited-pass fitsAt (opensMessage keys e c buf) (min count 4) s h (sym ef ∙ f)
 
         -- it fits
         module _ {fit : Bool} (ef : fit ≡ fitsAt i) (t : fit ≡ true) {ok : Bool} {out : List ℕ}
             (eo : lent ok out ≡ openedBy (applicationKeyAt keys i .key) e c buf) where
-          verdict : opensAt i ≡ ok
+          verdict : opensMessage keys e c buf i ≡ ok
           verdict = sym (ap (λ (r : Lent Bool). r .answer) eo)
 
           pub key-tried : ok ≡ false → Searching (i + 1) (n + 1)
-          key-tried f = visited-tried fitsAt opensAt (min count 4) s h (sym ef ∙ t) (verdict ∙ f)
+          key-tried f = visited-tried fitsAt (opensMessage keys e c buf) (min count 4) s h (sym ef ∙ t) (verdict ∙ f)
 
           pub key-opens :
               {len : ℕ} → len ≡ length c - micOctets (transMic (e .szmic)) → ok ≡ true
               → lent (Message (Application i) (n + 1) len) out ≡ byApplicationKeys keys count e c buf
           unfolding byApplicationKeys
           key-opens el f =
-              let cs = picked fitsAt (places (min count 4)) in
-              let o = visited-opens fitsAt opensAt (min count 4) s h (sym ef ∙ t) (verdict ∙ f) in
-              rw (candidates-are, o .0, lt-ltb n (length cs) (o .1), o .2, ← eo, el)
+              rw (candidates-are, visited-opens fitsAt (opensMessage keys e c buf) (min count 4) s h (sym ef ∙ t) (verdict ∙ f), ← eo, el)
 
 -- ---- the device key
 module _ (device : List ℕ) (e : Envelope) (c buf : List ℕ) {ok : Bool} {out : List ℕ} (eo : lent ok out ≡ openedBy device e c buf) where

@@ -10,7 +10,8 @@ use lib.ListN.{length, getD}
 use Rattle.common.specs.Choice.{if_then_else_}
 use Rattle.common.specs.Lent.{Lent, lent}
 use Rattle.common.specs.Lists.{tab, onto}
-use Rattle.common.specs.Search.{first, picked}
+use Rattle.common.specs.Search.{picked}
+use Rattle.common.specs.Trials.{Outcome, Succeeded, Failed, tries}
 use Rattle.aes.specs.KeyExpansion.{keySchedule}
 use Rattle.modes.specs.declared.ccm.MicSize.{MicSize}
 use Rattle.modes.specs.declared.ccm.MicSize.the-variants.{Four, Eight}
@@ -57,16 +58,20 @@ fitsKey e k = eqb (k .aid) (e .aid) && eqb (k .bound) (e .network)
 unfoldable pub applicationCandidates : List ApplicationKey → ℕ → Envelope → List ℕ
 applicationCandidates keys count e = picked (λ i. fitsKey e (applicationKeyAt keys i)) (tab (λ i. i) (min count 4))
 
+-- whether the key at place i authenticates the message
+abbrev pub opensMessage : List ApplicationKey → Envelope → List ℕ → List ℕ → ℕ → Bool
+opensMessage keys e c buf i = openedBy (applicationKeyAt keys i .key) e c buf .answer
+
+-- what their trials leave: the message under the key that authenticates, or the buffer as it was
+abbrev pub messageBy : List ApplicationKey → Envelope → List ℕ → List ℕ → Outcome ℕ → Lent Opened
+messageBy keys e c buf (Succeeded i trials) =
+    lent (Message (Application i) trials (length c - micOctets (transMic (e .szmic)))) (openedBy (applicationKeyAt keys i .key) e c buf .buffer)
+messageBy keys e c buf (Failed trials) = lent (NotOpened trials) buf
+
 -- AKF 1: they are tried one by one, stopping at the first that authenticates; the number of trials is that key's place among them, from 1, or
 -- their number when none opens it
 unfoldable pub byApplicationKeys : List ApplicationKey → ℕ → Envelope → List ℕ → List ℕ → Lent Opened
-byApplicationKeys keys count e c buf =
-    let cs = applicationCandidates keys count e in
-    let p = first (λ i. openedBy (applicationKeyAt keys i .key) e c buf .answer) cs in
-    let i = getD cs p 0 in
-    if ltb p (length cs) then
-    lent (Message (Application i) (p + 1) (length c - micOctets (transMic (e .szmic)))) (openedBy (applicationKeyAt keys i .key) e c buf .buffer) else
-    lent (NotOpened (length cs)) buf
+byApplicationKeys keys count e c buf = messageBy keys e c buf (tries (opensMessage keys e c buf) (applicationCandidates keys count e))
 
 -- AKF 0: the device key, which is not counted
 unfoldable pub byDeviceKey : List ℕ → Envelope → List ℕ → List ℕ → Lent Opened
