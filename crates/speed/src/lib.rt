@@ -1,5 +1,5 @@
 // What bench/ times: blocks of AES-128, CMAC and CCM opening, and hearing, on plain numbers and byte buffers. Each call expands its key once.
-mod hearing;
+pub mod hearing;
 
 ghost use mathlib.Core.Path.{_≡_};
 ghost use lib.ListN.{length};
