@@ -32,8 +32,8 @@ use Rattle.memory.specs.declared.cache.Seen as cached
 use Rattle.memory.specs.Cache.{seen, remembered}
 use Rattle.memory.proofs.CacheLaws.{length-remembered, seen-or-new}
 use Rattle.node.specs.declared.addresses.Node.{Node}
-use Rattle.node.specs.Addresses.{forNode}
 use Rattle.node.specs.Made.{WellMade}
+use Rattle.node.proofs.IndexLaws.{for-fixed}
 use Rattle.receiver.specs.declared.answer.Answer.{Answer}
 use Rattle.receiver.specs.declared.answer.Refusal.the-variants as refusal
 use Rattle.receiver.specs.declared.answer.Taken.{Taken}
@@ -54,7 +54,7 @@ use Rattle.demands.specs.Speech.{Speech, lastOf, headerOf, segmentPdu, S
 use Rattle.demands.proofs.Invariant.{good-step}
 use Rattle.demands.proofs.KeptLaws.{kept-acknowledging, kept-scene, refilled}
 use Rattle.demands.proofs.Refusal.{unopened, unopened-leaves}
-use Rattle.demands.proofs.SceneLaws.{speakerOf, speakerKey, Scenery, entry-room, session-room}
+use Rattle.demands.proofs.SceneLaws.{speakerOf, speakerKey, Scenery, same-scene, entry-room, session-room}
 use Rattle.demands.proofs.SpeechCut.{last-low}
 use Rattle.demands.proofs.SpeechSegment.{formed, segment-sealable, segment-taken, segment-placed}
 use Rattle.demands.proofs.StageLaws.{segmentAt, Stage}
@@ -146,7 +146,7 @@ module _ (node : Node) (speeches : List Speech) (spent : Spent) where
       opens : opening (r .node .materials) (r .node .networks) (r .node .iv) pdu ≡ record { answer = network.Opened; trials = trials; header = h }
       unfolding headerOf
       opens =
-          rw (sc .same)
+          rw (same-scene sc)
           (open-seal (node .materials) (node .networks) (node .iv) h can (formed node s w i (sent .segment-there) seq ttl) (sent .own-key-first))
 
       taken-is : takenAs (formOf h) q h msg ≡ t
@@ -177,7 +177,7 @@ module _ (node : Node) (speeches : List Speech) (spent : Spent) where
       steps =
           let c = length-remembered (r .cache) h ∙ sc .good .cache-places in
           let dst = allowed-some (h .ctl) (h .src) (h .dst) (within (keyAt (node .materials) (s .network)) h can .allowed) in
-          placed-steps node made s w spoken-of q (sc .same) (good-cache r (sc .good) _ c) (filled k) i (sent .segment-there) msg dst big seq ttl
+          placed-steps node made s w spoken-of q (sc .setup-same) (good-cache r (sc .good) _ c) (filled k) i (sent .segment-there) msg dst big seq ttl
           (entry-room node speeches spent r filled sc few (s .src)) (session-room node speeches spent r filled sc few k (sent .one-of)) (sc .stages k (sent .one-of))
 
       -- what the call hands up and leaves is what placing it does
@@ -190,7 +190,7 @@ module _ (node : Node) (speeches : List Speech) (spent : Spent) where
       leaves : seen (r .cache) h ≡ false → Leaves r pdu fwd msg wide big h trials opens t
       unfolding headerOf
       leaves e =
-          let here : forNode (r .node) (s .dst) ≡ true = rw (sc .same) (w .for-here) in
+          let here = for-fixed (r .node) node (sc .setup-same) (s .dst) ∙ w .for-here in
           heard-new r pdu fwd msg wide big h trials opens e here t taken-is
 
       does : seen (r .cache) h ≡ false → Does
@@ -241,7 +241,7 @@ module _ (node : Node) (speeches : List Speech) (spent : Spent) where
       placed-next e =
           let l = does e in
           let hears = good-hear r pdu fwd msg (sc .good) in
-          let stays = fixed-heard r fwd msg pdu .node-stays in
+          let stays = fixed-heard r fwd msg pdu in
           record {
             hands = l .hands-as ∙ steps .due;
             stores = λ f g. l .stored-as ∙ rw (steps .stores f g) refl;
@@ -249,7 +249,8 @@ module _ (node : Node) (speeches : List Speech) (spent : Spent) where
             scenery =
                 record {
                   good = hears;
-                  same = stays ∙ sc .same;
+                  setup-same = stays .setup-stays ∙ sc .setup-same;
+                  index-same = stays .index-stays ∙ sc .index-same;
                   stages = rw (l .left-is) more-stages;
                   sessions-owned = rw (l .left-is) (steps .sessions-owned (length speeches) (speakerKey speeches) k (sent .one-of) refl (sc .sessions-owned));
                   entries-listed = rw (l .left-is) (steps .entries-listed (length speeches) (speakerOf speeches) k (sent .one-of) refl (sc .entries-listed));
@@ -264,7 +265,7 @@ module _ (node : Node) (speeches : List Speech) (spent : Spent) where
     pub event-next : (e : Event) → Comes node speeches spent e → Next r filled e (callAs node speeches e fwd msg)
     event-next (Segment k i seq ttl) c = segment-next k i seq ttl c
     event-next (Foreign pdu) c =
-        let none : noKeyOpens (opening (r .node .materials) (r .node .networks) (r .node .iv) pdu .answer) ≡ true = rw (sc .same) c in
+        let none : noKeyOpens (opening (r .node .materials) (r .node .networks) (r .node .iv) pdu .answer) ≡ true = rw (same-scene sc) c in
         let u = unopened-leaves r pdu fwd msg none in
         record { hands = foreign-none r pdu fwd msg none; stores = tt {0}; counts = tt {0}; scenery = rw (u .receiver-stays) sc }
     event-next (Ask net src) c =

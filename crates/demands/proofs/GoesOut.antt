@@ -32,6 +32,7 @@ use Rattle.memory.specs.declared.pair.Pair.{Pair}
 use Rattle.memory.specs.declared.session.Terms.{Terms}
 use Rattle.node.specs.declared.addresses.Node.{Node}
 use Rattle.node.specs.declared.setup.Setup.{Setup}
+use Rattle.node.specs.Index.{SameFixed}
 use Rattle.node.specs.Made.{WellMade}
 use Rattle.node.proofs.Addressed.{for-allowed}
 use Rattle.node.proofs.SetupLaws.{local-is-unicast}
@@ -45,7 +46,7 @@ use Rattle.sending.specs.Segment.{segmentHeader, starting, elementOf, segmentAl
 use Rattle.sending.specs.Transmission.{addressOf, nextSeq, stamped}
 use Rattle.sending.proofs.Laws.Allowed.{ttl-low, whole-short, segment-allowed}
 use Rattle.sending.proofs.Laws.Calls.{access-whole, access-begun, control-whole, control-begun, segment-sent}
-use Rattle.sending.proofs.Laws.Stamped.{stamps, address-local, element-back}
+use Rattle.sending.proofs.Laws.Stamped.{stamps, address-local, element-back, address-fixed, element-fixed}
 use Rattle.sending.proofs.Laws.Transmitted.{saying, Sends, saying-is, starting-is}
 use Rattle.demands.specs.Call.{SendSegment, Outcome, madeBy, leftSaid, step, run}
 use Rattle.demands.specs.Interleaved.{nodeOf, Each}
@@ -147,11 +148,11 @@ module _ (sender : Receiver) (setup : Setup) (q : Request) (words : Words) (buf 
 
     -- what stands before segment n makes it
     segment-can :
-        (r : Receiver) (n : ℕ) → r .node ≡ sender .node → nextSeq r (q .element) ≡ first + n → n ≤ lastOf node s
+        (r : Receiver) (n : ℕ) → SameFixed (r .node) (sender .node) → nextSeq r (q .element) ≡ first + n → n ≤ lastOf node s
         → sealable (keyAt (r .node .materials) (segmentHeader o n .key)) (stamped r (q .element) (segmentHeader o n)) ≡ true
     segment-can r n en es h =
         let low = last-low node s speaks in
-        let address = ap (λ (x : Node). addressOf x (q .element)) en in
+        let address = address-fixed (r .node) (sender .node) en (q .element) in
         let e = header-said sender node (b .shared) q s o keeping r (q .element) n address in
         let k : keyAt (r .node .materials) (segmentHeader o n .key) ≡ keyAt (node .materials) (s .network) =
         ap (keyAt (r .node .materials)) (key-said sender node (b .shared) q s o keeping r (q .element) n address)
@@ -187,10 +188,10 @@ module _ (sender : Receiver) (setup : Setup) (q : Request) (words : Words) (buf 
         let low = last-low node s speaks in
         let src : r .out .src ≡ addressOf (sender .node) (q .element) = ap (λ (x : Outgoing). x .src) (k .out-is) ∙ keeping .src-is in
         let e : elementOf (r .node) (r .out .src) ≡ q .element =
-        ap (λ (x : Node). elementOf x (r .out .src)) (k .node-is) ∙ ap (elementOf (sender .node)) src ∙ element-back (sender .node) own (q .element) there in
+        element-fixed (r .node) (sender .node) (k .fixed-is) (r .out .src) ∙ ap (elementOf (sender .node)) src ∙ element-back (sender .node) own (q .element) there in
         let t = there in
         let next = k .next-is in
-        let said = saying-made r (q .element) (segmentHeader o n) buf (omega arith) (segment-key n) wide (segment-can r n (k .node-is) next h) in
+        let said = saying-made r (q .element) (segmentHeader o n) buf (omega arith) (segment-key n) wide (segment-can r n (k .fixed-is) next h) in
         rw (segment-sent r buf wide n (q .element) e (omega arith) (segment-fine r n k h))
         (subst (λ (x : Outgoing). madeBy (saying r (q .element) (segmentHeader x n) buf .answer .answer) ≡ true) (sym (k .out-is)) said)
 
@@ -213,7 +214,7 @@ module _ (sender : Receiver) (setup : Setup) (q : Request) (words : Words) (buf 
         rw (g .leaves)
         (record {
           out-is = refl;
-          node-is = refl;
+          fixed-is = refl;
           next-is = getD-set-same (sender .next) (q .element) (first + 1) 0 (omega arith);
           places = length-set (sender .next) (q .element) (first + 1) ∙ places;
         }) in

@@ -44,7 +44,7 @@ use Rattle.demands.specs.Speech.{Speech, lastOf, Speakable, Handed, hand
 use Rattle.demands.proofs.ArrivalLaws.{dueOf, Next, event-next}
 use Rattle.demands.proofs.ComeLaws.{each-first, each-at, each-turn, come-from, come-in-turn}
 use Rattle.demands.proofs.DueLaws.{dueWith, dueBehind, picked-due, once-due}
-use Rattle.demands.proofs.SceneLaws.{speakerOf, speakerKey, Scenery, begins}
+use Rattle.demands.proofs.SceneLaws.{speakerOf, speakerKey, Scenery, same-scene, begins}
 use Rattle.demands.proofs.SpeechCut.{last-low}
 use Rattle.demands.proofs.SpeechSession.{sessionOf}
 use Rattle.demands.proofs.StageLaws.{entryOf, Stage, Silent, Gathers, Done}
@@ -197,9 +197,10 @@ acknowledges setup speeches before k net buf c hk some unicast key wide =
     let e = chosen-is node s _ _ (come k before) (unicast-some (s .src) (w .from-unicast)) some (sc .stages k hk) in
     let n = element-low node made (s .dst) (local-of node made (s .dst) unicast (w .for-here)) in
     let most = made .networks-most in
+    let same = same-scene sc in
     acknowledgement-sent (behind setup speeches before) buf wide net (s .src) (record { auth = s .auth; dst = s .dst; bits = come k before }) e
-    (rw (sc .same) (omega arith)) unicast (rw (sc .same) n)
-    ∙ rw (sc .same) refl
+    (rw same (omega arith)) unicast (rw same n)
+    ∙ rw same refl
 
 -- the scene in turn is a scene, and all come in it
 in-turn : (setup : Setup) (speeches : List Speech) (l : List Arrival) → Scene setup speeches l → Scene setup speeches (turns speeches l)

@@ -10,6 +10,7 @@ use Prim.Native.Nat.{ℕ}
 use Rattle.common.specs.Lent.{Lent}
 use Rattle.network.specs.declared.header.Header.{Header}
 use Rattle.node.specs.declared.addresses.Node.{Node}
+use Rattle.node.specs.Index.{SameFixed, SameIndex}
 use Rattle.receiver.specs.declared.state.Receiver.{Receiver}
 use Rattle.receiver.specs.Good.{Good}
 use Rattle.sending.specs.declared.answer.Spoken.{Spoken}
@@ -22,18 +23,19 @@ use Rattle.demands.proofs.SceneLaws.{Scenery}
 
 -- the parts of the receiver that a scene is seen by
 pub record Kept (r q : Receiver) : Type 0 where
-  pub node-stays : q .node ≡ r .node
+  pub setup-stays : SameFixed (q .node) (r .node)
+  pub index-stays : SameIndex (q .node) (r .node)
   pub cache-stays : q .cache ≡ r .cache
   pub replay-stays : q .replay ≡ r .replay
   pub sessions-stay : q .sessions ≡ r .sessions
 
 kept-itself : (r : Receiver) → Kept r r
-kept-itself r = record { node-stays = refl; cache-stays = refl; replay-stays = refl; sessions-stay = refl }
+kept-itself r = record { setup-stays = refl; index-stays = refl; cache-stays = refl; replay-stays = refl; sessions-stay = refl }
 
 kept-saying : (r : Receiver) (element : ℕ) (h : Header) (buf : List ℕ) → Kept r (saying r element h buf .answer .receiver)
 kept-saying r element h buf =
     by-saying r element h buf (λ (s : Lent Spoken). Kept r (s .answer .receiver)) (λ _. kept-itself r)
-    (λ _. record { node-stays = refl; cache-stays = refl; replay-stays = refl; sessions-stay = refl })
+    (λ _. record { setup-stays = refl; index-stays = refl; cache-stays = refl; replay-stays = refl; sessions-stay = refl })
 
 pub kept-acknowledging : (r : Receiver) (net src : ℕ) (buf : List ℕ) → Kept r (acknowledging r net src buf .answer .receiver)
 kept-acknowledging r net src buf =
@@ -45,7 +47,8 @@ module _ (node : Node) (speeches : List Speech) (spent : Spent) where
   kept-scene r q filled k g s =
       record {
         good = g;
-        same = k .node-stays ∙ s .same;
+        setup-same = k .setup-stays ∙ s .setup-same;
+        index-same = k .index-stays ∙ s .index-same;
         stages = λ j h. rw (k .replay-stays, k .sessions-stay) (s .stages j h);
         sessions-owned = rw (k .sessions-stay) (s .sessions-owned);
         entries-listed = rw (k .replay-stays) (s .entries-listed);
@@ -56,7 +59,8 @@ module _ (node : Node) (speeches : List Speech) (spent : Spent) where
   refilled r filled more e s =
       record {
         good = s .good;
-        same = s .same;
+        setup-same = s .setup-same;
+        index-same = s .index-same;
         stages = λ k h. rw (e k) (s .stages k h);
         sessions-owned = s .sessions-owned;
         entries-listed = s .entries-listed;

@@ -147,7 +147,7 @@ module _ (sender : Receiver) (setup : Setup) (q : Request) (words : Words) (buf 
         rw (b .leaves)
         (record {
           out-is = refl;
-          node-is = refl;
+          fixed-is = refl;
           next-is = getD-set-same (sender .next) (q .element) (first + 1) 0 (omega arith);
           places = length-set (sender .next) (q .element) (first + 1) ∙ places;
         })

@@ -21,6 +21,8 @@ use Rattle.memory.proofs.ReplayMap.{lookUp-none, Listed, listed-none, room-left
 use Rattle.memory.proofs.SessionSlots.{place-none, SessionsOwned, owned-none, session-free}
 use Rattle.node.specs.declared.addresses.Node.{Node}
 use Rattle.node.specs.declared.setup.Setup.{Setup}
+use Rattle.node.specs.Index.{SameFixed, SameIndex}
+use Rattle.node.proofs.IndexLaws.{same-node}
 use Rattle.receiver.specs.declared.fresh.Answer.the-variants.{Ready}
 use Rattle.receiver.specs.declared.state.Receiver.{Receiver}
 use Rattle.receiver.specs.Fresh.{settingUp}
@@ -43,12 +45,16 @@ speakerKey speeches k = keyOf (speechAt speeches k)
 -- of each speech these places are filled
 pub record Scenery (node : Node) (speeches : List Speech) (spent : Spent) (r : Receiver) (filled : ℕ → ℕ) : Type 0 where
   pub good : Good r
-  pub same : r .node ≡ node
+  pub setup-same : SameFixed (r .node) node
+  pub index-same : SameIndex (r .node) node
   pub stages : (k : ℕ) → k < length speeches → Stage node (speechAt speeches k) (r .replay) (r .sessions) (filled k)
   pub sessions-owned : SessionsOwned (length speeches) (speakerKey speeches) (r .sessions)
   pub entries-listed : Listed (length speeches) (speakerOf speeches) (r .replay)
   pub seen-come :
       (k : ℕ) (h : Header) → k < length speeches → h .src ≡ speakerOf speeches k → seen (r .cache) h ≡ true → hasBit (filled k) (spent k (h .seq)) ≡ true
+
+pub same-scene : {node : Node} {speeches : List Speech} {spent : Spent} {r : Receiver} {filled : ℕ → ℕ} → Scenery node speeches spent r filled → r .node ≡ node
+same-scene {node} s = same-node _ node (s .setup-same) (s .index-same)
 
 -- ---- a fresh receiver
 module _ (setup : Setup) (ready : settingUp setup .answer ≡ Ready) (speeches : List Speech) (spent : Spent)
@@ -60,7 +66,8 @@ module _ (setup : Setup) (ready : settingUp setup .answer ≡ Ready) (speeches :
   begins =
       record {
         good = good-fresh setup ready;
-        same = refl;
+        setup-same = refl;
+        index-same = refl;
         stages = λ k h.
             Silent refl (rw (fresh-is setup) (place-none (speakerKey speeches k) (ne-eqb (speakerOf speeches k) 0 (speaks k h))))
             (unheard-none (nodeOf setup) (speechAt speeches k) _ (rw (fresh-is setup) (lookUp-none (speakerOf speeches k))));

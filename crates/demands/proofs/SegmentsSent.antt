@@ -18,6 +18,7 @@ use Rattle.network.specs.Candidates.{keyAt}
 use Rattle.network.specs.Sealing.{sealable}
 use Rattle.memory.specs.declared.outgoing.Outgoing.{Outgoing}
 use Rattle.node.specs.declared.addresses.Node.{Node}
+use Rattle.node.specs.Index.{SameFixed}
 use Rattle.node.specs.Made.{WellMade}
 use Rattle.receiver.specs.declared.state.Receiver.{Receiver}
 use Rattle.sending.specs.declared.answer.Spoken.{Spoken}
@@ -26,7 +27,7 @@ use Rattle.sending.specs.Request.{ttlOf}
 use Rattle.sending.specs.Segment.{segmentHeader, elementOf, sendingSegment}
 use Rattle.sending.specs.Transmission.{addressOf, nextSeq, stamped}
 use Rattle.sending.proofs.Laws.Calls.{walk-segment}
-use Rattle.sending.proofs.Laws.Stamped.{element-back}
+use Rattle.sending.proofs.Laws.Stamped.{element-back, address-fixed, element-fixed}
 use Rattle.sending.proofs.Laws.Transmitted.{used, saying}
 use Rattle.demands.specs.Call.{Call, SendSegment, Outcome, madeBy, step, run}
 use Rattle.demands.specs.Interleaved.{Each}
@@ -57,7 +58,7 @@ module _ (sender : Receiver) (made-node : WellMade (sender .node)) (node : Node)
   -- the sender before segment n
   pub record Keeps (r : Receiver) (n : ℕ) : Type 0 where
     pub out-is : r .out ≡ o
-    pub node-is : r .node ≡ sender .node
+    pub fixed-is : SameFixed (r .node) (sender .node)
     pub next-is : nextSeq r element ≡ first + n
     pub places : length (r .next) ≡ 8
 
@@ -67,22 +68,22 @@ module _ (sender : Receiver) (made-node : WellMade (sender .node)) (node : Node)
       let e = k .next-is in
       record {
         out-is = k .out-is;
-        node-is = k .node-is;
+        fixed-is = k .fixed-is;
         next-is = getD-set-same (r .next) element (nextSeq r element + 1) 0 (omega arith) ∙ (omega arith);
         places = length-set (r .next) element (nextSeq r element + 1) ∙ p;
       }
 
   -- what is transmitted is the speech's segment
-  module _ (r : Receiver) (n : ℕ) (node-is : r .node ≡ sender .node) (next-is : nextSeq r element ≡ first + n) (len : ℕ) (b : List ℕ)
+  module _ (r : Receiver) (n : ℕ) (fixed-is : SameFixed (r .node) (sender .node)) (next-is : nextSeq r element ≡ first + n) (len : ℕ) (b : List ℕ)
       (t : Transmits r element (segmentHeader o n) len b) where
     address : addressOf (r .node) element ≡ s .src
-    address = ap (λ (x : Node). addressOf x element) node-is ∙ src-is
+    address = address-fixed (r .node) (sender .node) fixed-is element ∙ src-is
 
     header-is : stamped r element (segmentHeader o n) ≡ headerAt n
     header-is = header-said sender node shared q s o kept r element n address ∙ ap (λ (x : ℕ). headerOf node s n x ttl) next-is
 
     key-is : keyAt (r .node .materials) (segmentHeader o n .key) ≡ keyAt (node .materials) (s .network)
-    key-is = rw (key-said sender node shared q s o kept r element n address, node-is, shared .materials-same) refl
+    key-is = rw (key-said sender node shared q s o kept r element n address, ap (λ (x : Node). x .materials) fixed-is, shared .materials-same) refl
 
     pub can-said : Can n
     can-said = rw (← key-is, ← header-is) (t .can)
@@ -98,7 +99,7 @@ module _ (sender : Receiver) (made-node : WellMade (sender .node)) (node : Node)
       let By : ℕ → Outgoing → Type 0 =
       λ a x. madeBy (saying r a (segmentHeader x n) buf .answer .answer) ≡ true → SaidBy r element (segmentHeader o n) (saying r a (segmentHeader x n) buf) in
       let speaks : elementOf (r .node) (r .out .src) ≡ element =
-      rw (k .node-is, k .out-is, kept .src-is, sym src-is) (element-back (sender .node) made-node element there) in
+      element-fixed (r .node) (sender .node) (k .fixed-is) (r .out .src) ∙ rw (k .out-is, kept .src-is, sym src-is) (element-back (sender .node) made-node element there) in
       walk-segment r buf (λ (x : Lent Spoken). madeBy (x .answer .answer) ≡ true → SaidBy r element (segmentHeader o n) x) (λ _ m. absurd (false≢true m)) n
       (λ _ _. subst (λ (a : ℕ). By a (r .out)) (sym speaks) (subst (λ (x : Outgoing). By element x) (sym (k .out-is)) (said-by r element buf (segmentHeader o n))))
 
@@ -111,8 +112,8 @@ module _ (sender : Receiver) (made-node : WellMade (sender .node)) (node : Node)
   said-at r n k buf m =
       let b = segment-said r n k buf m in
       record {
-        can = can-said r n (k .node-is) (k .next-is) _ _ (b .transmitted-is);
-        pdu = rw (b .says) (pdu-said r n (k .node-is) (k .next-is) (b .len) _ (b .transmitted-is));
+        can = can-said r n (k .fixed-is) (k .next-is) _ _ (b .transmitted-is);
+        pdu = rw (b .says) (pdu-said r n (k .fixed-is) (k .next-is) (b .len) _ (b .transmitted-is));
         keeps = rw (b .leaves) (keeps-next r n k);
       }
 

@@ -19,6 +19,7 @@ use Rattle.transport.specs.Securing.{unsecuring}
 use Rattle.transport.proofs.ReadsBack.{akf-access, aid-access, opcode-control}
 use Rattle.memory.specs.declared.session.Session.{Session}
 use Rattle.node.specs.declared.addresses.Node.{Node}
+use Rattle.node.specs.Index.{SameFixed}
 use Rattle.node.specs.Made.{WellMade}
 use Rattle.receiver.specs.declared.answer.Taken.{Taken}
 use Rattle.receiver.specs.declared.state.Receiver.{Receiver}
@@ -34,7 +35,7 @@ use Rattle.demands.proofs.SpeechSegment.{termsOf}
 abbrev pub sessionOf : Node → Speech → (bits len : ℕ) → List ℕ → Session
 sessionOf node s bits len bytes = record { src = s .src; auth = s .auth; terms = termsOf node s; filled = bits; len = len; bytes = bytes }
 
-module _ (node : Node) (made : WellMade node) (s : Speech) (w : Speakable node s) (r : Receiver) (same : r .node ≡ node) (bits len : ℕ) (bytes : List ℕ) where
+module _ (node : Node) (made : WellMade node) (s : Speech) (w : Speakable node s) (r : Receiver) (same : SameFixed (r .node) node) (bits len : ℕ) (bytes : List ℕ) where
   abbrev session : Session
   session = sessionOf node s bits len bytes
 
@@ -69,7 +70,7 @@ module _ (node : Node) (made : WellMade node) (s : Speech) (w : Speakable node s
         let u :
         unsecuring (r .node .appkeys) (r .node .applications) (r .node .device) (segments.sessionEnvelope session) (take len bytes) msg
         ≡ lent (Message key (applicationPlace node s (Access key szmic payload)) (length payload)) (onto payload msg) =
-        rw (same, envelope-is key szmic payload e (o .aid-fits), all) (o .opens-to) in
+        rw (ap (λ (x : Node). x .appkeys) same, ap (λ (x : Node). x .applications) same, ap (λ (x : Node). x .device) same, envelope-is key szmic payload e (o .aid-fits), all) (o .opens-to) in
         ap either (ap isControl e) ∙ access-up r session msg key (applicationPlace node s (Access key szmic payload)) (length payload) (onto payload msg) u
         ∙ ap handing (sym e)
 

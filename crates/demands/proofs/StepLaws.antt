@@ -27,6 +27,7 @@ use Rattle.memory.proofs.ReplayMap.{lookUp-handedUp-new, lookUp-handedUp-other,
 use Rattle.memory.proofs.SessionSlots.{session-key, place-upto, free-slot, place-set-own, session-set-own, freed-none, SessionsOwned, owned-set}
 use Rattle.memory.proofs.Stored.{begun-is}
 use Rattle.node.specs.declared.addresses.Node.{Node}
+use Rattle.node.specs.Index.{SameFixed}
 use Rattle.node.specs.Made.{WellMade}
 use Rattle.receiver.specs.declared.answer.Answer.{Answer}
 use Rattle.receiver.specs.declared.answer.Answer.the-variants.{Stored, Repeated}
@@ -79,7 +80,7 @@ handed-up s (Control code parameters) msg =
     ap (λ (l : List ℕ). record { answer = handUpAs s (Control code parameters) .answer; octets = l } ∷ []) (take-append-seam parameters _)
 
 module _ (node : Node) (made : WellMade node) (s : Speech) (w : Speakable node s) (spoken : s .src ≡ 0 → ⊥) where
-  module _ (r : Receiver) (same : r .node ≡ node) (g : Good r) (bits i : ℕ) (there : i ≤ lastOf node s) (msg : List ℕ) where
+  module _ (r : Receiver) (same : SameFixed (r .node) node) (g : Good r) (bits i : ℕ) (there : i ≤ lastOf node s) (msg : List ℕ) where
     low : i < 32
     low = let l = last-low node s w in omega arith
 

@@ -1,4 +1,5 @@
--- What a node is: the addresses it answers to, and what setup makes.
+-- What a node is: the addresses it answers to, its index apart from what setup fixes, and what setup makes.
 pub mod Addresses
+pub mod Index
 pub mod Setup
 pub mod Made

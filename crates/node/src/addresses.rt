@@ -1,4 +1,4 @@
-// The node: what is fixed at setup, and which addresses it answers to.
+// The node: what is fixed at setup (keys, addresses, relay), the IV Index with its flag, and which addresses it answers to.
 use keys::NetworkKeys;
 use transport::securing::ApplicationKey;
 ghost use mathlib.Core.Path.{_≡_};
@@ -25,6 +25,7 @@ pub struct Node {
     // How many group addresses are listened to.
     pub listened: usize,
     pub groups: [u16; 8],
+    // The IV Index, which setup only begins with, and its flag.
     pub iv: u32,
     pub flag: bool,
     pub relay: bool,

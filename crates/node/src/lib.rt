@@ -1,3 +1,3 @@
-// What is fixed at setup: keys and what is derived from them, addresses, the IV Index, relay.
+// What setup fixes, keys and what is derived from them, addresses, relay; and the IV Index with its flag.
 pub mod addresses;
 pub mod setup;

@@ -1,4 +1,4 @@
--- What setup fixed stays, and every next SEQ: a call writes only cache, replay list, sessions and outgoing message. Assumes nothing.
+-- What setup fixed stays, the IV Index with its flag, and every next SEQ: hearing writes only cache, replay list, sessions and outgoing message. Assumes nothing.
 --   Fixed r q     r left q
 --   fixed-heard   so it is of every call
 use mathlib.Core.List.{List}
@@ -10,6 +10,7 @@ use Rattle.memory.specs.declared.cache.Cache.{Cache}
 use Rattle.memory.specs.declared.outgoing.Outgoing.{Outgoing}
 use Rattle.memory.specs.declared.replay.Entry.{Entry}
 use Rattle.memory.specs.declared.session.Session.{Session}
+use Rattle.node.specs.Index.{SameFixed, SameIndex}
 use Rattle.receiver.specs.declared.answer.Taken.{Taken}
 use Rattle.receiver.specs.declared.state.Receiver.{Receiver}
 use Rattle.receiver.specs.Hearing.{hearing}
@@ -20,7 +21,8 @@ use Rattle.receiver.proofs.Laws.Ways.{Ways, walk-left}
 
 -- r left q
 pub record Fixed (r q : Receiver) : Type 0 where
-  pub node-stays : q .node ≡ r .node
+  pub setup-stays : SameFixed (q .node) (r .node)
+  pub index-stays : SameIndex (q .node) (r .node)
   pub next-stays : q .next ≡ r .next
 
 module _ (r : Receiver) where
@@ -28,7 +30,7 @@ module _ (r : Receiver) where
   written :
       {cache : Cache} {replay : List Entry} {sessions : List Session} {out : Outgoing}
       → Fixed r (record { node = r .node; next = r .next; cache = cache; replay = replay; sessions = sessions; out = out })
-  written = record { node-stays = refl; next-stays = refl }
+  written = record { setup-stays = refl; index-stays = refl; next-stays = refl }
 
   ways : (h : Header) (msg : List ℕ) → Ways (caching r h) h msg (λ (t : Lent Taken). Fixed r (t .answer .receiver))
   unfolding openedAs wholeControlUp acted accessUpAs controlUp admitted upgraded
@@ -46,4 +48,4 @@ module _ (r : Receiver) where
       }
 
   pub fixed-heard : (fwd msg pdu : List ℕ) → Fixed r (hearing r pdu fwd msg .heard .receiver)
-  fixed-heard fwd msg pdu = walk-left r pdu fwd msg (Fixed r) (record { node-stays = refl; next-stays = refl }) (λ _. ways _ msg)
+  fixed-heard fwd msg pdu = walk-left r pdu fwd msg (Fixed r) (record { setup-stays = refl; index-stays = refl; next-stays = refl }) (λ _. ways _ msg)

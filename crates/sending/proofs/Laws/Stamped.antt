@@ -4,15 +4,17 @@
 --   address-local                an element's address is local
 --   element-back, element-low    its address leads back to it, and a local address to one of eight elements
 --   sending-near                 the IV Index that is sent with
+--   address-fixed, element-fixed   setup fixed which element has which address
 use mathlib.Core.Bool.{true}
 use mathlib.Core.Logic.{_⊎_}
-use mathlib.Core.Path.{_≡_, refl}
+use mathlib.Core.Path.{_≡_, refl, ap}
 use Prim.Native.Nat.{ℕ, _+_, _<_, min}
 use native.Mathlib.Omega.{arith}
 use Rattle.network.specs.declared.header.Header.{Header}
 use Rattle.network.proofs.IvIndexLaws.{sent-near}
 use Rattle.node.specs.declared.addresses.Node.{Node}
 use Rattle.node.specs.Addresses.{isLocal}
+use Rattle.node.specs.Index.{SameFixed}
 use Rattle.node.specs.Made.{WellMade}
 use Rattle.node.proofs.AddressesLaws.{local-within, local-bounds}
 use Rattle.receiver.specs.declared.state.Receiver.{Receiver}
@@ -51,3 +53,13 @@ module _ (node : Node) (made : WellMade node) where
   pub sending-near : (sendingIv node ≡ node .iv) ⊎ (sendingIv node + 1 ≡ node .iv)
   unfolding sendingIv
   sending-near = sent-near (node .iv) (node .flag) (λ t. made .index-least t)
+
+-- ---- what setup fixed tells which element has which address
+module _ (a b : Node) (same : SameFixed a b) where
+  pub address-fixed : (element : ℕ) → addressOf a element ≡ addressOf b element
+  unfolding addressOf
+  address-fixed element = ap (λ (x : Node). addressOf x element) same
+
+  pub element-fixed : (address : ℕ) → elementOf a address ≡ elementOf b address
+  unfolding elementOf isLocal
+  element-fixed address = ap (λ (x : Node). elementOf x address) same
