@@ -98,16 +98,16 @@ pub fn place(sessions: [Session; SLOTS], key: SessionKey) -> usize
 }
 
 // The lowest free slot, or the number of slots.
-pub fn free(sessions: [Session; SLOTS]) -> usize
+pub(crate) fn free(sessions: [Session; SLOTS]) -> usize
     ensures { λ r. ⌜ r ≡ freePlace sessions ⌝ }
 {
-    let mut i: usize = 0;
-    while i < SLOTS {
-        let s = sessions[i];
+    let mut slot: usize = 0;
+    while slot < SLOTS {
+        let s = sessions[slot];
         if s.src == 0 {
-            return i;
+            return slot;
         }
-        i += 1;
+        slot += 1;
     }
     SLOTS
 }

@@ -1,4 +1,4 @@
--- `memory::session::free` meets its contract: no slot before i is free, so the first that is ends the search. The measure is how many are left.
+-- `memory::session::free` meets its contract: no slot before is free, so the first that is ends the search. The measure is how many are left.
 -- Assumes nothing.
 use Prim.Native.Nat.{_-_}
 use borrow.Author.Needs.{needs}
@@ -10,10 +10,10 @@ use Rattle.memory.proofs.session.free.Statement.{statement}
 use Rattle.memory.proofs.session.free.Tie as tie
 
 abbrev Inv-loop : tie.InvT-loop
-Inv-loop sessions i₀ i = Seeking isFree sessionSlots sessions i
+Inv-loop sessions slot₀ slot = Seeking isFree sessionSlots sessions slot
 
 abbrev μ-loop : tie.MeasureT-loop
-μ-loop sessions i₀ i = sessionSlots - i
+μ-loop sessions slot₀ slot = sessionSlots - slot
 
 pub free-spec : {M : Type 1} → statement M
 unfolding freePlace
