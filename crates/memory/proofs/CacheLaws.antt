@@ -5,7 +5,7 @@ use mathlib.Core.Logic.{_⊎_, inl, inr}
 use mathlib.Core.Path.{_≡_, refl, sym, ap, ap₂, _∙_}
 use Prim.Native.Nat.{ℕ, _%_, _<_}
 use native.Mathlib.Omega.{arith}
-use borrow.Author.Tests.{eq-eqb, eqb-true, eqb-false, lt-ltb, ltb-true}
+use borrow.Author.Tests.{eq-eqb, ne-eqb, eqb-true, eqb-false, lt-ltb, ltb-true}
 use lib.Dec.{eqb, ltb}
 use lib.ListN.{length, getD, set, replicate, length-set, length-replicate, getD-replicate}
 use lib.Seq.{getD-set-same, getD-set-other}
@@ -32,6 +32,17 @@ entriesKeyed =
       same-self = λ a. rw (eq-eqb (a .src) (a .src) refl, eq-eqb (a .seq) (a .seq) refl) refl;
     }
 
+-- ---- whether two entries are the same, from the code's tests
+module _ (a b : Seen) where
+  pub other-source : (a .src ≡ b .src → ⊥) → false ≡ sameSeen a b
+  other-source n = rw (ne-eqb (a .src) (b .src) n)
+
+  pub same-source : a .src ≡ b .src → eqb (a .seq) (b .seq) ≡ sameSeen a b
+  same-source e = rw (eq-eqb (a .src) (b .src) e)
+
+pub ruleset same-rules = (other-source, same-source)
+
+-- ---- an entry more
 module _ (c : Cache) (h : Header) where
   pub length-remembered : length (remembered c h .entries) ≡ length (c .entries)
   unfolding remembered

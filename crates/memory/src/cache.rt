@@ -39,14 +39,23 @@ fn entry(h: Header) -> Seen
     }
 }
 
+// Whether two entries are of one and the same PDU.
+fn same(a: Seen, b: Seen) -> bool
+    ensures { λ r. ⌜ r ≡ sameSeen a b ⌝ }
+{
+    if a.src != b.src {
+        return false;
+    }
+    a.seq == b.seq
+}
+
 // The place of an entry, or their number.
 fn place(entries: [Seen; ENTRIES], x: Seen) -> usize
     ensures { λ r. ⌜ r ≡ first (λ e. sameSeen e x) entries ⌝ }
 {
     let mut i: usize = 0;
     while i < ENTRIES {
-        let e = entries[i];
-        if e.src == x.src && e.seq == x.seq {
+        if same(entries[i], x) {
             return i;
         }
         i += 1;
