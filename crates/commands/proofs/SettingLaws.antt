@@ -24,8 +24,9 @@ use Rattle.text.specs.Field.{is, behind, fields}
 use Rattle.text.specs.Number.{numberOf}
 use Rattle.text.proofs.FieldLaws.{fields-on, fields-past, fields-from-two}
 use Rattle.node.specs.declared.setup.Setup.{Setup}
+use Rattle.node.specs.Setup.{counted, withElements}
 use Rattle.commands.specs.declared.setting.Sequences.{Sequences}
-use Rattle.commands.specs.Setting.{counted, keyOf, isNumber, valueOf, areNumbers, noSequences, sequencesOf, withElements, fit, unfit, givenElements}
+use Rattle.commands.specs.Setting.{keyOf, isNumber, valueOf, areNumbers, noSequences, sequencesOf, fit, unfit, givenElements}
 
 -- one number more, or none
 abbrev withNumber : Number → (ℕ → Sequences) → Sequences
@@ -158,7 +159,7 @@ sequences-of line rest q e k =
     k ∙ ap (λ (l : List ℕ). sequencesOf (drop 1 (fields l))) e ∙ ap sequencesOf (sym (fields-from-two line))
 
 module _ (s : Setup) (first : ℕ) (q : Sequences) where
-  pub elements-fit : q .fits ≡ true → fit (withElements s first q) ≡ givenElements s (short.Value first) q
+  pub elements-fit : q .fits ≡ true → fit (withElements s first (q .count) (q .next)) ≡ givenElements s (short.Value first) q
   elements-fit h = rw h
 
   pub elements-unfit : q .fits ≡ false → unfit s ≡ givenElements s (short.Value first) q

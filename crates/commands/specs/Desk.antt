@@ -12,6 +12,7 @@ use Rattle.sensor.specs.declared.properties.Answer.the-variants.{Named, Refused
 use Rattle.sensor.specs.declared.properties.Naming.{Naming}
 use Rattle.sensor.specs.declared.properties.Properties.{Properties}
 use Rattle.sensor.specs.Properties.{noProperties, naming}
+use Rattle.node.specs.Setup.{nothing}
 use Rattle.commands.specs.declared.desk.Desk.{Desk}
 use Rattle.commands.specs.declared.desk.Noted.{Noted}
 use Rattle.commands.specs.declared.desk.Room.{Room}
@@ -20,7 +21,7 @@ use Rattle.commands.specs.declared.desk.Reply.the-variants as reply
 use Rattle.commands.specs.declared.line.Line.{Line}
 use Rattle.commands.specs.declared.line.Line.the-variants as line
 use Rattle.commands.specs.declared.setting.Given.{Given}
-use Rattle.commands.specs.Setting.{nothing, giving}
+use Rattle.commands.specs.Setting.{giving}
 
 -- no receiver, nothing given, buffers of 1d and 180 octets, in hex, and no property named
 abbrev pub atStart : Desk

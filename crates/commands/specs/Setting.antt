@@ -1,21 +1,16 @@
 -- What is given before a setup, line by line: more keys, elements or groups than a receiver holds are counted, so that the setup refuses them.
---   nothing              nothing is given
---   counted most n       how keys and groups are counted
 --   keyOf text           whether a text is a key, and the key
 --   sequencesOf texts    each element's next SEQ
 --   giving s item line   whether the line's fields fit, and the setup with what it gives
 use mathlib.Core.Bool.{Bool, true, false, _&&_}
 use mathlib.Core.List.{List, [], _∷_, map}
-use Prim.Native.Nat.{ℕ, _+_, min}
-use lib.Dec.{ltb}
-use lib.ListN.{length, drop, replicate, set}
+use Prim.Native.Nat.{ℕ, min}
+use lib.ListN.{length, drop, replicate}
 use Rattle.common.specs.Choice.{if_then_else_}
 use Rattle.common.specs.Lent.{Lent}
 use Rattle.common.specs.Lists.{padded}
-use Rattle.node.specs.Setup.{zeroKey}
-use Rattle.node.specs.declared.addresses.Key.{Key}
-use Rattle.node.specs.declared.setup.BoundKey.{BoundKey}
 use Rattle.node.specs.declared.setup.Setup.{Setup}
+use Rattle.node.specs.Setup.{withNetworkKey, withApplicationKey, withDeviceKey, withElements, withGroup, withIndex}
 use Rattle.text.specs.declared.number.Number.{Number}
 use Rattle.text.specs.declared.number.Number.the-variants as number
 use Rattle.text.specs.declared.number.Short.{Short}
@@ -31,29 +26,6 @@ use Rattle.commands.specs.declared.setting.Given.{Given}
 use Rattle.commands.specs.declared.setting.Item.{Item}
 use Rattle.commands.specs.declared.setting.Item.the-variants.{NetKey, AppKey, DevKey, Elements, Group, IvIndex, Relay}
 use Rattle.commands.specs.declared.setting.Sequences.{Sequences}
-
--- nothing is given: zeros, index 0 with flag 0, and relay off
-abbrev pub nothing : Setup
-nothing =
-    record {
-      networks = 0;
-      netkeys = replicate 4 zeroKey;
-      applications = 0;
-      appkeys = replicate 4 (record { key = replicate 16 0; network = 0 });
-      device = replicate 16 0;
-      first = 0;
-      elements = 0;
-      next = replicate 8 0;
-      listened = 0;
-      groups = replicate 8 0;
-      iv = 0;
-      flag = false;
-      relay = false;
-    }
-
--- one more than a count, which stops once it is above `most`
-abbrev pub counted : ℕ → ℕ → ℕ
-counted most n = if ltb most n then n else n + 1
 
 -- whether a text is the 16 octets of a key, and the key
 abbrev pub keyOf : List ℕ → Lent Bool
@@ -85,81 +57,6 @@ sequencesOf texts =
     record { fits = true; count = min (length texts) 9; next = padded 8 (map (λ text. valueOf (numberOf text)) texts) } else
     noSequences
 
--- the setup with other keys
-abbrev pub withKeys : Setup → ℕ → List Key → ℕ → List BoundKey → List ℕ → Setup
-withKeys s networks netkeys applications appkeys device =
-    record {
-      networks = networks;
-      netkeys = netkeys;
-      applications = applications;
-      appkeys = appkeys;
-      device = device;
-      first = s .first;
-      elements = s .elements;
-      next = s .next;
-      listened = s .listened;
-      groups = s .groups;
-      iv = s .iv;
-      flag = s .flag;
-      relay = s .relay;
-    }
-
--- with other elements and groups
-abbrev pub withAddresses : Setup → ℕ → ℕ → List ℕ → ℕ → List ℕ → Setup
-withAddresses s first elements next listened groups =
-    record {
-      networks = s .networks;
-      netkeys = s .netkeys;
-      applications = s .applications;
-      appkeys = s .appkeys;
-      device = s .device;
-      first = first;
-      elements = elements;
-      next = next;
-      listened = listened;
-      groups = groups;
-      iv = s .iv;
-      flag = s .flag;
-      relay = s .relay;
-    }
-
--- with another IV Index, update flag and relay
-abbrev pub withIndex : Setup → ℕ → Bool → Bool → Setup
-withIndex s iv flag relay =
-    record {
-      networks = s .networks;
-      netkeys = s .netkeys;
-      applications = s .applications;
-      appkeys = s .appkeys;
-      device = s .device;
-      first = s .first;
-      elements = s .elements;
-      next = s .next;
-      listened = s .listened;
-      groups = s .groups;
-      iv = iv;
-      flag = flag;
-      relay = relay;
-    }
-
--- with the next network key: past the last place it is only counted
-abbrev pub withNetworkKey : Setup → List ℕ → Setup
-withNetworkKey s key =
-    withKeys s (counted 4 (s .networks)) (set (s .netkeys) (s .networks) (record { octets = key })) (s .applications) (s .appkeys) (s .device)
-
--- with the next application key, bound to a network key
-abbrev pub withApplicationKey : Setup → ℕ → List ℕ → Setup
-withApplicationKey s network key =
-    withKeys s (s .networks) (s .netkeys) (counted 4 (s .applications)) (set (s .appkeys) (s .applications) (record { key = key; network = network })) (s .device)
-
--- with elements from this address on
-abbrev pub withElements : Setup → ℕ → Sequences → Setup
-withElements s first q = withAddresses s first (q .count) (q .next) (s .listened) (s .groups)
-
--- with one more group address
-abbrev pub withGroup : Setup → ℕ → Setup
-withGroup s address = withAddresses s (s .first) (s .elements) (s .next) (counted 8 (s .listened)) (set (s .groups) (s .listened) address)
-
 -- every field fits
 abbrev pub fit : Setup → Given
 fit s = record { fits = true; setup = s }
@@ -179,11 +76,11 @@ givenApplicationKey s octet.Unfit key = unfit s
 
 -- `devkey KEY`: the device key
 abbrev pub givenDeviceKey : Setup → Lent Bool → Given
-givenDeviceKey s key = if key .answer then fit (withKeys s (s .networks) (s .netkeys) (s .applications) (s .appkeys) (key .buffer)) else unfit s
+givenDeviceKey s key = if key .answer then fit (withDeviceKey s (key .buffer)) else unfit s
 
 -- `elements FIRST SEQ..`: the first element's address, then each element's next SEQ, none or more
 abbrev pub givenElements : Setup → Short → Sequences → Given
-givenElements s (short.Value first) q = if q .fits then fit (withElements s first q) else unfit s
+givenElements s (short.Value first) q = if q .fits then fit (withElements s first (q .count) (q .next)) else unfit s
 givenElements s short.Unfit q = unfit s
 
 -- `group ADDRESS`: one more group address listened to

@@ -48,7 +48,7 @@ pub fn start() -> Desk
 {
     Desk {
         ready: false,
-        given: setting::nothing(),
+        given: node::setup::nothing(),
         room: Room {
             forward: 29,
             message: 384,
@@ -65,7 +65,7 @@ pub fn after_setup(d: Desk, ready: bool) -> Desk
     let properties = d.properties;
     Desk {
         ready: d.ready || ready,
-        given: setting::nothing(),
+        given: node::setup::nothing(),
         room,
         properties,
     }

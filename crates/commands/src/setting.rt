@@ -1,8 +1,7 @@
 // What is given before a setup, line by line.
 //
 // More keys, elements or groups than a receiver holds are counted, so that the setup refuses them.
-use node::addresses::Key;
-use node::setup::BoundKey;
+use node::setup;
 use node::setup::Setup;
 use text::field;
 use text::hex;
@@ -12,11 +11,10 @@ use text::number::Number;
 use text::number::Octet;
 use text::number::Short;
 ghost use mathlib.Core.Path.{_≡_};
-ghost use Prim.Native.Nat.{_<_};
 ghost use lib.ListN.{drop, set};
 ghost use Rattle.text.specs.Field.{fields};
-ghost use Rattle.commands.specs.Setting.{nothing as nothingGiven, counted as countedTo, fit as fitting, unfit as unfitting, giving};
-ghost use Rattle.commands.specs.Setting.{noSequences, sequencesOf, withNetworkKey, withApplicationKey, withGroup};
+ghost use Rattle.node.specs.Setup.{withGroup};
+ghost use Rattle.commands.specs.Setting.{fit as fitting, unfit as unfitting, noSequences, sequencesOf, giving};
 
 // What a line gives.
 pub enum Item {
@@ -47,30 +45,6 @@ fn unfit(setup: Setup) -> Given
     Given { fits: false, setup }
 }
 
-// Nothing is given: zeros, and relay off.
-pub fn nothing() -> Setup
-    ensures { λ r. ⌜ r ≡ nothingGiven ⌝ }
-{
-    Setup {
-        networks: 0,
-        netkeys: [Key { octets: [0u8; 16] }; 4],
-        applications: 0,
-        appkeys: [BoundKey {
-            key: [0u8; 16],
-            network: 0,
-        }; 4],
-        device: [0u8; 16],
-        first: 0,
-        elements: 0,
-        next: [0u32; 8],
-        listened: 0,
-        groups: [0u16; 8],
-        iv: 0,
-        flag: false,
-        relay: false,
-    }
-}
-
 // Takes what a line gives.
 pub(crate) fn give(s: Setup, item: Item, line: &[u8]) -> Given
     ensures { λ r. ⌜ r ≡ giving s item (now (line .entry)) ⌝ }
@@ -86,14 +60,6 @@ pub(crate) fn give(s: Setup, item: Item, line: &[u8]) -> Given
     }
 }
 
-// One more than a count, which stops once it is above `most`.
-fn counted(n: usize, most: usize) -> usize
-    requires { ⌜ most < 256 ⌝ }
-    ensures { λ r. ⌜ r ≡ countedTo most n ⌝ }
-{
-    if most < n { n } else { n + 1 }
-}
-
 // `netkey KEY`: the next network key.
 fn network_key(s: Setup, line: &[u8]) -> Given
     ensures { λ r. ⌜ r ≡ giving s Item.NetKey (now (line .entry)) ⌝ }
@@ -102,21 +68,7 @@ fn network_key(s: Setup, line: &[u8]) -> Given
     if !hex::fill(field::last(line, 1), &mut octets) {
         return unfit(s);
     }
-    fit(with_network_key(s, octets))
-}
-
-// The setup with the next network key.
-fn with_network_key(s: Setup, octets: [u8; 16]) -> Setup
-    ensures { λ r. ⌜ r ≡ withNetworkKey s octets ⌝ }
-{
-    let n = s.networks;
-    let mut after = s;
-    after.networks = counted(n, 4);
-    if n < 4 {
-        after.netkeys[n] = Key { octets };
-        return after;
-    }
-    after
+    fit(setup::with_network_key(s, octets))
 }
 
 // `appkey N KEY`: the next application key, bound to network key N.
@@ -130,21 +82,7 @@ fn application_key(s: Setup, line: &[u8]) -> Given
     if !hex::fill(field::last(line, 2), &mut key) {
         return unfit(s);
     }
-    fit(with_application_key(s, network as usize, key))
-}
-
-// The setup with the next application key, bound to a network key.
-fn with_application_key(s: Setup, network: usize, key: [u8; 16]) -> Setup
-    ensures { λ r. ⌜ r ≡ withApplicationKey s network key ⌝ }
-{
-    let n = s.applications;
-    let mut after = s;
-    after.applications = counted(n, 4);
-    if n < 4 {
-        after.appkeys[n] = BoundKey { key, network };
-        return after;
-    }
-    after
+    fit(setup::with_application_key(s, network as usize, key))
 }
 
 // `devkey KEY`: the device key.
@@ -204,7 +142,7 @@ fn read_sequences(line: &[u8]) -> Sequences
         };
         let after = with_next(next, count, seq);
         next = after;
-        count = counted(count, 8);
+        count = setup::counted(count, 8);
         at = end;
     }
     Sequences {
@@ -249,7 +187,7 @@ fn with_group(s: Setup, address: u16) -> Setup
 {
     let n = s.listened;
     let mut after = s;
-    after.listened = counted(n, 8);
+    after.listened = setup::counted(n, 8);
     if n < 8 {
         after.groups[n] = address;
         return after;

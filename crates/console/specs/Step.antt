@@ -8,6 +8,7 @@ use mathlib.Core.Bool.{true, false}
 use mathlib.Core.List.{List}
 use Prim.Native.Nat.{ℕ}
 use lib.ListN.{take}
+use Rattle.node.specs.Setup.{nothing}
 use Rattle.receiver.specs.declared.fresh.Answer.{Answer}
 use Rattle.receiver.specs.declared.fresh.Answer.the-variants.{Ready, Refused}
 use Rattle.receiver.specs.declared.state.Receiver.{Receiver}
@@ -17,7 +18,6 @@ use Rattle.commands.specs.declared.line.Line.{Line}
 use Rattle.commands.specs.declared.line.Line.the-variants as line
 use Rattle.commands.specs.Desk.{atStart, afterSetup, noting}
 use Rattle.commands.specs.Line.{lineOf}
-use Rattle.commands.specs.Setting.{nothing}
 use Rattle.answers.specs.Answer.{setUpText, notedText}
 use Rattle.answers.specs.Readings.{readingsText}
 use Rattle.console.specs.declared.step.Console.{Console}

@@ -21,7 +21,7 @@ pub(crate) struct Console {
 pub(crate) fn start() -> Console
     ensures { λ c. ⌜ c ≡ starting ⌝ }
 {
-    let none = receiver::fresh::set_up(commands::setting::nothing());
+    let none = receiver::fresh::set_up(node::setup::nothing());
     let receiver = none.receiver;
     Console {
         desk: desk::start(),

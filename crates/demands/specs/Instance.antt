@@ -17,6 +17,7 @@ use Rattle.network.specs.Sealing.{forwards}
 use Rattle.transport.specs.declared.securing.MessageKey.the-variants.{Application}
 use Rattle.node.specs.declared.setup.Setup.{Setup}
 use Rattle.node.specs.Addresses.{isLocal}
+use Rattle.node.specs.Setup.{nothing, withNetworkKey, withApplicationKey, withDeviceKey, withElements, withIndex}
 use Rattle.receiver.specs.Good.{Good}
 use Rattle.sending.specs.declared.request.Request.{Request}
 use Rattle.sending.specs.declared.request.Ttl.the-variants.{Unnamed}
@@ -37,21 +38,8 @@ deviceKey = 0x9d ∷ 0x6d ∷ 0xd0 ∷ 0xe9 ∷ 0x6e ∷ 0xb2 ∷ 0x5d ∷ 0xc1 
 -- the node of one element at an address, which has sent nothing yet
 abbrev pub nodeAt : ℕ → Setup
 nodeAt address =
-    record {
-      networks = 1;
-      netkeys = record { octets = networkKey } ∷ replicate 3 (record { octets = replicate 16 0 });
-      applications = 1;
-      appkeys = record { key = applicationKey; network = 0 } ∷ replicate 3 (record { key = replicate 16 0; network = 0 });
-      device = deviceKey;
-      first = address;
-      elements = 1;
-      next = replicate 8 0;
-      listened = 0;
-      groups = replicate 8 0;
-      iv = 0x12345678;
-      flag = false;
-      relay = true;
-    }
+    let keyed = withDeviceKey (withApplicationKey (withNetworkKey nothing networkKey) 0 applicationKey) deviceKey in
+    withIndex (withElements keyed address 1 (replicate 8 0)) 0x12345678 false true
 
 abbrev pub shed : Setup
 shed = nodeAt 0x0001

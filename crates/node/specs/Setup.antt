@@ -1,4 +1,5 @@
 -- Setup (document 01, "What the receiver holds"): what is outside the numbers of the table makes no node.
+--   nothing      nothing is given; `withNetworkKey` and the others fill in what is
 --   valid s      everything is within the table
 --   nodeOf s     the node: unused places zero, derived keys worked out
 --   nextOf s     each element's next SEQ
@@ -7,7 +8,7 @@ use mathlib.Core.Bool.{Bool, true, false, _&&_, not}
 use mathlib.Core.List.{List, []}
 use Prim.Native.Nat.{ℕ, _+_}
 use lib.Dec.{eqb, leb, ltb}
-use lib.ListN.{getD, replicate}
+use lib.ListN.{getD, replicate, set}
 use Rattle.common.specs.Choice.{if_then_else_}
 use Rattle.common.specs.Lists.{tab}
 use Rattle.common.specs.Search.{first}
@@ -22,6 +23,115 @@ use Rattle.node.specs.declared.addresses.Node.{Node}
 use Rattle.node.specs.declared.setup.BoundKey.{BoundKey}
 use Rattle.node.specs.declared.setup.Made.{Made}
 use Rattle.node.specs.declared.setup.Setup.{Setup}
+
+-- zeros
+abbrev pub zeroKey : Key
+zeroKey = record { octets = replicate 16 0 }
+
+abbrev pub zeroBoundKey : BoundKey
+zeroBoundKey = record { key = replicate 16 0; network = 0 }
+
+-- nothing is given: zeros, index 0 with flag 0, and relay off
+abbrev pub nothing : Setup
+nothing =
+    record {
+      networks = 0;
+      netkeys = replicate 4 zeroKey;
+      applications = 0;
+      appkeys = replicate 4 zeroBoundKey;
+      device = replicate 16 0;
+      first = 0;
+      elements = 0;
+      next = replicate 8 0;
+      listened = 0;
+      groups = replicate 8 0;
+      iv = 0;
+      flag = false;
+      relay = false;
+    }
+
+-- the setup with other keys
+abbrev pub withKeys : Setup → ℕ → List Key → ℕ → List BoundKey → List ℕ → Setup
+withKeys s networks netkeys applications appkeys device =
+    record {
+      networks = networks;
+      netkeys = netkeys;
+      applications = applications;
+      appkeys = appkeys;
+      device = device;
+      first = s .first;
+      elements = s .elements;
+      next = s .next;
+      listened = s .listened;
+      groups = s .groups;
+      iv = s .iv;
+      flag = s .flag;
+      relay = s .relay;
+    }
+
+-- with other elements and groups
+abbrev pub withAddresses : Setup → ℕ → ℕ → List ℕ → ℕ → List ℕ → Setup
+withAddresses s address elements next listened groups =
+    record {
+      networks = s .networks;
+      netkeys = s .netkeys;
+      applications = s .applications;
+      appkeys = s .appkeys;
+      device = s .device;
+      first = address;
+      elements = elements;
+      next = next;
+      listened = listened;
+      groups = groups;
+      iv = s .iv;
+      flag = s .flag;
+      relay = s .relay;
+    }
+
+-- with another IV Index, update flag and relay
+abbrev pub withIndex : Setup → ℕ → Bool → Bool → Setup
+withIndex s iv flag relay =
+    record {
+      networks = s .networks;
+      netkeys = s .netkeys;
+      applications = s .applications;
+      appkeys = s .appkeys;
+      device = s .device;
+      first = s .first;
+      elements = s .elements;
+      next = s .next;
+      listened = s .listened;
+      groups = s .groups;
+      iv = iv;
+      flag = flag;
+      relay = relay;
+    }
+
+-- how keys, elements and groups are counted: one more than a count, which stops once it is above `most`
+abbrev pub counted : ℕ → ℕ → ℕ
+counted most n = if ltb most n then n else n + 1
+
+-- with the next network key: past the last place it is only counted
+abbrev pub withNetworkKey : Setup → List ℕ → Setup
+withNetworkKey s key =
+    withKeys s (counted 4 (s .networks)) (set (s .netkeys) (s .networks) (record { octets = key })) (s .applications) (s .appkeys) (s .device)
+
+-- with the next application key, bound to a network key
+abbrev pub withApplicationKey : Setup → ℕ → List ℕ → Setup
+withApplicationKey s network key =
+    withKeys s (s .networks) (s .netkeys) (counted 4 (s .applications)) (set (s .appkeys) (s .applications) (record { key = key; network = network })) (s .device)
+
+-- with another device key
+abbrev pub withDeviceKey : Setup → List ℕ → Setup
+withDeviceKey s key = withKeys s (s .networks) (s .netkeys) (s .applications) (s .appkeys) key
+
+-- with so many elements from an address on, each with its next SEQ
+abbrev pub withElements : Setup → ℕ → ℕ → List ℕ → Setup
+withElements s address elements next = withAddresses s address elements next (s .listened) (s .groups)
+
+-- with one more group address
+abbrev pub withGroup : Setup → ℕ → Setup
+withGroup s address = withAddresses s (s .first) (s .elements) (s .next) (counted 8 (s .listened)) (set (s .groups) (s .listened) address)
 
 -- none of the first n fails
 abbrev pub every : {A : Type 0} → (A → Bool) → ℕ → List A → Bool
@@ -65,9 +175,6 @@ unfoldable pub valid : Setup → Bool
 valid s = keysValid s && (elementsValid s && (groupsValid s && indexValid s))
 
 -- zeros
-abbrev pub zeroKey : Key
-zeroKey = record { octets = replicate 16 0 }
-
 abbrev pub zeroMaterial : NetworkKeys
 zeroMaterial = record { nid = 0; encryption = replicate 16 0; privacy = replicate 16 0 }
 

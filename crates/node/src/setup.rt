@@ -7,6 +7,7 @@ use transport::securing::ApplicationKey;
 ghost use mathlib.Core.Path.{_≡_};
 ghost use Prim.Native.Nat.{_<_, _≤_};
 ghost use Rattle.common.specs.Lists.{tab};
+ghost use Rattle.node.specs.Setup.{nothing as nothingGiven, counted as countedTo, withNetworkKey, withApplicationKey};
 ghost use Rattle.node.specs.Setup.{groupKind, boundWithin, keysValid, nextWithin, elementsValid, groupsValid, indexValid, valid, networkKeyAt, materialAt, boundKeyAt, nextAt, groupAt, nodeOf, nextOf, noNode, making};
 
 // An application key, and the place of the network key that it is bound to.
@@ -41,6 +42,65 @@ pub struct Made {
     pub ok: bool,
     pub node: Node,
     pub next: [u32; 8],
+}
+
+// Nothing is given: zeros, and relay off. What there is is filled in.
+pub fn nothing() -> Setup
+    ensures { λ r. ⌜ r ≡ nothingGiven ⌝ }
+{
+    Setup {
+        networks: 0,
+        netkeys: [Key { octets: [0u8; 16] }; 4],
+        applications: 0,
+        appkeys: [BoundKey {
+            key: [0u8; 16],
+            network: 0,
+        }; 4],
+        device: [0u8; 16],
+        first: 0x0000,
+        elements: 0,
+        next: [0u32; 8],
+        listened: 0,
+        groups: [0u16; 8],
+        iv: 0,
+        flag: false,
+        relay: false,
+    }
+}
+
+// One more than a count, which stops once it is above `most`: more than a node holds are counted, so that its setup is refused.
+pub fn counted(n: usize, most: u8) -> usize
+    ensures { λ r. ⌜ r ≡ countedTo most n ⌝ }
+{
+    if n <= most as usize { n + 1 } else { n }
+}
+
+// The setup with the next network key.
+pub fn with_network_key(s: Setup, octets: [u8; 16]) -> Setup
+    ensures { λ r. ⌜ r ≡ withNetworkKey s octets ⌝ }
+{
+    let n = s.networks;
+    let mut after = s;
+    after.networks = counted(n, 4);
+    if n < 4 {
+        after.netkeys[n] = Key { octets };
+        return after;
+    }
+    after
+}
+
+// The setup with the next application key, bound to a network key.
+pub fn with_application_key(s: Setup, network: usize, key: [u8; 16]) -> Setup
+    ensures { λ r. ⌜ r ≡ withApplicationKey s network key ⌝ }
+{
+    let n = s.applications;
+    let mut after = s;
+    after.applications = counted(n, 4);
+    if n < 4 {
+        after.appkeys[n] = BoundKey { key, network };
+        return after;
+    }
+    after
 }
 
 // Whether each application key is bound to a network key that there is.

@@ -6,6 +6,7 @@ use mathlib.Core.List.{List, [], _∷_}
 use Prim.Native.Nat.{ℕ}
 use lib.ListN.{replicate}
 use Rattle.node.specs.declared.setup.Setup.{Setup}
+use Rattle.node.specs.Setup.{nothing, withNetworkKey, withApplicationKey, withDeviceKey, withElements, withIndex}
 use Rattle.receiver.specs.declared.state.Receiver.{Receiver}
 use Rattle.receiver.specs.Fresh.{settingUp}
 
@@ -24,21 +25,8 @@ deviceKey =
 -- one network key, an application key bound to it, a device key; one element with its address and next SEQ; no groups, relay off
 abbrev pub setting : ℕ → ℕ → ℕ → Bool → Setup
 setting address next iv flag =
-    record {
-      networks = 1;
-      netkeys = replicate 4 (record { octets = networkKey });
-      applications = 1;
-      appkeys = replicate 4 (record { key = applicationKey; network = 0 });
-      device = deviceKey;
-      first = address;
-      elements = 1;
-      next = replicate 8 next;
-      listened = 0;
-      groups = replicate 8 0;
-      iv = iv;
-      flag = flag;
-      relay = false;
-    }
+    let keyed = withDeviceKey (withApplicationKey (withNetworkKey nothing networkKey) 0 applicationKey) deviceKey in
+    withIndex (withElements keyed address 1 (next ∷ replicate 7 0)) iv flag false
 
 -- the node so set up; where setup refuses, one of zeros
 abbrev pub ready : ℕ → ℕ → ℕ → Bool → Receiver

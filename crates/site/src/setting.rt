@@ -1,6 +1,5 @@
 // How a node of the site is set up. Its keys are those of MP's sample data (MP 8.2), which are printed and no secret.
-use node::addresses::Key;
-use node::setup::BoundKey;
+use node::setup;
 use node::setup::Setup;
 use receiver::state::Receiver;
 ghost use mathlib.Core.Path.{_≡_};
@@ -67,24 +66,16 @@ const DEVICE_KEY: [u8; 16] = [
 pub fn setup(address: u16, next: u32, iv: u32, flag: bool) -> Setup
     ensures { λ s. ⌜ s ≡ setting address next iv flag ⌝ }
 {
-    let octets = NETWORK_KEY;
-    let key = APPLICATION_KEY;
     let device = DEVICE_KEY;
-    Setup {
-        networks: 1,
-        netkeys: [Key { octets }; 4],
-        applications: 1,
-        appkeys: [BoundKey { key, network: 0 }; 4],
-        device,
-        first: address,
-        elements: 1,
-        next: [next; 8],
-        listened: 0,
-        groups: [0u16; 8],
-        iv,
-        flag,
-        relay: false,
-    }
+    let keyed = setup::with_network_key(setup::nothing(), NETWORK_KEY);
+    let mut s = setup::with_application_key(keyed, 0, APPLICATION_KEY);
+    s.device = device;
+    s.first = address;
+    s.elements = 1;
+    s.next[0] = next;
+    s.iv = iv;
+    s.flag = flag;
+    s
 }
 
 // The node so set up; where setup refuses, one of zeros, which refuses all that is asked of it.

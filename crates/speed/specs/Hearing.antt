@@ -19,6 +19,7 @@ use Rattle.network.specs.Opening.{opening}
 use Rattle.node.specs.declared.addresses.Node.{Node}
 use Rattle.node.specs.declared.setup.Setup.{Setup}
 use Rattle.memory.specs.Session.{sessionAt}
+use Rattle.node.specs.Setup.{nothing, withNetworkKey, withApplicationKey, withDeviceKey, withElements, withIndex}
 use Rattle.receiver.specs.declared.answer.Answer.{Answer}
 use Rattle.receiver.specs.declared.answer.Answer.the-variants.{Refused, Stored, Repeated, Access, Control, Acknowledgement}
 use Rattle.receiver.specs.declared.state.Receiver.{Receiver}
@@ -32,21 +33,8 @@ keyAt keys i = take 16 (drop (16 * i) keys)
 -- a network key, an application key bound to it and a device key; one element, whose next SEQ is 0; no groups, relay off
 abbrev pub setupOf : List ℕ → ℕ → ℕ → Setup
 setupOf keys first iv =
-    record {
-      networks = 1;
-      netkeys = replicate 4 (record { octets = keyAt keys 0 });
-      applications = 1;
-      appkeys = replicate 4 (record { key = keyAt keys 1; network = 0 });
-      device = keyAt keys 2;
-      first = first;
-      elements = 1;
-      next = replicate 8 0;
-      listened = 0;
-      groups = replicate 8 0;
-      iv = iv;
-      flag = false;
-      relay = false;
-    }
+    let keyed = withDeviceKey (withApplicationKey (withNetworkKey nothing (keyAt keys 0)) 0 (keyAt keys 1)) (keyAt keys 2) in
+    withIndex (withElements keyed first 1 (replicate 8 0)) iv false false
 
 -- the receiver so set up; where setup refuses, one of zeros, which refuses every PDU
 abbrev pub receiverOf : List ℕ → ℕ → ℕ → Receiver

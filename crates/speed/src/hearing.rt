@@ -1,9 +1,8 @@
 // One PDU heard again and again, each time by a receiver that was just set up; many heard in a row by one receiver; and, for comparison, a PDU's
 // network layer opened again and again.
 use network::opening::Answer as Network;
-use node::addresses::Key;
 use node::addresses::Node;
-use node::setup::BoundKey;
+use node::setup;
 use node::setup::Setup;
 use receiver::answer::Answer;
 use receiver::state::Receiver;
@@ -28,27 +27,14 @@ fn setup(keys: &[u8], first: u16, iv: u32) -> Setup
     requires { ⌜ length (now keys) ≡ 48 ⌝ }
     ensures { λ s. ⌜ s ≡ setupOf (now (keys .entry)) first iv ⌝ }
 {
-    let octets = key(keys, 0);
-    let application_key = key(keys, 1);
     let device = key(keys, 2);
-    Setup {
-        networks: 1,
-        netkeys: [Key { octets }; 4],
-        applications: 1,
-        appkeys: [BoundKey {
-            key: application_key,
-            network: 0,
-        }; 4],
-        device,
-        first,
-        elements: 1,
-        next: [0u32; 8],
-        listened: 0,
-        groups: [0u16; 8],
-        iv,
-        flag: false,
-        relay: false,
-    }
+    let keyed = setup::with_network_key(setup::nothing(), key(keys, 0));
+    let mut s = setup::with_application_key(keyed, 0, key(keys, 1));
+    s.device = device;
+    s.first = first;
+    s.elements = 1;
+    s.iv = iv;
+    s
 }
 
 fn receiver(keys: &[u8], first: u16, iv: u32) -> Receiver

@@ -21,7 +21,7 @@ loop-holds c =
     none-passed (pieces (a .cs .now)) (c .piece-count .result) (a .nid)
 
 mul-if2 : tie.Need-mul-if2 Inv-loop μ-loop
-mul-if2 c = let l = c .before .loop .inv .0 in omega arith
+mul-if2 c = let l = c .before .loop .inv .within in omega arith
 
 shared-slice-read-if2 : tie.Need-shared-slice-read-if2 Inv-loop μ-loop
 shared-slice-read-if2 c =

@@ -1,4 +1,4 @@
--- `setting::with_application_key` meets its contract: past its end a list has no place to set.
+-- `setup::with_application_key` meets its contract: past its end a list has no place to set.
 -- Assumes nothing.
 use mathlib.Core.Path.{_≡_}
 use native.Mathlib.Omega.{arith}
@@ -6,9 +6,9 @@ use borrow.Author.Needs.{needs}
 use lib.ListN.{length}
 use lib.Seq.{set-out}
 use Rattle.common.proofs.Lists.{length-mapped}
 use Rattle.node.specs.declared.setup.BoundKey.{BoundKey}
-use Rattle.commands.proofs.setting.with_application_key.Statement.{statement}
-use Rattle.commands.proofs.setting.with_application_key.Tie as tie
+use Rattle.node.proofs.setup.with_application_key.Statement.{statement}
+use Rattle.node.proofs.setup.with_application_key.Tie as tie
 
 returns : tie.Need-returns
 returns c = rw (c .before .counted .ensures)
