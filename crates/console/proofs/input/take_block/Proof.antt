@@ -2,7 +2,7 @@
 -- and what is left of the block falls.
 -- Assumes nothing.
 use mathlib.Core.Path.{_≡_, refl}
-use Prim.Native.Nat.{_-_}
+use Prim.Native.Nat.{_-_, _≤_}
 use native.Mathlib.Omega.{arith}
 use borrow.Author.Needs.{needs}
 use lib.ListN.{length, take, drop}
@@ -23,56 +23,107 @@ Inv-loop block line₀ octets₀ out₀ desk₀ receiver₀ gathered₀ written�
 abbrev μ-loop : tie.MeasureT-loop
 μ-loop block line₀ octets₀ out₀ desk₀ receiver₀ gathered₀ written₀ at₀ line octets out desk receiver gathered written at = length block - at
 
+-- ---- the places that a turn of the loop passes, each by a later one
+module _ (g : tie.After-gather Inv-loop μ-loop) where
+  abbrev turn : tie.In-loop Inv-loop μ-loop
+  turn = g .before .before
+
+  abbrev entered : tie.After-receiver Inv-loop μ-loop
+  entered = turn .before .before
+
+  abbrev known : tie.After-slice-known2 Inv-loop μ-loop
+  known = entered .before .before .before
+
+  abbrev start : tie.Start Inv-loop μ-loop
+  start = known .before .before .before
+
+  -- the buffer of the answers is as long as it was
+  room : 8192 ≤ length (turn .before .loop .out)
+  room = omega (arith, turn .before .loop .inv .2, start .pre)
+
+module _ (f : tie.After-flushed Inv-loop μ-loop) where
+  abbrev octets : tie.After-octets Inv-loop μ-loop
+  octets = f .before .before .before
+
+  abbrev read : tie.After-read Inv-loop μ-loop
+  read = octets .before
+
+  abbrev first : tie.After-first Inv-loop μ-loop
+  first = read .before .before
+
+  abbrev ends : tie.Then1 Inv-loop μ-loop
+  ends = first .before .before
+
+  abbrev line : tie.After-line Inv-loop μ-loop
+  line = ends .before .before
+
+  abbrev gather : tie.After-gather Inv-loop μ-loop
+  gather = line .before
+
+-- where a PDU was heard
+module _ (c : tie.After-slice-known6 Inv-loop μ-loop) where
+  abbrev hear : tie.After-hear Inv-loop μ-loop
+  hear = c .before .before
+
+  abbrev cut : tie.After-first2 Inv-loop μ-loop
+  cut = hear .before .before .before
+
+  abbrev said : tie.After-said Inv-loop μ-loop
+  said = cut .before .before .before
+
+  abbrev flushed : tie.After-flushed Inv-loop μ-loop
+  flushed = said .before .before
+
+-- where another line was taken
+module _ (c : tie.After-receiver2 Inv-loop μ-loop) where
+  abbrev out : tie.After-out2 Inv-loop μ-loop
+  out = c .before .before .before
+
+  abbrev step : tie.After-step Inv-loop μ-loop
+  step = out .before
+
+  abbrev handed : tie.After-step-arg Inv-loop μ-loop
+  handed = step .before .before .before
+
+  abbrev flushed-2 : tie.After-flushed Inv-loop μ-loop
+  flushed-2 = handed .before .before
+
 loop-less : tie.Need-loop-less Inv-loop μ-loop
 loop-less c =
-    let gather = c .before .before .before .before .before .before .before .before .before .before .before .before .before .before .before .before .before .before .before .before .before in
-    omega (arith, gather .gather .ensures .0, gather .before .before .loop-test .taken)
+    let g = gather (flushed c) in
+    omega (arith, g .gather .ensures .0, turn g .loop-test .taken)
 
 loop-again : tie.Need-loop-again Inv-loop μ-loop
 loop-again c =
-    let hear = c .before .before in
-    let first2 = hear .before .before .before in
-    let said = first2 .before .before .before in
-    let flushed = said .before .before in
-    let octets = flushed .before .before .before in
-    let read = octets .before in
-    let first = read .before .before in
-    let if1 = first .before .before in
-    let line = if1 .before .before in
-    let gather = line .before in
-    let loop = gather .before .before .before .loop in
+    let f = flushed c in
+    let g = gather f in
+    let loop = turn g .before .loop in
     let heard =
-    ended-hear _ _ _ _ _ _ _ _ _ (flushed .flushed .ensures) (omega (arith, loop .inv .2, gather .before .before .before .before .before .before .before .before .before .before .pre))
-    (loop .desk) (loop .receiver) _ _ _ (read .read .ensures) (said .said .given .1) (first2 .first2 .ensures) (hear .hear .ensures .0) (hear .hear .ensures .1) in (
-      omega (arith, loop .inv .0, line .line .given),
-      omega (arith, loop .inv .1, octets .octets .given),
+    ended-hear _ _ _ _ _ _ _ _ _ (f .flushed .ensures) (room g) (loop .desk) (loop .receiver) _ _ _
+    (read f .read .ensures) (said c .said .given .1) (cut c .first2 .ensures) (hear c .hear .ensures .0) (hear c .hear .ensures .1) in (
+      omega (arith, loop .inv .0, line f .line .given),
+      omega (arith, loop .inv .1, octets f .octets .given),
       omega (arith, loop .inv .2, c .before .out .given),
-      turn-whole _ _ _ _ _ _ _ _ _ _ _ (loop .inv .0) (gather .gather .ensures .1) (loop .inv .3) _ _ (if1 .if1 .taken) (first .first .ensures) heard,
+      turn-whole _ _ _ _ _ _ _ _ _ _ _ (loop .inv .0) (g .gather .ensures .1) (loop .inv .3) _ _ (ends f .if1 .taken) (first f .first .ensures) heard,
     )
 
 loop-less-2 : tie.Need-loop-less-2 Inv-loop μ-loop
 loop-less-2 c =
-    let gather = c .before .before .before .before .before .before .before .before .before .before .before .before .before .before .before .before .before .before .before .before in
-    omega (arith, gather .gather .ensures .0, gather .before .before .loop-test .taken)
+    let g = gather (flushed-2 c) in
+    omega (arith, g .gather .ensures .0, turn g .loop-test .taken)
 
 loop-again-2 : tie.Need-loop-again-2 Inv-loop μ-loop
 loop-again-2 c =
-    let step = c .before .before .before .before in
-    let match = step .before .before .before .before in
-    let flushed = match .before in
-    let octets = flushed .before .before .before in
-    let read = octets .before in
-    let first = read .before .before in
-    let if1 = first .before .before in
-    let line = if1 .before .before in
-    let gather = line .before in
-    let loop = gather .before .before .before .loop in
-    let done = ended-step _ _ _ _ _ _ _ _ _ (flushed .flushed .ensures) (omega (arith, loop .inv .2, gather .before .before .before .before .before .before .before .before .before .before .pre))
-    (console (loop .desk) (loop .receiver)) _ (read .read .ensures) (step .step .ensures .0) (step .step .ensures .1) in (
-      omega (arith, loop .inv .0, line .line .given),
-      omega (arith, loop .inv .1, octets .octets .given),
-      omega (arith, loop .inv .2, c .before .before .before .out2 .given),
-      turn-whole _ _ _ _ _ _ _ _ _ _ _ (loop .inv .0) (gather .gather .ensures .1) (loop .inv .3) _ _ (if1 .if1 .taken) (first .first .ensures) done,
+    let f = flushed-2 c in
+    let g = gather f in
+    let loop = turn g .before .loop in
+    let done =
+    ended-step _ _ _ _ _ _ _ _ _ (f .flushed .ensures) (room g) (console (loop .desk) (loop .receiver)) _
+    (read f .read .ensures) (step c .step .ensures .0) (step c .step .ensures .1) in (
+      omega (arith, loop .inv .0, line f .line .given),
+      omega (arith, loop .inv .1, octets f .octets .given),
+      omega (arith, loop .inv .2, out c .out2 .given),
+      turn-whole _ _ _ _ _ _ _ _ _ _ _ (loop .inv .0) (g .gather .ensures .1) (loop .inv .3) _ _ (ends f .if1 .taken) (first f .first .ensures) done,
     )
 
 loop-again-3 : tie.Need-loop-again-3 Inv-loop μ-loop
