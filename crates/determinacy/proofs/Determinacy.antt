@@ -79,6 +79,10 @@ determinate =
       -- node
       node-addresses-is-local = λ m _ o _. of-one m (λ d. (d, o .1));
       node-addresses-is-for = λ m _ o _. of-one m (λ d. (d, o .1));
+      node-setup-nothing = λ m _ o _. of-one m (λ d. (d, o .1));
+      node-setup-counted = λ m _ o _. of-one m (λ d. (d, o .1));
+      node-setup-with-network-key = λ m _ o _. of-one m (λ d. (d, o .1));
+      node-setup-with-application-key = λ m _ o _. of-one m (λ d. (d, o .1));
       node-setup-make = λ m _ o _. of-one m (λ d. (d, o .1));
       -- sensor
       sensor-list-number = λ m _ o _. of-one m (λ d. (d, o .1));
@@ -152,7 +156,6 @@ determinate =
       commands-desk-after-setup = λ m _ o _. of-one m (λ d. (d, o .1));
       commands-desk-note = λ m _ o _. of-one m (λ d. (d, o .1));
       commands-line-read = λ m _ _ _. of-one m (λ d. (d .answer, (tt, (tt, (d .buffer, tt)))));
-      commands-setting-nothing = λ m _ o _. of-one m (λ d. (d, o .1));
       -- answers
       answers-answer-put-heard = λ m _ _ _. of-one m (λ d. (d .answer, (tt, (tt, (tt, (d .buffer, (tt, tt)))))));
       answers-answer-put-forward = λ m _ _ _. of-one m (λ d. (d .answer, (tt, (d .buffer, (tt, tt)))));

@@ -93,6 +93,10 @@ pub record Determinate : Type 2 where
   -- node
   pub node-addresses-is-local : Determined node.addresses.«is_local».ended (λ _. node.addresses.«is_local».clauses)
   pub node-addresses-is-for : Determined node.addresses.«is_for».ended (λ _. node.addresses.«is_for».clauses)
+  pub node-setup-nothing : Determined node.setup.nothing.ended (λ _. node.setup.nothing.clauses)
+  pub node-setup-counted : Determined node.setup.counted.ended (λ _. node.setup.counted.clauses)
+  pub node-setup-with-network-key : Determined node.setup.«with_network_key».ended (λ _. node.setup.«with_network_key».clauses)
+  pub node-setup-with-application-key : Determined node.setup.«with_application_key».ended (λ _. node.setup.«with_application_key».clauses)
   pub node-setup-make : Determined node.setup.make.ended (λ _. node.setup.make.clauses)
   -- sensor
   pub sensor-list-number : Determined sensor.list.number.ended (λ _. sensor.list.number.clauses)
@@ -166,7 +170,6 @@ pub record Determinate : Type 2 where
   pub commands-desk-after-setup : Determined commands.desk.«after_setup».ended (λ _. commands.desk.«after_setup».clauses)
   pub commands-desk-note : Determined commands.desk.note.ended (λ _. commands.desk.note.clauses)
   pub commands-line-read : Determined commands.line.read.ended (λ _. commands.line.read.clauses)
-  pub commands-setting-nothing : Determined commands.setting.nothing.ended (λ _. commands.setting.nothing.clauses)
   -- answers
   pub answers-answer-put-heard : Determined answers.answer.«put_heard».ended (λ _. answers.answer.«put_heard».clauses)
   pub answers-answer-put-forward : Determined answers.answer.«put_forward».ended (λ _. answers.answer.«put_forward».clauses)
