@@ -9,7 +9,7 @@ use mathlib.Core.List.{List}
 use mathlib.Core.Logic.{inl, inr, ⊎-elim}
 use mathlib.Core.Path.{_≡_, refl, sym, _∙_, subst}
 use Prim.Native.Nat.{ℕ}
-use Rattle.network.specs.declared.opening.Answer as network-answer
+use Rattle.network.specs.declared.opening.Answer as opening-answer
 use Rattle.network.specs.declared.opening.Answer.the-variants as network
 use Rattle.network.specs.Opening.{opening}
 use Rattle.receiver.specs.declared.answer.Answer.{Answer}
@@ -79,7 +79,7 @@ late-leaves r pdu fwd msg n e t =
     ⊎-elim (λ y. absurd (true≢false (sym (y .is-early) ∙ t))) (λ l. (leaves-of _ _ n (l .stays), l .forwarded-as)) (heard-refused r pdu fwd msg n e)
 
 -- ---- a PDU that no key opens
-pub unopened : (a : network-answer.Answer) → noKeyOpens a ≡ true → a ≡ network.Opened → ⊥
+pub unopened : (a : opening-answer.Answer) → noKeyOpens a ≡ true → a ≡ network.Opened → ⊥
 unopened a t e = false≢true (rw e at t)
 
 pub unopened-leaves : UnopenedLeaves

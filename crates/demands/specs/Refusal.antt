@@ -10,7 +10,7 @@ use mathlib.Core.Path.{_≡_}
 use Prim.Native.Nat.{ℕ}
 use lib.Dec.{eqb, leb}
 use Rattle.network.specs.declared.header.Header.{Header}
-use Rattle.network.specs.declared.opening.Answer as network-answer
+use Rattle.network.specs.declared.opening.Answer as opening-answer
 use Rattle.network.specs.declared.opening.Answer.the-variants as network
 use Rattle.network.specs.Opening.{opening}
 use Rattle.memory.specs.Cache.{remembered}
@@ -55,7 +55,7 @@ EarlyLeaves =
     → Untouched r fwd msg (hearing r pdu fwd msg)
 
 -- no key opens a PDU: refusals 1, 2 and 3 of its opening
-abbrev pub noKeyOpens : network-answer.Answer → Bool
+abbrev pub noKeyOpens : opening-answer.Answer → Bool
 noKeyOpens network.Opened = false
 noKeyOpens network.WrongLength = true
 noKeyOpens network.NoCandidate = true

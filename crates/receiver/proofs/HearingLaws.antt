@@ -8,7 +8,6 @@ use borrow.Author.Tests.{not-true, not-false, lt-ltb, le-ltb}
 use lib.ListN.{length}
 use Rattle.common.specs.Lent.{lent}
 use Rattle.network.specs.declared.header.Header.{Header}
-use Rattle.network.specs.declared.opening.Answer.{Answer}
 use Rattle.network.specs.declared.opening.Answer.the-variants as network
 use Rattle.network.specs.declared.opening.Opening.{Opening}
 use Rattle.network.specs.declared.sealing.Answer as sealing-answer

@@ -15,7 +15,7 @@ use lib.ListN.{length}
 use Rattle.common.specs.Lent.{Lent, lent}
 use Rattle.common.proofs.Tests.{by-choice}
 use Rattle.network.specs.declared.header.Header.{Header}
-use Rattle.network.specs.declared.opening.Answer as network-answer
+use Rattle.network.specs.declared.opening.Answer as opening-answer
 use Rattle.network.specs.declared.opening.Answer.the-variants as network
 use Rattle.network.specs.declared.opening.Opening.{Opening}
 use Rattle.network.specs.Opening.{opening}
@@ -57,7 +57,7 @@ module _ (r : Receiver) (fwd msg pdu : List ℕ) where
   o = openingOf r pdu
 
   module _ (P : Outcome → Type 0) (refuses : (n : Refusal) (trials : ℕ) → early n ≡ true → P (outcome (refusedHeard r n trials) fwd msg)) where
-    walk-opened : (a : network-answer.Answer) (h : Header) (trials : ℕ) → (a ≡ network.Opened → P (passed r h trials fwd msg)) → P (openedAs a r h trials fwd msg)
+    walk-opened : (a : opening-answer.Answer) (h : Header) (trials : ℕ) → (a ≡ network.Opened → P (passed r h trials fwd msg)) → P (openedAs a r h trials fwd msg)
     unfolding openedAs uncached
     walk-opened network.WrongLength h trials f = refuses refusal.WrongLength trials refl
     walk-opened network.NoCandidate h trials f = refuses refusal.NoCandidate trials refl
