@@ -25,7 +25,8 @@ use Rattle.transport.specs.declared.securing.MessageKey.{MessageKey}
 use Rattle.transport.specs.declared.securing.MessageKey.the-variants.{Application, Device}
 use Rattle.transport.specs.declared.securing.Opened.{Opened}
 use Rattle.transport.specs.declared.securing.Opened.the-variants.{Message, NotOpened, ShortBuffer}
-use Rattle.transport.specs.Securing.{transMic, messageNonceOf, secured, openedBy, applicationKeyAt, applicationCandidates, opensMessage, messageBy, byApplicationKeys, byDeviceKey, unsecuring, paper, trialsOf}
+use Rattle.transport.specs.Securing.{transMic, messageNonceOf, secured, openedBy, applicationKeyAt, applicationCandidates}
+use Rattle.transport.specs.Securing.{opensMessage, messageBy, byApplicationKeys, byDeviceKey, unsecuring, paper, trialsOf}
 use Rattle.transport.specs.SecureOpen.{SecuredLength, Fits, Receives, UnsecureSecure, UnsecureSecureDevice, TrialsMost, Stands, MessageStands, PlaceLow, RefusedKeeps}
 use Rattle.transport.proofs.SecuringLaws.{fitsAt, open-application, open-device, device-opens}
 

@@ -21,7 +21,8 @@ use Rattle.transport.specs.declared.securing.Envelope.{Envelope}
 use Rattle.transport.specs.declared.securing.MessageKey.the-variants.{Application, Device}
 use Rattle.transport.specs.declared.securing.Opened.{Opened}
 use Rattle.transport.specs.declared.securing.Opened.the-variants.{Message, NotOpened, ShortBuffer}
-use Rattle.transport.specs.Securing.{transMic, messageNonceOf, secured, openedBy, applicationKeyAt, fitsKey, applicationCandidates, opensMessage, byApplicationKeys, byDeviceKey, securing, unsecuring}
+use Rattle.transport.specs.Securing.{transMic, messageNonceOf, secured, openedBy, applicationKeyAt, fitsKey, applicationCandidates}
+use Rattle.transport.specs.Securing.{opensMessage, byApplicationKeys, byDeviceKey, securing, unsecuring}
 
 -- ---- the nonce
 module _ (e : Envelope) (n : List ℕ) where
