@@ -29,13 +29,14 @@ use Rattle.network.specs.Sealing.{mostTransport, sealable}
 use Rattle.network.proofs.AddressLaws.{addresses-allowed}
 use Rattle.network.proofs.Sealed.{sealable-where}
 use Rattle.network.proofs.TrialLaws.{onto-zeros, take-padded}
+use Rattle.transport.specs.declared.form.SegmentFields.{SegmentFields}
 use Rattle.transport.specs.declared.securing.MessageKey.{MessageKey}
 use Rattle.transport.specs.declared.securing.MessageKey.the-variants.{Application, Device}
 use Rattle.transport.specs.Form.{segmentFits, formOf}
 use Rattle.transport.specs.LeadsBack.{SegmentOf}
 use Rattle.transport.specs.Ranges.{InRange, KeyInRange, OpcodeInRange}
-use Rattle.transport.specs.ReadsBack.{Carries}
-use Rattle.transport.specs.Segment.{fullOctets, segmentFront}
+use Rattle.transport.specs.ReadsBack.{Carries, frontOf}
+use Rattle.transport.specs.Segment.{fullOctets}
 use Rattle.transport.proofs.FormLaws.{fits-last, fits-full, key-application, key-device}
 use Rattle.transport.proofs.LeadsBack.{leads-back}
 use Rattle.transport.proofs.ReadsBack.{access-segment-reads-back, control-segment-reads-back}
@@ -71,8 +72,12 @@ termsOf node s =
 
 -- ---- the segment
 module _ (node : Node) (s : Speech) (w : Speakable node s) (i : ℕ) (there : i ≤ lastOf node s) where
+  -- which segment of which message it is
+  abbrev fields : SegmentFields
+  fields = record { szmic = szmicOf (s .words); seqzero = s .auth .seq % 8192; sego = i; segn = lastOf node s }
+
   abbrev front : List ℕ
-  front = segmentFront (firstOf node (s .words)) (szmicOf (s .words)) (s .auth .seq % 8192) i (lastOf node s)
+  front = frontOf (firstOf node (s .words)) fields
 
   front-long : length front ≡ 4
   front-long = length-front (firstOf node (s .words)) (szmicOf (s .words)) (s .auth .seq % 8192) i (lastOf node s)
@@ -143,7 +148,7 @@ module _ (node : Node) (s : Speech) (w : Speakable node s) (i : ℕ) (there : i 
         let f = part-full node s w i there (omega arith) in
         sym (fits-full i (lastOf node s) long full (omega arith) there n) ∙ eq-eqb long full (omega arith))
 
-    in-range : (full : ℕ) → full ≡ 4 + sizeOf s → InRange (s .auth .seq % 8192) i (lastOf node s) (h .len) full
+    in-range : (full : ℕ) → full ≡ 4 + sizeOf s → InRange fields (h .len) full
     in-range full e = record { seqZero-fits = omega arith; segN-fits = last-low node s w; fits = fits full e }
 
     -- ---- it is read back
@@ -154,30 +159,24 @@ module _ (node : Node) (s : Speech) (w : Speakable node s) (i : ℕ) (there : i 
 
     -- as what a header of the speech is taken: a segment of the message
     abbrev asSegment : Receiver → List ℕ → Lent Taken
-    asSegment r msg = segments.segmented r h (szmicOf (s .words)) (s .auth .seq % 8192) i (lastOf node s) msg
+    asSegment r msg = segments.segmented r h fields msg
 
     taken-access :
         (r : Receiver) (msg : List ℕ) (key : MessageKey) (szmic : Bool) (payload : List ℕ) → s .words ≡ Access key szmic payload
         → aidOf node key < 64 → (akfOf key ≡ false → isUnicast (s .dst) ≡ true) → takenAs (formOf h) r h msg ≡ asSegment r msg
     taken-access r msg key szmic payload e low u =
-        let z = s .auth .seq % 8192 in
-        let c = subst (λ (f : List ℕ). Carries h false f) (ap (λ (ws : Words). segmentFront (firstOf node ws) (szmicOf ws) z i (lastOf node s)) e)
-        (carries false (ap isControl e)) in
+        let c = subst (λ (o : ℕ). Carries h false (frontOf o fields)) (ap (firstOf node) e) (carries false (ap isControl e)) in
         let m : 16 ≡ 4 + sizeOf s = rw (ap isControl e) refl in
-        taken-access-segment r h msg (akfOf key) (aidOf node key) szmic z i (lastOf node s)
-        (access-segment-reads-back h (akfOf key) (aidOf node key) szmic z i (lastOf node s) c (key-range key low u) (in-range 16 m))
-        ∙ ap (λ (b : Bool). segments.segmented r h b z i (lastOf node s) msg) (sym (ap szmicOf e))
+        taken-access-segment r h msg (akfOf key) (aidOf node key) fields
+        (access-segment-reads-back h (akfOf key) (aidOf node key) fields c (key-range key low u) (in-range 16 m))
 
     taken-control :
         (r : Receiver) (msg : List ℕ) (code : ℕ) (parameters : List ℕ) → s .words ≡ Control code parameters → OpcodeInRange code
         → takenAs (formOf h) r h msg ≡ asSegment r msg
     taken-control r msg code parameters e o =
-        let z = s .auth .seq % 8192 in
-        let c = subst (λ (f : List ℕ). Carries h true f) (ap (λ (ws : Words). segmentFront (firstOf node ws) (szmicOf ws) z i (lastOf node s)) e)
-        (carries true (ap isControl e)) in
+        let c = subst (λ (o : ℕ). Carries h true (frontOf o fields)) (ap (firstOf node) e) (carries true (ap isControl e)) in
         let m : 12 ≡ 4 + sizeOf s = rw (ap isControl e) refl in
-        taken-control-segment r h msg code z i (lastOf node s) (control-segment-reads-back h code z i (lastOf node s) c o (in-range 12 m))
-        ∙ ap (λ (b : Bool). segments.segmented r h b z i (lastOf node s) msg) (sym (ap szmicOf e))
+        taken-control-segment r h msg code fields (control-segment-reads-back h code fields c o (ap szmicOf e) (in-range 12 m))
 
     module _ (made : WellMade node) where
       taken-as : (r : Receiver) (msg : List ℕ) (ws : Words) → s .words ≡ ws → WordsRead node s ws → takenAs (formOf h) r h msg ≡ asSegment r msg
@@ -196,8 +195,7 @@ module _ (node : Node) (s : Speech) (w : Speakable node s) (i : ℕ) (there : i 
         ap (λ (t : List ℕ). getD t 0 0) (c .begins)
         ∙ front-first (firstOf node (s .words)) (szmicOf (s .words)) (s .auth .seq % 8192) i (lastOf node s) (c .behind)
 
-    segment-is :
-        segments.segmentOf h (szmicOf (s .words)) (s .auth .seq) i (lastOf node s) ≡ record { auth = s .auth; terms = termsOf node s; sego = i }
+    segment-is : segments.segmentOf h fields (s .auth .seq) ≡ record { auth = s .auth; terms = termsOf node s; sego = i }
     unfolding headerOf
     segment-is = rw first-octet refl
 
@@ -206,5 +204,4 @@ module _ (node : Node) (s : Speech) (w : Speakable node s) (i : ℕ) (there : i 
         → asSegment r msg ≡ segments.placed r h (record { auth = s .auth; terms = termsOf node s; sego = i }) msg
     unfolding headerOf
     segment-placed r msg t =
-        segmented-placed r h msg (szmicOf (s .words)) (s .auth .seq % 8192) i (lastOf node s) (s .auth .seq) (leads-back (s .auth .seq) seq t)
-        ∙ ap (λ (g : Segment). segments.placed r h g msg) segment-is
+        segmented-placed r h msg fields (s .auth .seq) (leads-back (s .auth .seq) seq t) ∙ ap (λ (g : Segment). segments.placed r h g msg) segment-is

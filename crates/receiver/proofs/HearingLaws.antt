@@ -2,7 +2,7 @@
 -- Assumes nothing.
 use mathlib.Core.Bool.{Bool, true, false, not}
 use mathlib.Core.List.{List}
-use mathlib.Core.Path.{_≡_, sym, ap, _∙_}
+use mathlib.Core.Path.{_≡_}
 use Prim.Native.Nat.{ℕ, _≤_, _<_}
 use borrow.Author.Tests.{not-true, not-false, lt-ltb, le-ltb}
 use lib.ListN.{length}
@@ -16,6 +16,7 @@ use Rattle.network.specs.Opening.{opening}
 use Rattle.network.specs.Sealing.{forwards, forwarding}
 use Rattle.transport.specs.declared.form.Form.{Form}
 use Rattle.transport.specs.declared.form.Form.the-variants as form
+use Rattle.transport.specs.declared.form.SegmentFields.{SegmentFields}
 use Rattle.transport.specs.Form.{formOf}
 use Rattle.memory.specs.declared.cache.Cache.{Cache}
 use Rattle.memory.specs.Cache.{seen, remembered}
@@ -28,7 +29,7 @@ use Rattle.receiver.specs.declared.state.Receiver.{Receiver}
 use Rattle.receiver.specs.Segmented.{segmented}
 use Rattle.receiver.specs.State.{withCache}
 use Rattle.receiver.specs.Whole.{refusedAt, wholeAccess, wholeControl, wholeAcknowledgement}
-use Rattle.receiver.specs.Hearing.{outcome, refusedHeard, relayed, szmicOf, takenAs, taken, passed, uncached, openedAs, hearing}
+use Rattle.receiver.specs.Hearing.{outcome, refusedHeard, relayed, takenAs, taken, passed, uncached, openedAs, hearing}
 
 -- ---- forwarding
 module _ (node : Node) (h : Header) (fwd : List ℕ) (local : Bool) (el : local ≡ isLocal node (h .dst)) (on : Bool) (eo : on ≡ forwards (node .relay) local h) where
@@ -52,9 +53,6 @@ module _ (node : Node) (h : Header) (fwd : List ℕ) (local : Bool) (el : local 
 pub ruleset relayed-rules = (relayed-not, relayed-sealed, relayed-outside, relayed-short)
 
 -- ---- by the transport form
-pub szmic-of-access : (f : Form) (akf : Bool) (aid : ℕ) (z : Bool) (seqZero segO segN : ℕ) → f ≡ form.AccessSegment akf aid z seqZero segO segN → z ≡ szmicOf f
-szmic-of-access f akf aid z seqZero segO segN k = sym (ap szmicOf k)
-
 module _ (r : Receiver) (h : Header) (msg : List ℕ) (f : Form) (e : f ≡ formOf h) (t : Taken) (left : List ℕ) where
   pub form-wrong : f ≡ form.Wrong → t ≡ refusedAt r refusal.WrongForm 0 → lent t msg ≡ takenAs (formOf h) r h msg
   unfolding takenAs
@@ -74,24 +72,15 @@ module _ (r : Receiver) (h : Header) (msg : List ℕ) (f : Form) (e : f ≡ form
   unfolding takenAs
   form-acknowledgement obo seqZero bits k et = rw (← e, k, et)
 
-  -- the two kinds of segments come to one call: f', szmic and the numbers are what they bring there
-  module _ {f' : Form} {szmic : Bool} (ez : szmic ≡ szmicOf f') {q o n seqZero segO segN : ℕ} (eq : q ≡ seqZero) (eo : o ≡ segO) (en : n ≡ segN)
-      (et : lent t left ≡ segmented r h szmic q o n msg) where
-    pub form-access-segment :
-        {akf : Bool} {aid : ℕ} {z : Bool} → f ≡ form.AccessSegment akf aid z seqZero segO segN → f' ≡ form.AccessSegment akf aid z seqZero segO segN
-        → lent t left ≡ takenAs (formOf h) r h msg
+  -- the two kinds of segments come to one call, with the fields of either
+  module _ {f1 fields : SegmentFields} (ef : f1 ≡ fields) (et : lent t left ≡ segmented r h f1 msg) where
+    pub form-access-segment : {akf : Bool} {aid : ℕ} → f ≡ form.AccessSegment akf aid fields → lent t left ≡ takenAs (formOf h) r h msg
     unfolding takenAs
-    form-access-segment {akf} {aid} {z} k ef =
-        let es : szmic ≡ z = ez ∙ ap szmicOf ef in
-        rw (← e, k, ← es, ← eq, ← eo, ← en) et
+    form-access-segment k = rw (← e, k, ← ef) et
 
-    pub form-control-segment :
-        {opcode : ℕ} → f ≡ form.ControlSegment opcode seqZero segO segN → f' ≡ form.ControlSegment opcode seqZero segO segN
-        → lent t left ≡ takenAs (formOf h) r h msg
+    pub form-control-segment : {opcode : ℕ} → f ≡ form.ControlSegment opcode fields → lent t left ≡ takenAs (formOf h) r h msg
     unfolding takenAs
-    form-control-segment k ef =
-        let es : szmic ≡ false = ez ∙ ap szmicOf ef in
-        rw (← e, k, ← es, ← eq, ← eo, ← en) et
+    form-control-segment k = rw (← e, k, ← ef) et
 
 pub ruleset form-rules = (form-wrong, form-access, form-control, form-acknowledgement)
 

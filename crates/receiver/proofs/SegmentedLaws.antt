@@ -14,6 +14,7 @@ use Rattle.common.specs.Lists.{onto}
 use Rattle.common.proofs.Parts.{take-own-length}
 use Rattle.network.specs.declared.header.Header.{Header}
 use Rattle.node.specs.declared.addresses.Node.{Node}
+use Rattle.transport.specs.declared.form.SegmentFields.{SegmentFields}
 use Rattle.transport.specs.declared.securing.Envelope.{Envelope}
 use Rattle.transport.specs.declared.securing.MessageKey.{MessageKey}
 use Rattle.transport.specs.declared.securing.Opened.{Opened}
@@ -186,14 +187,14 @@ pub joined :
 joined r h slot segO msg s es u left eu = rw (← es) eu
 
 -- ---- by SeqAuth
-module _ (r : Receiver) (h : Header) (szmic : Bool) (seqZero segO segN : ℕ) (msg : List ℕ) (a : SeqAuth) (e : a ≡ seqAuth (h .seq) seqZero) where
-  pub segmented-nowhere : a ≡ Nowhere → (t : Taken) → t ≡ refusedAt r refusal.NoSeqAuth 0 → lent t msg ≡ segmented r h szmic seqZero segO segN msg
+module _ (r : Receiver) (h : Header) (fields : SegmentFields) (msg : List ℕ) (a : SeqAuth) (e : a ≡ seqAuth (h .seq) (fields .seqzero)) where
+  pub segmented-nowhere : a ≡ Nowhere → (t : Taken) → t ≡ refusedAt r refusal.NoSeqAuth 0 → lent t msg ≡ segmented r h fields msg
   unfolding segmented segmentedAs
   segmented-nowhere k t et = rw (← e, k, et)
 
   pub segmented-at :
-      (auth : ℕ) → a ≡ At auth → (seg : Segment) → seg ≡ segmentOf h szmic auth segO segN → (u : Taken) (left : List ℕ) → lent u left ≡ placed r h seg msg
-      → lent u left ≡ segmented r h szmic seqZero segO segN msg
+      (auth : ℕ) → a ≡ At auth → (seg : Segment) → seg ≡ segmentOf h fields auth → (u : Taken) (left : List ℕ) → lent u left ≡ placed r h seg msg
+      → lent u left ≡ segmented r h fields msg
   unfolding segmented segmentedAs
   segmented-at auth k seg es u left eu = rw (← e, k, ← es) eu
 

@@ -2,7 +2,6 @@
 --   relayed node h fwd        what forwarding leaves
 --   taken r h msg             6, then by the transport form: what a PDU in the cache leaves
 --   hearing r pdu fwd msg     what a call leaves
-use mathlib.Core.Bool.{Bool, false}
 use mathlib.Core.List.{List}
 use Prim.Native.Nat.{ℕ}
 use lib.Dec.{ltb}
@@ -50,22 +49,13 @@ relayed node h fwd =
     if forwards (node .relay) (isLocal node (h .dst)) h then lent (sealedLength (f .answer)) (f .buffer) else
     lent 0 fwd
 
--- SZMIC; only an access segment has it
-abbrev pub szmicOf : Form → Bool
-szmicOf form.Wrong = false
-szmicOf (form.Access akf aid) = false
-szmicOf (form.AccessSegment akf aid szmic seqZero segO segN) = szmic
-szmicOf (form.Control opcode) = false
-szmicOf (form.ControlSegment opcode seqZero segO segN) = false
-szmicOf (form.Acknowledgement obo seqZero bits) = false
-
 -- 7: transport form is wrong; else by the form
 unfoldable pub takenAs : Form → Receiver → Header → List ℕ → Lent Taken
 takenAs form.Wrong r h msg = lent (refusedAt r refusal.WrongForm 0) msg
 takenAs (form.Access akf aid) r h msg = wholeAccess r h akf aid msg
-takenAs (form.AccessSegment akf aid szmic seqZero segO segN) r h msg = segmented r h szmic seqZero segO segN msg
+takenAs (form.AccessSegment akf aid fields) r h msg = segmented r h fields msg
 takenAs (form.Control opcode) r h msg = wholeControl r h opcode msg
-takenAs (form.ControlSegment opcode seqZero segO segN) r h msg = segmented r h false seqZero segO segN msg
+takenAs (form.ControlSegment opcode fields) r h msg = segmented r h fields msg
 takenAs (form.Acknowledgement obo seqZero bits) r h msg = lent (wholeAcknowledgement r h obo seqZero bits) msg
 
 -- 6: not for this node

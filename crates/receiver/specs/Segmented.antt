@@ -1,9 +1,8 @@
 -- A segment of a longer message (document 01, "Transport"; refusals 8 to 13).
---   segmentOf h szmic auth segO segN             a segment as header and form tell it
---   gathered r slot s msg                        the session with a segment more: stored, or complete
---   placed r h seg msg                           what a segment with a SeqAuth leaves
---   segmented r h szmic seqZero segO segN msg    what a segment leaves
-use mathlib.Core.Bool.{Bool}
+--   segmentOf h fields auth      a segment as header and form tell it
+--   gathered r slot s msg        the session with a segment more: stored, or complete
+--   placed r h seg msg           what a segment with a SeqAuth leaves
+--   segmented r h fields msg     what a segment leaves
 use mathlib.Core.List.{List}
 use Prim.Native.Nat.{ℕ}
 use lib.ListN.{length, getD, take}
@@ -11,6 +10,7 @@ use Rattle.common.specs.Choice.{if_then_else_}
 use Rattle.common.specs.Lent.{Lent, lent}
 use Rattle.common.specs.Lists.{onto}
 use Rattle.network.specs.declared.header.Header.{Header}
+use Rattle.transport.specs.declared.form.SegmentFields.{SegmentFields}
 use Rattle.transport.specs.declared.securing.Envelope.{Envelope}
 use Rattle.transport.specs.declared.securing.Opened.{Opened}
 use Rattle.transport.specs.declared.securing.Opened.the-variants.{Message, NotOpened, ShortBuffer}
@@ -34,12 +34,12 @@ use Rattle.receiver.specs.State.{withReplay, withSession}
 use Rattle.receiver.specs.Whole.{refusedAt}
 
 -- a segment as header and form tell it: SeqAuth is the IV Index followed by the number found
-abbrev pub segmentOf : Header → Bool → ℕ → ℕ → ℕ → Segment
-segmentOf h szmic auth segO segN =
+abbrev pub segmentOf : Header → SegmentFields → ℕ → Segment
+segmentOf h fields auth =
     record {
       auth = record { iv = h .iv; seq = auth };
-      terms = record { ctl = h .ctl; first = getD (h .transport) 0 0; szmic = szmic; segn = segN; dst = h .dst; key = h .key };
-      sego = segO;
+      terms = record { ctl = h .ctl; first = getD (h .transport) 0 0; szmic = fields .szmic; segn = fields .segn; dst = h .dst; key = h .key };
+      sego = fields .sego;
     }
 
 -- when a segmented message is handed up its SeqAuth, SegN and DST are kept with the replay entry
@@ -106,9 +106,9 @@ unfoldable pub placed : Receiver → Header → Segment → List ℕ → Lent Ta
 placed r h seg msg = placedAs (decision (r .replay) (r .sessions) (h .src) seg) r h seg msg
 
 -- 8: no SeqAuth exists
-unfoldable pub segmentedAs : SeqAuth → Receiver → Header → Bool → ℕ → ℕ → List ℕ → Lent Taken
-segmentedAs Nowhere r h szmic segO segN msg = lent (refusedAt r refusal.NoSeqAuth 0) msg
-segmentedAs (At auth) r h szmic segO segN msg = placed r h (segmentOf h szmic auth segO segN) msg
+unfoldable pub segmentedAs : SeqAuth → Receiver → Header → SegmentFields → List ℕ → Lent Taken
+segmentedAs Nowhere r h fields msg = lent (refusedAt r refusal.NoSeqAuth 0) msg
+segmentedAs (At auth) r h fields msg = placed r h (segmentOf h fields auth) msg
 
-unfoldable pub segmented : Receiver → Header → Bool → ℕ → ℕ → ℕ → List ℕ → Lent Taken
-segmented r h szmic seqZero segO segN msg = segmentedAs (seqAuth (h .seq) seqZero) r h szmic segO segN msg
+unfoldable pub segmented : Receiver → Header → SegmentFields → List ℕ → Lent Taken
+segmented r h fields msg = segmentedAs (seqAuth (h .seq) (fields .seqzero)) r h fields msg

@@ -14,7 +14,7 @@ ghost use Prim.Native.Nat.{_≤_};
 ghost use lib.ListN.{length};
 ghost use Rattle.common.specs.Lent.{lent};
 ghost use Rattle.transport.specs.Form.{formOf};
-ghost use Rattle.receiver.specs.Hearing.{refusedHeard, relayed, szmicOf, takenAs, taken, outcome, passed, uncached, hearing};
+ghost use Rattle.receiver.specs.Hearing.{refusedHeard, relayed, takenAs, taken, outcome, passed, uncached, hearing};
 
 // A refusal that leaves everything.
 fn refuse(r: Receiver, refusal: Refusal, trials: usize) -> Heard
@@ -45,43 +45,12 @@ fn relay(node: Node, h: Header, forward: &mut [u8]) -> usize
     }
 }
 
-// SZMIC; only an access segment has it.
-fn has_long_mic(form: Form) -> bool
-    ensures { λ r. ⌜ r ≡ szmicOf form ⌝ }
-{
-    match form {
-        Form::Wrong => false,
-        Form::Access { akf: _, aid: _ } => false,
-        Form::Control { opcode: _ } => false,
-        Form::Acknowledgement {
-            obo: _,
-            seqzero: _,
-            bits: _,
-        } => false,
-        Form::AccessSegment {
-            akf: _,
-            aid: _,
-            szmic,
-            seqzero: _,
-            sego: _,
-            segn: _,
-        } => szmic,
-        Form::ControlSegment {
-            opcode: _,
-            seqzero: _,
-            sego: _,
-            segn: _,
-        } => false,
-    }
-}
-
 // A PDU for this node, by its transport form. Segments have one arm, so that the state goes to one place.
 fn take_form(r: Receiver, h: Header, message: &mut [u8]) -> Taken
     requires { ⌜ 384 ≤ length (now message) ⌝ }
     ensures { λ t. ⌜ lent t (now (message .exit)) ≡ takenAs (formOf h) r h (now (message .entry)) ⌝ }
 {
-    let form = transport::form::read(h);
-    match form {
+    match transport::form::read(h) {
         Form::Wrong => super::whole::refuse(r, Refusal::WrongForm, 0),
         Form::Access { akf, aid } => super::whole::access(r, h, akf, aid, message),
         Form::Control { opcode } => super::whole::control(r, h, opcode, message),
@@ -95,17 +64,11 @@ fn take_form(r: Receiver, h: Header, message: &mut [u8]) -> Taken
         Form::AccessSegment {
             akf: _,
             aid: _,
-            szmic: _,
-            seqzero,
-            sego,
-            segn,
+            fields,
         }
-        | Form::ControlSegment {
-            opcode: _,
-            seqzero,
-            sego,
-            segn,
-        } => { super::segmented::segment(r, h, has_long_mic(form), seqzero, sego, segn, message) }
+        | Form::ControlSegment { opcode: _, fields } => {
+            super::segmented::segment(r, h, fields, message)
+        }
     }
 }
 

@@ -11,6 +11,7 @@ use memory::session::Session;
 use memory::session::Terms;
 use network::header::Header;
 use node::addresses::Node;
+use transport::form::SegmentFields;
 use transport::securing::Envelope;
 use transport::securing::Opened;
 use transport::seq_auth::SeqAuth;
@@ -24,8 +25,8 @@ ghost use Rattle.memory.specs.Session.{sessionSlots, sessionAt, stored};
 ghost use Rattle.receiver.specs.Segmented.{segmentOf, sessionEnvelope, messageOf, upgraded, controlUp, accessUp, gathered, placed, segmented};
 
 // A segment as its header and form tell it.
-fn segment_of(h: Header, szmic: bool, auth: u32, sego: u8, segn: u8) -> Segment
-    ensures { λ r. ⌜ r ≡ segmentOf h szmic auth sego segn ⌝ }
+fn segment_of(h: Header, fields: SegmentFields, auth: u32) -> Segment
+    ensures { λ r. ⌜ r ≡ segmentOf h fields auth ⌝ }
 {
     let t = h.transport;
     Segment {
@@ -36,12 +37,12 @@ fn segment_of(h: Header, szmic: bool, auth: u32, sego: u8, segn: u8) -> Segment
         terms: Terms {
             ctl: h.ctl,
             first: t[0],
-            szmic,
-            segn,
+            szmic: fields.szmic,
+            segn: fields.segn,
             dst: h.dst,
             key: h.key,
         },
-        sego,
+        sego: fields.sego,
     }
 }
 
@@ -227,20 +228,12 @@ fn place(r: Receiver, h: Header, seg: Segment, message: &mut [u8]) -> Taken
 }
 
 // A segment: 8 where it has no SeqAuth.
-pub(crate) fn segment(
-    r: Receiver,
-    h: Header,
-    szmic: bool,
-    seqzero: u16,
-    sego: u8,
-    segn: u8,
-    message: &mut [u8],
-) -> Taken
+pub(crate) fn segment(r: Receiver, h: Header, fields: SegmentFields, message: &mut [u8]) -> Taken
     requires { ⌜ 384 ≤ length (now message) ⌝ }
-    ensures { λ t. ⌜ lent t (now (message .exit)) ≡ segmented r h szmic seqzero sego segn (now (message .entry)) ⌝ }
+    ensures { λ t. ⌜ lent t (now (message .exit)) ≡ segmented r h fields (now (message .entry)) ⌝ }
 {
-    match transport::seq_auth::find(h.seq, seqzero) {
+    match transport::seq_auth::find(h.seq, fields.seqzero) {
         SeqAuth::Nowhere => refuse(r, Refusal::NoSeqAuth, 0),
-        SeqAuth::At(auth) => place(r, h, segment_of(h, szmic, auth, sego, segn), message),
+        SeqAuth::At(auth) => place(r, h, segment_of(h, fields, auth), message),
     }
 }

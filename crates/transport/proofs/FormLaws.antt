@@ -1,6 +1,6 @@
 -- The rules of a transport PDU's form: one for each answer, its conditions in the order of the code's tests.
 -- Assumes nothing.
-use mathlib.Core.Bool.{Bool, true, false, not}
+use mathlib.Core.Bool.{Bool, true, false, not, _&&_}
 use mathlib.Core.Path.{_≡_, sym, ap₂, _∙_}
 use Prim.Native.Nat.{ℕ, _≤_, _<_}
 use borrow.Author.Tests.{not-true, not-false, le-leb, lt-leb, eq-eqb, ne-eqb}
@@ -9,11 +9,12 @@ use Rattle.network.specs.declared.header.Header.{Header}
 use Rattle.network.specs.Address.{isUnicast}
 use Rattle.transport.specs.declared.form.Form.{Form}
 use Rattle.transport.specs.declared.form.Form.the-variants.{Access, AccessSegment, Control, ControlSegment, Acknowledgement, Wrong}
+use Rattle.transport.specs.declared.form.SegmentFields.{SegmentFields}
 use Rattle.transport.specs.declared.opcode.OpcodeKind.{OpcodeKind}
 use Rattle.transport.specs.declared.opcode.OpcodeKind.the-variants.{OfAcknowledgement, OfControl, NoOpcode}
 use Rattle.transport.specs.Opcode.{opcodeKind}
-use Rattle.transport.specs.Fields.{seg, akf, aid, opcode, segmentFields, szmic, seqZero, segO, segN, acknowledged, obo, seqZeroHeard, blockAck}
-use Rattle.transport.specs.Form.{keyFits, segmentFits, first, accessForm, accessSegmentForm, controlAs, controlForm, controlSegmentAs, controlSegmentForm, formAs, formOf}
+use Rattle.transport.specs.Fields.{seg, akf, aid, opcode, fieldsNumber, szmic, seqZero, segO, segN, acknowledged, obo, seqZeroHeard, blockAck}
+use Rattle.transport.specs.Form.{keyFits, segmentFits, fieldsOf, first, accessForm, accessSegmentForm, controlAs, controlForm, controlSegmentAs, controlSegmentForm, formAs, formOf}
 
 -- ---- what a segment must be
 module _ (segO segN n full : ℕ) where
@@ -36,6 +37,13 @@ module _ (segO segN n full : ℕ) where
       fits-full h = rw (le-leb 5 n h1, le-leb segO segN h2, ne-eqb segO segN h)
 
 pub ruleset segment-fits-rules = (fits-short, fits-past-last, fits-last, fits-full)
+
+-- ---- its fields
+pub fields-are :
+    (h : Header) (n : ℕ) → n ≡ fieldsNumber (h .transport) → (long : Bool) → long ≡ (not (h .ctl) && szmic n)
+    → _≡_ {A = SegmentFields} (record { szmic = long; seqzero = seqZero n; sego = segO n; segn = segN n }) (fieldsOf h)
+unfolding fieldsOf
+fields-are h n e long el = rw (← e, el)
 
 -- ---- AKF 0
 module _ (aid dst : ℕ) where
@@ -74,14 +82,14 @@ module _ (h : Header) where
     unfolding accessSegmentForm
     segment-key e = rw (← ea, ← ek, not-true k e)
 
-    module _ (e : not k ≡ false) (n : ℕ) (en : n ≡ segmentFields (h .transport)) (s : Bool) (es : s ≡ segmentFits (segO n) (segN n) (h .len) 16) where
+    module _ (e : not k ≡ false) (f : SegmentFields) (ef : f ≡ fieldsOf h) (s : Bool) (es : s ≡ segmentFits (f .sego) (f .segn) (h .len) 16) where
       pub segment-odd : not s ≡ true → Wrong ≡ accessSegmentForm h
       unfolding accessSegmentForm
-      segment-odd t = rw (← ea, ← ek, not-false k e, ← en, ← es, not-true s t)
+      segment-odd t = rw (← ea, ← ek, not-false k e, ← ef, ← es, not-true s t)
 
-      pub segment-read : not s ≡ false → AccessSegment a (aid (first h)) (szmic n) (seqZero n) (segO n) (segN n) ≡ accessSegmentForm h
+      pub segment-read : not s ≡ false → AccessSegment a (aid (first h)) f ≡ accessSegmentForm h
       unfolding accessSegmentForm
-      segment-read t = rw (← ea, ← ek, not-false k e, ← en, ← es, not-false s t)
+      segment-read t = rw (← ea, ← ek, not-false k e, ← ef, ← es, not-false s t)
 
 pub ruleset access-rules = (access-short, access-whole, access-key)
 
@@ -109,14 +117,14 @@ module _ (h : Header) (o : OpcodeKind) (eo : o ≡ opcodeKind (opcode (first h))
     unfolding controlForm controlAs
     control-whole = rw (← eo, k)
 
-    module _ (n : ℕ) (en : n ≡ segmentFields (h .transport)) (s : Bool) (es : s ≡ segmentFits (segO n) (segN n) (h .len) 12) where
+    module _ (f : SegmentFields) (ef : f ≡ fieldsOf h) (s : Bool) (es : s ≡ segmentFits (f .sego) (f .segn) (h .len) 12) where
       pub control-odd : not s ≡ true → Wrong ≡ controlSegmentForm h
       unfolding controlSegmentForm controlSegmentAs
-      control-odd t = rw (← eo, k, ← en, ← es, not-true s t)
+      control-odd t = rw (← eo, k, ← ef, ← es, not-true s t)
 
-      pub control-read : not s ≡ false → ControlSegment (opcode (first h)) (seqZero n) (segO n) (segN n) ≡ controlSegmentForm h
+      pub control-read : not s ≡ false → ControlSegment (opcode (first h)) f ≡ controlSegmentForm h
       unfolding controlSegmentForm controlSegmentAs
-      control-read t = rw (← eo, k, ← en, ← es, not-false s t)
+      control-read t = rw (← eo, k, ← ef, ← es, not-false s t)
 
   module _ (k : o ≡ NoOpcode) where
     pub control-none : Wrong ≡ controlForm h

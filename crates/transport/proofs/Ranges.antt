@@ -11,8 +11,8 @@ use Rattle.network.specs.declared.header.Header.{Header}
 use Rattle.transport.specs.declared.opcode.OpcodeKind.{OpcodeKind}
 use Rattle.transport.specs.declared.opcode.OpcodeKind.the-variants.{OfAcknowledgement, OfControl, NoOpcode}
 use Rattle.transport.specs.Opcode.{opcodeKind}
-use Rattle.transport.specs.Fields.{seg, akf, aid, opcode, segmentFields, segO, segN}
-use Rattle.transport.specs.Form.{keyFits, segmentFits, first, accessForm, accessSegmentForm, controlAs, controlForm, controlSegmentAs, controlSegmentForm}
+use Rattle.transport.specs.Fields.{seg, akf, aid, opcode}
+use Rattle.transport.specs.Form.{keyFits, segmentFits, fieldsOf, first, accessForm, accessSegmentForm, controlAs, controlForm, controlSegmentAs, controlSegmentForm}
 use Rattle.transport.specs.Ranges.{OpcodeInRange, Kept, KeepsToRanges}
 use Rattle.transport.proofs.FormLaws.{form-as}
 
@@ -28,11 +28,11 @@ module _ (h : Header) (ctl : h .ctl ≡ false) where
       (λ t. rw t tt)
 
   kept-access-segment : Kept h (accessSegmentForm h)
-  unfolding accessSegmentForm
+  unfolding accessSegmentForm fieldsOf
   kept-access-segment =
-      let n = segmentFields (h .transport) in
+      let f = fieldsOf h in
       let key = keyFits (akf (first h)) (aid (first h)) (h .dst) in
-      let fits = segmentFits (segO n) (segN n) (h .len) 16 in
+      let fits = segmentFits (f .sego) (f .segn) (h .len) 16 in
       by-test (key && fits)
       (λ t. rw t (
         ctl,
@@ -66,11 +66,11 @@ module _ (h : Header) (ctl : h .ctl ≡ true) where
   kept-control = kept-control-as (opcodeKind (opcode (first h))) refl
 
   kept-control-segment-as : (o : OpcodeKind) → opcodeKind (opcode (first h)) ≡ o → Kept h (controlSegmentAs o h)
-  unfolding controlSegmentAs
+  unfolding controlSegmentAs fieldsOf
   kept-control-segment-as OfAcknowledgement e = tt
   kept-control-segment-as OfControl e =
-      let n = segmentFields (h .transport) in
-      by-test (segmentFits (segO n) (segN n) (h .len) 12)
+      let f = fieldsOf h in
+      by-test (segmentFits (f .sego) (f .segn) (h .len) 12)
       (λ t. rw t
       (ctl, control-opcode (opcode (first h)) e, record { seqZero-fits = omega arith; segN-fits = omega arith; fits = t }))
       (λ t. rw t tt)

@@ -1,7 +1,7 @@
 -- What was written is read back: octets and their number determine each other, and each field is a quotient and a remainder of the number
 -- that the fields made. Then the rule of the form's answer gives the fields.
 -- Assumes nothing.
-use mathlib.Core.Bool.{Bool, true, false}
+use mathlib.Core.Bool.{Bool, true, false, not, _&&_}
 use mathlib.Core.List.{List, _∷_, _++_}
 use mathlib.Core.Path.{_≡_, refl, sym, ap, _∙_}
 use Prim.Native.Nat.{ℕ, _+_, _*_, _%_, _^_, _≤_, _<_}
@@ -10,16 +10,18 @@ use borrow.Author.Tests.{leb-true, le-leb, lt-leb, ne-eqb}
 use lib.Dec.{leb}
 use lib.ListN.{getD}
 use Rattle.common.proofs.Tests.{and-first, and-second}
+use Rattle.network.specs.declared.header.Header.{Header}
 use Rattle.network.specs.Octets.{octets}
-use Rattle.transport.specs.declared.form.Form.the-variants.{Access, Control}
+use Rattle.transport.specs.declared.form.Form.the-variants.{Access, AccessSegment, Control, ControlSegment}
+use Rattle.transport.specs.declared.form.SegmentFields.{SegmentFields}
 use Rattle.transport.specs.declared.opcode.OpcodeKind.the-variants.{OfAcknowledgement, OfControl}
 use Rattle.transport.specs.Opcode.{opcodeKind}
-use Rattle.transport.specs.Fields.{seg, akf, aid, opcode, segmentFields, szmic, seqZero, segO, segN, acknowledged, obo, seqZeroHeard, blockAck}
-use Rattle.transport.specs.Form.{keyFits, segmentFits, first}
+use Rattle.transport.specs.Fields.{seg, akf, aid, opcode, fieldsNumber, szmic, seqZero, segO, segN, acknowledged, obo, seqZeroHeard, blockAck}
+use Rattle.transport.specs.Form.{keyFits, segmentFits, fieldsOf, first}
 use Rattle.transport.specs.Segment.{accessOctet, controlOctet, segmentNumber, segmentFront, acknowledgementNumber, acknowledgementOctets}
-use Rattle.transport.specs.Ranges.{OpcodeInRange}
-use Rattle.transport.specs.ReadsBack.{AccessReadsBack, AccessSegmentReadsBack, ControlReadsBack, ControlSegmentReadsBack, AcknowledgementReadsBack}
-use Rattle.transport.proofs.FormLaws.{form-as, access-whole, segment-read, ack-read, control-whole, control-read}
+use Rattle.transport.specs.Ranges.{InRange, OpcodeInRange}
+use Rattle.transport.specs.ReadsBack.{Carries, frontOf, AccessReadsBack, AccessSegmentReadsBack, ControlReadsBack, ControlSegmentReadsBack, AcknowledgementReadsBack}
+use Rattle.transport.proofs.FormLaws.{fields-are, form-as, access-whole, segment-read, ack-read, control-whole, control-read}
 
 -- ---- octet 0
 seg-access : (s k : Bool) (a : ℕ) → seg (accessOctet s k a) ≡ s
@@ -86,14 +88,30 @@ fields-back false z o n hz ho hn =
     }
 
 -- a number of 24 bits is that of its three octets
-three : (a number : ℕ) (l : List ℕ) → number < 16777216 → number ≡ segmentFields ((a ∷ octets 3 number) ++ l)
+three : (a number : ℕ) (l : List ℕ) → number < 16777216 → number ≡ fieldsNumber ((a ∷ octets 3 number) ++ l)
 unfolding octets
 three a number l h = omega arith
 
--- SegO is at most SegN
-pub segO-fits : (o n len full : ℕ) → segmentFits o n len full ≡ true → o ≤ n
-unfolding segmentFits
-segO-fits o n len full e = leb-true o n (and-first (leb o n) _ (and-second (leb 5 len) _ e))
+module _ (f : SegmentFields) (len full : ℕ) (i : InRange f len full) where
+  -- SegO is at most SegN
+  pub segO-fits : f .sego ≤ f .segn
+  unfolding segmentFits
+  segO-fits = leb-true (f .sego) (f .segn) (and-first (leb (f .sego) (f .segn)) _ (and-second (leb 5 len) _ (i .fits)))
+
+  fields-made : FieldsBack (f .szmic) (f .seqzero) (f .sego) (f .segn) (segmentNumber (f .szmic) (f .seqzero) (f .sego) (f .segn))
+  fields-made =
+      fields-back (f .szmic) (f .seqzero) (f .sego) (f .segn) (i .seqZero-fits) (omega (arith, i .segN-fits, segO-fits)) (i .segN-fits)
+
+-- the fields that stand in front are those that were written; of a control segment SZMIC is written 0
+fields-read :
+    (h : Header) (ctl : Bool) (octet : ℕ) (f : SegmentFields) (full : ℕ) → Carries h ctl (frontOf octet f) → InRange f (h .len) full
+    → not ctl && f .szmic ≡ f .szmic → f ≡ fieldsOf h
+unfolding segmentFront
+fields-read h ctl octet f full c i z =
+    let number = segmentNumber (f .szmic) (f .seqzero) (f .sego) (f .segn) in
+    let b = fields-made f (h .len) full i in
+    let e : number ≡ fieldsNumber (h .transport) = three octet number (c .behind) (b .small) ∙ sym (ap fieldsNumber (c .begins)) in
+    rw (← fields-are h number e (f .szmic) (rw (c .ctl-is, b .is-szmic) (sym z)), b .is-seqZero, b .is-segO, b .is-segN) refl
 
 -- ---- octets 1-2 of an acknowledgement, and octets 3-6
 record AckBack (s : Bool) (z number : ℕ) : Type 0 where
@@ -129,19 +147,16 @@ access-reads-back h k a c r l =
 
 pub access-segment-reads-back : AccessSegmentReadsBack
 unfolding segmentFront
-access-segment-reads-back h k a s z o n c r i =
+access-segment-reads-back h k a f c r i =
     let octet = accessOctet true k a in
-    let number = segmentNumber s z o n in
-    let b = fields-back s z o n (omega (arith, i .seqZero-fits)) (omega (arith, i .segN-fits, segO-fits o n (h .len) 16 (i .fits))) (omega (arith, i .segN-fits)) in
     let e : first h ≡ octet = ap (λ (t : List ℕ). getD t 0 0) (c .begins) in
     let ea : k ≡ akf (first h) = sym (ap akf e ∙ akf-access true k a) in
     let ei : aid (first h) ≡ a = ap aid e ∙ aid-access true k a (r .aid-fits) in
-    let en : number ≡ segmentFields (h .transport) = three octet number (c .behind) (b .small) ∙ sym (ap segmentFields (c .begins)) in
     form-as h false true (c .ctl-is) (ap seg e ∙ seg-access true k a)
     ∙ sym
-    (segment-read h true k ea (sym (ap (λ (x : ℕ). keyFits k x (h .dst)) ei ∙ r .fits)) refl number en true
-    (rw (b .is-segO, b .is-segN) (sym (i .fits))) refl)
-    ∙ cc (ei, b .is-szmic, b .is-seqZero, b .is-segO, b .is-segN)
+    (segment-read h true k ea (sym (ap (λ (x : ℕ). keyFits k x (h .dst)) ei ∙ r .fits)) refl f (fields-read h false octet f 16 c i refl) true
+    (sym (i .fits)) refl)
+    ∙ ap (λ (x : ℕ). AccessSegment k x f) ei
 
 pub control-reads-back : ControlReadsBack
 control-reads-back h o c r =
@@ -154,18 +169,14 @@ control-reads-back h o c r =
 
 pub control-segment-reads-back : ControlSegmentReadsBack
 unfolding segmentFront
-control-segment-reads-back h p z o n c r i =
+control-segment-reads-back h p f c r z i =
     let octet = controlOctet true p in
-    let number = segmentNumber false z o n in
-    let b = fields-back false z o n (omega (arith, i .seqZero-fits)) (omega (arith, i .segN-fits, segO-fits o n (h .len) 12 (i .fits))) (omega (arith, i .segN-fits)) in
     let e : first h ≡ octet = ap (λ (t : List ℕ). getD t 0 0) (c .begins) in
     let ep : opcode (first h) ≡ p = ap opcode e ∙ opcode-control true p (r .opcode-fits) in
-    let en : number ≡ segmentFields (h .transport) = three octet number (c .behind) (b .small) ∙ sym (ap segmentFields (c .begins)) in
     form-as h true true (c .ctl-is) (ap seg e ∙ seg-control true p)
     ∙ sym
-    (control-read h OfControl (kind-control p r ∙ ap opcodeKind (sym ep)) refl number en true
-    (rw (b .is-segO, b .is-segN) (sym (i .fits))) refl)
-    ∙ cc (ep, b .is-seqZero, b .is-segO, b .is-segN)
+    (control-read h OfControl (kind-control p r ∙ ap opcodeKind (sym ep)) refl f (fields-read h true octet f 12 c i (sym z)) true (sym (i .fits)) refl)
+    ∙ ap (λ (x : ℕ). ControlSegment x f) ep
 
 pub acknowledgement-reads-back : AcknowledgementReadsBack
 unfolding acknowledgementOctets opcodeKind

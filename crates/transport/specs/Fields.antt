@@ -1,6 +1,6 @@
 -- The fields of a transport PDU, read off its octets by quotients and remainders (document 01, "Transport").
 --   seg a, akf a, aid a, opcode a        of octet 0
---   segmentFields t, acknowledged t      octets 1-3 of a segment, octets 1-2 of an acknowledgement, each as one number, high first
+--   fieldsNumber t, acknowledged t       octets 1-3 of a segment, octets 1-2 of an acknowledgement, each as one number, high first
 --   szmic n, seqZero n, segO n, segN n   of a segment's number
 --   obo n, seqZeroHeard n                of an acknowledgement's number
 --   blockAck t                           octets 3-6 of an acknowledgement
@@ -31,8 +31,8 @@ abbrev pub four : ℕ → ℕ → ℕ → ℕ → ℕ
 four a b c d = ((a * 256 + b) * 256 + c) * 256 + d
 
 -- octets 1-3 of a segment: SZMIC or RFU bit, SeqZero (13 bits), SegO (5), SegN (5)
-abbrev pub segmentFields : List ℕ → ℕ
-segmentFields t = four 0 (getD t 1 0) (getD t 2 0) (getD t 3 0)
+abbrev pub fieldsNumber : List ℕ → ℕ
+fieldsNumber t = four 0 (getD t 1 0) (getD t 2 0) (getD t 3 0)
 
 -- SZMIC, bit 23
 abbrev pub szmic : ℕ → Bool

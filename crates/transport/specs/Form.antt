@@ -1,8 +1,9 @@
 -- What a transport PDU is, by CTL and its octets, and exactly when its form is wrong, refusal 7 (document 01, "Transport").
 --   keyFits akf aid dst              AKF 0 needs AID 0 and a unicast DST
 --   segmentFits segO segN n full     what a segment of n octets must be
+--   fieldsOf h                       which segment of which message it is
 --   formOf h                         the form of an opened header's transport PDU
-use mathlib.Core.Bool.{Bool, true, false, _&&_, _||_}
+use mathlib.Core.Bool.{Bool, true, false, not, _&&_, _||_}
 use Prim.Native.Nat.{ℕ, _+_}
 use lib.Dec.{eqb, leb}
 use lib.ListN.{getD}
@@ -11,10 +12,11 @@ use Rattle.network.specs.declared.header.Header.{Header}
 use Rattle.network.specs.Address.{isUnicast}
 use Rattle.transport.specs.declared.form.Form.{Form}
 use Rattle.transport.specs.declared.form.Form.the-variants.{Access, AccessSegment, Control, ControlSegment, Acknowledgement, Wrong}
+use Rattle.transport.specs.declared.form.SegmentFields.{SegmentFields}
 use Rattle.transport.specs.declared.opcode.OpcodeKind.{OpcodeKind}
 use Rattle.transport.specs.declared.opcode.OpcodeKind.the-variants.{OfAcknowledgement, OfControl, NoOpcode}
 use Rattle.transport.specs.Opcode.{opcodeKind}
-use Rattle.transport.specs.Fields.{seg, akf, aid, opcode, segmentFields, szmic, seqZero, segO, segN, acknowledged, obo, seqZeroHeard, blockAck}
+use Rattle.transport.specs.Fields.{seg, akf, aid, opcode, fieldsNumber, szmic, seqZero, segO, segN, acknowledged, obo, seqZeroHeard, blockAck}
 use Rattle.transport.specs.Segment.{fullOctets}
 
 -- AKF 0 needs AID 0 and a unicast DST
@@ -24,6 +26,12 @@ keyFits akf aid dst = akf || (eqb aid 0 && isUnicast dst)
 -- four octets and at least one behind them; SegO is at most SegN; every segment but the last is full
 unfoldable pub segmentFits : ℕ → ℕ → ℕ → ℕ → Bool
 segmentFits segO segN n full = leb 5 n && (leb segO segN && (eqb segO segN || eqb n full))
+
+-- SZMIC, of a control segment an RFU bit that is ignored; SeqZero, SegO, SegN
+unfoldable pub fieldsOf : Header → SegmentFields
+fieldsOf h =
+    let n = fieldsNumber (h .transport) in
+    record { szmic = not (h .ctl) && szmic n; seqzero = seqZero n; sego = segO n; segn = segN n }
 
 -- octet 0
 abbrev pub first : Header → ℕ
@@ -38,9 +46,9 @@ accessForm h =
 -- SEG 1, AKF, AID; SZMIC, SeqZero, SegO, SegN; full with 12 octets behind them
 unfoldable pub accessSegmentForm : Header → Form
 accessSegmentForm h =
-    let n = segmentFields (h .transport) in
-    if keyFits (akf (first h)) (aid (first h)) (h .dst) && segmentFits (segO n) (segN n) (h .len) (4 + fullOctets false) then
-    AccessSegment (akf (first h)) (aid (first h)) (szmic n) (seqZero n) (segO n) (segN n) else
+    let f = fieldsOf h in
+    if keyFits (akf (first h)) (aid (first h)) (h .dst) && segmentFits (f .sego) (f .segn) (h .len) (4 + fullOctets false) then
+    AccessSegment (akf (first h)) (aid (first h)) f else
     Wrong
 
 -- opcode 0: OBO, SeqZero, 2 RFU bits, BlockAck, 7 octets in all; opcode 0x01-0x7F: never wrong
@@ -60,8 +68,8 @@ controlForm h = controlAs (opcodeKind (opcode (first h))) h
 unfoldable pub controlSegmentAs : OpcodeKind → Header → Form
 controlSegmentAs OfAcknowledgement h = Wrong
 controlSegmentAs OfControl h =
-    let n = segmentFields (h .transport) in
-    if segmentFits (segO n) (segN n) (h .len) (4 + fullOctets true) then ControlSegment (opcode (first h)) (seqZero n) (segO n) (segN n) else
+    let f = fieldsOf h in
+    if segmentFits (f .sego) (f .segn) (h .len) (4 + fullOctets true) then ControlSegment (opcode (first h)) f else
     Wrong
 controlSegmentAs NoOpcode h = Wrong
 
@@ -83,8 +91,8 @@ formOf h = formAs (h .ctl) (seg (first h)) h
 -- this paper's number of each form: a wrong one is refusal 7
 abbrev pub paper : Form → ℕ
 paper (Access akf aid) = 0
-paper (AccessSegment akf aid szmic seqZero segO segN) = 0
+paper (AccessSegment akf aid f) = 0
 paper (Control opcode) = 0
-paper (ControlSegment opcode seqZero segO segN) = 0
+paper (ControlSegment opcode f) = 0
 paper (Acknowledgement obo seqZero bits) = 0
 paper Wrong = 7

@@ -6,6 +6,7 @@ use mathlib.Core.Path.{_≡_}
 use Prim.Native.Nat.{ℕ, _^_, _≤_, _<_}
 use Rattle.network.specs.declared.header.Header.{Header}
 use Rattle.transport.specs.declared.form.Form.the-variants.{Access, AccessSegment, Control, ControlSegment, Acknowledgement}
+use Rattle.transport.specs.declared.form.SegmentFields.{SegmentFields}
 use Rattle.transport.specs.Form.{formOf}
 use Rattle.transport.specs.Ranges.{InRange, KeyInRange, OpcodeInRange}
 use Rattle.transport.specs.Segment.{accessOctet, controlOctet, segmentFront, acknowledgementOctets}
@@ -15,6 +16,10 @@ pub record Carries (h : Header) (ctl : Bool) (octets : List ℕ) : Type 0 where
   pub behind : List ℕ
   pub ctl-is : h .ctl ≡ ctl
   pub begins : h .transport ≡ octets ++ behind
+
+-- the four octets in front of a segment with these fields
+abbrev pub frontOf : ℕ → SegmentFields → List ℕ
+frontOf first f = segmentFront first (f .szmic) (f .seqzero) (f .sego) (f .segn)
 
 -- a whole access message
 abbrev pub AccessReadsBack : Type 0
@@ -26,10 +31,9 @@ AccessReadsBack =
 -- a segment of an access message
 abbrev pub AccessSegmentReadsBack : Type 0
 AccessSegmentReadsBack =
-    (h : Header) (akf : Bool) (aid : ℕ) (szmic : Bool) (seqZero segO segN : ℕ)
-    → Carries h false (segmentFront (accessOctet true akf aid) szmic seqZero segO segN)
-    → KeyInRange akf aid (h .dst) → InRange seqZero segO segN (h .len) 16
-    → formOf h ≡ AccessSegment akf aid szmic seqZero segO segN
+    (h : Header) (akf : Bool) (aid : ℕ) (f : SegmentFields)
+    → Carries h false (frontOf (accessOctet true akf aid) f) → KeyInRange akf aid (h .dst) → InRange f (h .len) 16
+    → formOf h ≡ AccessSegment akf aid f
 
 -- a whole control message
 abbrev pub ControlReadsBack : Type 0
@@ -41,10 +45,9 @@ ControlReadsBack =
 -- a segment of a control message
 abbrev pub ControlSegmentReadsBack : Type 0
 ControlSegmentReadsBack =
-    (h : Header) (opcode seqZero segO segN : ℕ)
-    → Carries h true (segmentFront (controlOctet true opcode) false seqZero segO segN)
-    → OpcodeInRange opcode → InRange seqZero segO segN (h .len) 12
-    → formOf h ≡ ControlSegment opcode seqZero segO segN
+    (h : Header) (opcode : ℕ) (f : SegmentFields)
+    → Carries h true (frontOf (controlOctet true opcode) f) → OpcodeInRange opcode → f .szmic ≡ false → InRange f (h .len) 12
+    → formOf h ≡ ControlSegment opcode f
 
 -- an acknowledgement
 abbrev pub AcknowledgementReadsBack : Type 0

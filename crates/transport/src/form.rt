@@ -4,7 +4,15 @@ use network::header::Header;
 ghost use mathlib.Core.Path.{_≡_};
 ghost use Prim.Native.Nat.{_+_, _*_};
 ghost use Rattle.transport.specs.Fields.{seg, akf};
-ghost use Rattle.transport.specs.Form.{keyFits, segmentFits, accessForm, accessSegmentForm, controlForm, controlSegmentForm, formOf};
+ghost use Rattle.transport.specs.Form.{keyFits, segmentFits, fieldsOf, accessForm, accessSegmentForm, controlForm, controlSegmentForm, formOf};
+
+// Which segment of which message a segment is. SZMIC says that the message has the long TransMIC; of a control segment it is false.
+pub struct SegmentFields {
+    pub szmic: bool,
+    pub seqzero: u16,
+    pub sego: u8,
+    pub segn: u8,
+}
 
 // What a transport PDU is.
 pub enum Form {
@@ -17,10 +25,7 @@ pub enum Form {
     AccessSegment {
         akf: bool,
         aid: u8,
-        szmic: bool,
-        seqzero: u16,
-        sego: u8,
-        segn: u8,
+        fields: SegmentFields,
     },
     // A whole control message.
     Control {
@@ -29,9 +34,7 @@ pub enum Form {
     // A segment of a control message.
     ControlSegment {
         opcode: u8,
-        seqzero: u16,
-        sego: u8,
-        segn: u8,
+        fields: SegmentFields,
     },
     // An acknowledgement, with its BlockAck.
     Acknowledgement {
@@ -92,6 +95,20 @@ fn segment_fits(sego: u8, segn: u8, n: usize, full: usize) -> bool
     n == full
 }
 
+// The fields behind octet 0 of a segment.
+fn fields_of(h: Header) -> SegmentFields
+    ensures { λ r. ⌜ r ≡ fieldsOf h ⌝ }
+{
+    let t = h.transport;
+    let n = number(0, t[1], t[2], t[3]);
+    SegmentFields {
+        szmic: !h.ctl && 8388608 <= n,
+        seqzero: (n / 1024 % 8192) as u16,
+        sego: (n / 32 % 32) as u8,
+        segn: (n % 32) as u8,
+    }
+}
+
 // CTL 0, SEG 0.
 fn access(h: Header) -> Form
     ensures { λ r. ⌜ r ≡ accessForm h ⌝ }
@@ -115,23 +132,14 @@ fn access_segment(h: Header) -> Form
     let t = h.transport;
     let akf = akf_of(t[0]);
     let aid = t[0] % 64;
-    let n = number(0, t[1], t[2], t[3]);
-    let sego = (n / 32 % 32) as u8;
-    let segn = (n % 32) as u8;
+    let fields = fields_of(h);
     if !key_fits(akf, aid, h.dst) {
         return Form::Wrong;
     }
-    if !segment_fits(sego, segn, h.len, 16) {
+    if !segment_fits(fields.sego, fields.segn, h.len, 16) {
         return Form::Wrong;
     }
-    Form::AccessSegment {
-        akf,
-        aid,
-        szmic: 8388608 <= n,
-        seqzero: (n / 1024 % 8192) as u16,
-        sego,
-        segn,
-    }
+    Form::AccessSegment { akf, aid, fields }
 }
 
 // CTL 1, SEG 0.
@@ -163,21 +171,14 @@ fn control_segment(h: Header) -> Form
 {
     let t = h.transport;
     let opcode = t[0] % 128;
-    let n = number(0, t[1], t[2], t[3]);
-    let sego = (n / 32 % 32) as u8;
-    let segn = (n % 32) as u8;
+    let fields = fields_of(h);
     match super::opcode::kind(opcode) {
         OpcodeKind::OfAcknowledgement => Form::Wrong,
         OpcodeKind::OfControl => {
-            if !segment_fits(sego, segn, h.len, 12) {
+            if !segment_fits(fields.sego, fields.segn, h.len, 12) {
                 return Form::Wrong;
             }
-            Form::ControlSegment {
-                opcode,
-                seqzero: (n / 1024 % 8192) as u16,
-                sego,
-                segn,
-            }
+            Form::ControlSegment { opcode, fields }
         }
         OpcodeKind::NoOpcode => Form::Wrong,
     }

@@ -1,5 +1,5 @@
 -- A message by its form: a segment is one, whatever it is a segment of; a whole message that is admitted is handed up. Assumes nothing.
-use mathlib.Core.Bool.{Bool, false}
+use mathlib.Core.Bool.{Bool}
 use mathlib.Core.List.{List}
 use mathlib.Core.Path.{_≡_, refl}
 use Prim.Native.Nat.{ℕ}
@@ -9,6 +9,7 @@ use Rattle.common.specs.Lists.{onto}
 use Rattle.network.specs.declared.header.Header.{Header}
 use Rattle.network.specs.Header.{transportOf}
 use Rattle.transport.specs.declared.form.Form.the-variants as form
+use Rattle.transport.specs.declared.form.SegmentFields.{SegmentFields}
 use Rattle.transport.specs.declared.securing.MessageKey.{MessageKey}
 use Rattle.transport.specs.declared.securing.Opened.the-variants.{Message}
 use Rattle.transport.specs.Fields.{opcode}
@@ -23,16 +24,14 @@ use Rattle.receiver.specs.Whole as whole
 
 module _ (r : Receiver) (h : Header) (msg : List ℕ) where
   pub taken-access-segment :
-      (akf : Bool) (aid : ℕ) (szmic : Bool) (seqZero segO segN : ℕ) → formOf h ≡ form.AccessSegment akf aid szmic seqZero segO segN
-      → takenAs (formOf h) r h msg ≡ segmented r h szmic seqZero segO segN msg
+      (akf : Bool) (aid : ℕ) (fields : SegmentFields) → formOf h ≡ form.AccessSegment akf aid fields → takenAs (formOf h) r h msg ≡ segmented r h fields msg
   unfolding takenAs
-  taken-access-segment akf aid szmic seqZero segO segN e = rw e refl
+  taken-access-segment akf aid fields e = rw e refl
 
   pub taken-control-segment :
-      (opcode seqZero segO segN : ℕ) → formOf h ≡ form.ControlSegment opcode seqZero segO segN
-      → takenAs (formOf h) r h msg ≡ segmented r h false seqZero segO segN msg
+      (opcode : ℕ) (fields : SegmentFields) → formOf h ≡ form.ControlSegment opcode fields → takenAs (formOf h) r h msg ≡ segmented r h fields msg
   unfolding takenAs
-  taken-control-segment opcode seqZero segO segN e = rw e refl
+  taken-control-segment opcode fields e = rw e refl
 
   -- a whole message that is admitted
   pub taken-access :

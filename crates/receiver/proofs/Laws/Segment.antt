@@ -4,7 +4,7 @@
 --   placed-..              where, by what entry and session its source has
 --   gathered-..            a session with a segment more
 --   access-up, control-up, upgraded-is   a complete one
-use mathlib.Core.Bool.{Bool, true, false}
+use mathlib.Core.Bool.{true, false}
 use mathlib.Core.List.{List}
 use mathlib.Core.Path.{_≡_, refl, ap}
 use Prim.Native.Nat.{ℕ, _≤_, _<_}
@@ -15,6 +15,7 @@ use Rattle.common.specs.Choice.{if_then_else_}
 use Rattle.common.specs.Lent.{Lent, lent}
 use Rattle.common.specs.Lists.{onto}
 use Rattle.network.specs.declared.header.Header.{Header}
+use Rattle.transport.specs.declared.form.SegmentFields.{SegmentFields}
 use Rattle.transport.specs.declared.securing.MessageKey.{MessageKey}
 use Rattle.transport.specs.declared.securing.Opened.the-variants.{Message}
 use Rattle.transport.specs.declared.seq_auth.SeqAuth.the-variants.{At}
@@ -34,10 +35,9 @@ use Rattle.receiver.specs.State.{withReplay, withSession}
 
 module _ (r : Receiver) (h : Header) (msg : List ℕ) where
   pub segmented-placed :
-      (szmic : Bool) (seqZero segO segN auth : ℕ) → seqAuth (h .seq) seqZero ≡ At auth
-      → segmented r h szmic seqZero segO segN msg ≡ placed r h (segmentOf h szmic auth segO segN) msg
+      (fields : SegmentFields) (auth : ℕ) → seqAuth (h .seq) (fields .seqzero) ≡ At auth → segmented r h fields msg ≡ placed r h (segmentOf h fields auth) msg
   unfolding segmented segmentedAs
-  segmented-placed szmic seqZero segO segN auth e = rw e refl
+  segmented-placed fields auth e = rw e refl
 
 -- ---- where it is placed, by what entry and session its source has
 module _ (r : Receiver) (h : Header) (msg : List ℕ) (seg : Segment) where

@@ -21,6 +21,7 @@ use Rattle.network.specs.declared.opening.Answer.the-variants as network
 use Rattle.network.specs.Header.{transportOf}
 use Rattle.transport.specs.declared.form.Form.{Form}
 use Rattle.transport.specs.declared.form.Form.the-variants as form
+use Rattle.transport.specs.declared.form.SegmentFields.{SegmentFields}
 use Rattle.transport.specs.declared.securing.Envelope.{Envelope}
 use Rattle.transport.specs.declared.securing.MessageKey.{MessageKey}
 use Rattle.transport.specs.declared.securing.Opened.{Opened}
@@ -150,27 +151,26 @@ module _ (q : Receiver) (h : Header) (msg : List ℕ) (room : 384 ≤ length msg
     walk-placed decided.NoEntryLeft i = refused refusal.NoEntryLeft refl
     walk-placed decided.NoSlotLeft i = refused refusal.NoSlotLeft refl
 
-  module _ (szmic : Bool) (segO segN : ℕ) (n : segN < 32) (o : segO ≤ segN) where
-    walk-segmented-as : (a : SeqAuth) → P (segmentedAs a q h szmic segO segN msg)
+  module _ (fields : SegmentFields) (full : ℕ) (i : InRange fields (h .len) full) where
+    walk-segmented-as : (a : SeqAuth) → P (segmentedAs a q h fields msg)
     unfolding segmentedAs placed
     walk-segmented-as Nowhere = refused refusal.NoSeqAuth refl
     walk-segmented-as (At auth) =
-        let seg = segmentOf h szmic auth segO segN in
-        walk-placed seg n o (decision (q .replay) (q .sessions) (h .src) seg) (decision-within (q .replay) (q .sessions) (h .src) seg)
+        let seg = segmentOf h fields auth in
+        walk-placed seg (i .segN-fits) (segO-fits fields (h .len) full i) (decision (q .replay) (q .sessions) (h .src) seg) (decision-within (q .replay) (q .sessions) (h .src) seg)
 
-  walk-segmented : (szmic : Bool) (seqZero segO segN full : ℕ) → InRange seqZero segO segN (h .len) full → P (segmented q h szmic seqZero segO segN msg)
-  unfolding segmented
-  walk-segmented szmic seqZero segO segN full i =
-      walk-segmented-as szmic segO segN (i .segN-fits) (segO-fits segO segN (h .len) full (i .fits)) (seqAuth (h .seq) seqZero)
+    walk-segmented : P (segmented q h fields msg)
+    unfolding segmented
+    walk-segmented = walk-segmented-as (seqAuth (h .seq) (fields .seqzero))
 
   -- ---- by the form
   walk-form : (f : Form) → Kept h f → P (takenAs f q h msg)
   unfolding takenAs
   walk-form form.Wrong k = refused refusal.WrongForm refl
   walk-form (form.Access akf aid) k = walk-access akf aid
-  walk-form (form.AccessSegment akf aid szmic seqZero segO segN) k = walk-segmented szmic seqZero segO segN 16 (k .2)
+  walk-form (form.AccessSegment akf aid fields) k = walk-segmented fields 16 (k .2)
   walk-form (form.Control opcode) k = walk-control opcode
-  walk-form (form.ControlSegment opcode seqZero segO segN) k = walk-segmented false seqZero segO segN 12 (k .2)
+  walk-form (form.ControlSegment opcode fields) k = walk-segmented fields 12 (k .2)
   walk-form (form.Acknowledgement obo seqZero bits) k = walk-acknowledgement obo seqZero bits
 
   pub walk-taken : P (taken q h msg)

@@ -8,18 +8,17 @@ use Rattle.receiver.proofs.hear.take_form.Tie as tie
 
 returns-5 : tie.Need-returns-5
 returns-5 c =
-    let read = c .before .before .before .before .before .before .read in
-    let mic = c .before .before .before .before .has-long-mic .ensures in
+    let read = c .before .before .before .before .before .read .ensures in
     let segment = c .before .before .segment .ensures in
     ⊎-elim
-    (λ w. form-access-segment _ _ _ _ (read .ensures) _ _ mic (w .4) (w .5) (w .6) segment (w .1 .given .1) (w .3))
-    (λ w. form-control-segment _ _ _ _ (read .ensures) _ _ mic (w .4) (w .5) (w .6) segment (w .1 .given .1) (w .3))
-    (c .before .before .before .before .before .match .came)
+    (λ w. form-access-segment _ _ _ _ read _ _ (w .3) segment (w .1 .given .1))
+    (λ w. form-control-segment _ _ _ _ read _ _ (w .3) segment (w .1 .given .1))
+    (c .before .before .before .before .match .came)
 
 pub take-form-spec : {M : Type 1} → statement M
 take-form-spec =
     tie.close (tie.spec
     (λ c κs. search needs) (λ c. search needs) (λ c κs. search needs) (λ c. search needs) (λ c κs. search needs)
     (λ c. search needs) (λ c κs. search needs) (λ c. search needs) (λ c κs. search needs) (λ c. search needs) (λ c. search needs)
-    (λ c κs. search needs) (λ c κs. search needs) (λ c. search form-rules) (λ c. search needs) (λ c. search form-rules)
+    (λ c κs. search needs) (λ c. search form-rules) (λ c. search needs) (λ c. search form-rules)
     (λ c. search needs) (λ c. search form-rules) (λ c. search form-rules) (λ c. search needs) returns-5)

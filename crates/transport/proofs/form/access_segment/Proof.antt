@@ -17,6 +17,5 @@ returns-3 c = search access-segment-rules
 pub access-segment-spec : {M : Type 1} → statement M
 access-segment-spec =
     tie.close (tie.spec
-    (λ c. search needs) (λ c κs. search needs) (λ c. search needs) (λ c. search needs) (λ c. search needs)
-    (λ c. search needs) (λ c κs. search needs) (λ c. search needs) (λ c. search needs) (λ c κs. search needs)
-    returns (λ c κs. search needs) returns-2 (λ c. search needs) returns-3)
+    (λ c. search needs) (λ c κs. search needs) (λ c. search needs) (λ c κs. search needs) (λ c κs. search needs) returns
+    (λ c κs. search needs) returns-2 returns-3)
