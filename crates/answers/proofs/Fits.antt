@@ -9,6 +9,8 @@ use lib.Dec.{eqb}
 use lib.ListN.{length, take, length-append, length-take, length-drop}
 use lib.Seq.{take-all}
 use Rattle.common.proofs.Tests.{by-choice}
+use Rattle.modes.specs.Ccm.{longest}
+use Rattle.network.specs.Pdu.{pduOctets}
 use Rattle.memory.specs.declared.cache.Cache.{Cache}
 use Rattle.memory.specs.declared.outgoing.Effect.{Effect}
 use Rattle.memory.specs.declared.outgoing.Effect.the-variants as effect
@@ -22,6 +24,7 @@ use Rattle.memory.specs.Replay.{replayEntries}
 use Rattle.memory.specs.Session.{sessionSlots, isFree}
 use Rattle.transport.specs.declared.securing.MessageKey.{MessageKey}
 use Rattle.transport.specs.declared.securing.MessageKey.the-variants.{Application, Device}
+use Rattle.transport.specs.Segment.{messageOctets}
 use Rattle.receiver.specs.declared.answer.Answer.{Answer}
 use Rattle.receiver.specs.declared.answer.Answer.the-variants.{Refused, Stored, Repeated, Access, Control, Acknowledgement}
 use Rattle.receiver.specs.Answer.{refusalNumber}
@@ -43,7 +46,7 @@ pub fits-whole : FitsWhole
 fits-whole text out at h free = take-all (length out) (take at out ++ text) (omega (arith, length-append (take at out) text, length-take at out))
 
 -- ---- the pieces of answers
-refusal-most : (n : ℕ) → AtMost 29 (refusalText n)
+refusal-most : (n : ℕ) → AtMost pduOctets (refusalText n)
 refusal-most n = both (label-most "refused ") (decimal-most n)
 
 pub refused-most : (n : ℕ) → AtMost 30 (refusedText n)
@@ -66,10 +69,10 @@ key-most (Application i) = named-most " key " 1 i
 key-most Device = wider (label-most " key dev") (omega arith)
 
 -- the first octets of a buffer of 384
-buffer-most : (len : ℕ) (buffer : List ℕ) → length buffer ≤ 384 → AtMost 769 (hexText (take len buffer))
-buffer-most len buffer h = hex-most 384 (take len buffer) (omega (arith, length-take len buffer))
+buffer-most : (len : ℕ) (buffer : List ℕ) → length buffer ≤ messageOctets → AtMost 769 (hexText (take len buffer))
+buffer-most len buffer h = hex-most messageOctets (take len buffer) (omega (arith, length-take len buffer))
 
-message-most : (p : Pair) (t : Trials) (len : ℕ) (message : List ℕ) → length message ≤ 384 → AtMost 864 (messageText p t (take len message))
+message-most : (p : Pair) (t : Trials) (len : ℕ) (message : List ℕ) → length message ≤ messageOctets → AtMost 864 (messageText p t (take len message))
 message-most p t len message h =
     both (pair-most p " seq ") (both (trials-most t) (both (label-most " message ") (buffer-most len message h)))
 
@@ -90,7 +93,7 @@ acknowledgement-most src bits e t =
     both (named-most "acknowledgement src " 4 src) (both (named-most " bits " 8 bits) (both (effect-most e) (trials-most t)))
 
 -- ---- the answers
-heard-most : (a : Answer) (t : Trials) (message : List ℕ) → length message ≤ 384 → AtMost 962 (heardText a t message)
+heard-most : (a : Answer) (t : Trials) (message : List ℕ) → length message ≤ messageOctets → AtMost 962 (heardText a t message)
 unfolding heardText
 heard-most (Refused refusal) t message h = wider (both (refusal-most (refusalNumber refusal)) (trials-most t)) (omega arith)
 heard-most (Stored src auth bits) t message h = wider (both (label-most "stored") (both (segments-most src auth bits) (trials-most t))) (omega arith)
@@ -99,9 +102,9 @@ heard-most (Access src dst network key pair len) t message h = wider (both (acce
 heard-most (Control src dst network opcode pair len) t message h = both (control-most src dst network opcode) (message-most pair t len message h)
 heard-most (Acknowledgement src bits e) t message h = wider (acknowledgement-most src bits e t) (omega arith)
 
-forward-most : (pdu : List ℕ) → length pdu ≤ 384 → AtMost 779 (forwardText pdu)
+forward-most : (pdu : List ℕ) → length pdu ≤ messageOctets → AtMost 779 (forwardText pdu)
 forward-most [] h = wider (label-most "\n") (omega arith)
-forward-most (o ∷ pdu) h = both (label-most " forward ") (both (hex-most 384 (o ∷ pdu) h) (label-most "\n"))
+forward-most (o ∷ pdu) h = both (label-most " forward ") (both (hex-most messageOctets (o ∷ pdu) h) (label-most "\n"))
 
 pub heard-fits : HeardFits
 heard-fits a t message pdu h1 h2 = omega (arith, both (heard-most a t message h1) (forward-most pdu h2))

@@ -9,6 +9,7 @@ use mathlib.Core.List.{List, _++_}
 use mathlib.Core.Path.{_≡_}
 use Prim.Native.Nat.{ℕ, _+_, _≤_}
 use lib.ListN.{length, take}
+use Rattle.transport.specs.Segment.{messageOctets}
 use Rattle.memory.specs.Cache.{cacheEntries}
 use Rattle.memory.specs.Replay.{replayEntries}
 use Rattle.memory.specs.Session.{sessionSlots}
@@ -36,11 +37,11 @@ FitsWhole = (text out : List ℕ) (at : ℕ) → Fits text → at + 8192 ≤ len
 -- what became of a PDU that was heard, and what was forwarded
 abbrev pub HeardFits : Type 0
 HeardFits =
-    (a : Answer) (t : Trials) (message pdu : List ℕ) → length message ≤ 384 → length pdu ≤ 384 → Fits (heardText a t message ++ forwardText pdu)
+    (a : Answer) (t : Trials) (message pdu : List ℕ) → length message ≤ messageOctets → length pdu ≤ messageOctets → Fits (heardText a t message ++ forwardText pdu)
 
 -- a request to send
 abbrev pub SpokenFits : Type 0
-SpokenFits = (a : Sending) (pdu : List ℕ) → length pdu ≤ 384 → Fits (spokenText a pdu)
+SpokenFits = (a : Sending) (pdu : List ℕ) → length pdu ≤ messageOctets → Fits (spokenText a pdu)
 
 -- a request to give up
 abbrev pub GivenUpFits : Type 0

@@ -50,8 +50,8 @@ pub fn start() -> Desk
         ready: false,
         given: node::setup::nothing(),
         room: Room {
-            forward: 29,
-            message: 384,
+            forward: network::header::PDU,
+            message: transport::securing::MESSAGE,
         },
         properties: properties::none(),
     }

@@ -102,7 +102,7 @@ fn device_key(s: Setup, line: &[u8]) -> Given
 struct Sequences {
     fits: bool,
     count: usize,
-    next: [u32; 8],
+    next: [u32; node::addresses::ELEMENTS],
 }
 
 // A field is no number.
@@ -112,12 +112,16 @@ fn no_sequences() -> Sequences
     Sequences {
         fits: false,
         count: 0,
-        next: [0u32; 8],
+        next: [0u32; node::addresses::ELEMENTS],
     }
 }
 
 // The numbers with one more, where there is a place for it.
-fn with_next(next: [u32; 8], place: usize, seq: u32) -> [u32; 8]
+fn with_next(
+    next: [u32; node::addresses::ELEMENTS],
+    place: usize,
+    seq: u32,
+) -> [u32; node::addresses::ELEMENTS]
     ensures { λ r. ⌜ r ≡ set next place seq ⌝ }
 {
     let mut after = next;

@@ -12,6 +12,7 @@ use lib.Seq.{take-all}
 use Rattle.common.specs.Lent.{lent}
 use Rattle.common.proofs.Tests.{by-test}
 use Rattle.transport.specs.declared.securing.MessageKey.{MessageKey}
+use Rattle.transport.specs.Segment.{messageOctets}
 use Rattle.memory.specs.Cache.{cacheEntries}
 use Rattle.memory.specs.Replay.{replayEntries}
 use Rattle.memory.specs.Session.{sessionSlots}
@@ -40,7 +41,7 @@ use Rattle.console.specs.Receiving.{lentOf, hearsInto, hears, sent, spea
 use Rattle.console.proofs.AnsweredLaws.{put-answer}
 
 -- of a buffer of zeros as much is lent as `room` said
-lent-is : (n k : ℕ) (z : List ℕ) → z ≡ replicate 384 0 → k ≡ min n (length z) → take k z ≡ lentOf n
+lent-is : (n k : ℕ) (z : List ℕ) → z ≡ replicate messageOctets 0 → k ≡ min n (length z) → take k z ≡ lentOf n
 lent-is n k z h e =
     let all : take k z ≡ take n z =
     by-test (ltb n (length z))
@@ -86,7 +87,7 @@ module _ (out : List ℕ) (at n : ℕ) (o : List ℕ) where
   spoken r s octets pdu t p h e = rw (← h) (put-answer out at n o (t .receiver) _ e)
 
   pub spoken-lent :
-      (r : Receiver) (room : Room) (s : Sending) (octets : List ℕ) (q : Receiver) (z : List ℕ) (k : ℕ) → z ≡ replicate 384 0
+      (r : Receiver) (room : Room) (s : Sending) (octets : List ℕ) (q : Receiver) (z : List ℕ) (k : ℕ) → z ≡ replicate messageOctets 0
       → k ≡ min (room .forward) (length z) → put q n o ≡ answerPut (speaksInto r s octets (take k z)) out at
       → put q n o ≡ answerPut (speaks r room s octets) out at
   unfolding speaks
@@ -103,8 +104,8 @@ module _ (out : List ℕ) (at n : ℕ) (o : List ℕ) where
       rw (← h, ← k) (put-answer out at n o (t .receiver) _ (put-then _ _ out at n1 n o1 o e1 e2))
 
   pub heard-lent :
-      (r : Receiver) (room : Room) (pdu : List ℕ) (q : Receiver) (y z : List ℕ) (j k : ℕ) → y ≡ replicate 384 0 → j ≡ min (room .forward) (length y)
-      → z ≡ replicate 384 0 → k ≡ min (room .message) (length z) → put q n o ≡ answerPut (hearsInto r pdu (take j y) (take k z)) out at
+      (r : Receiver) (room : Room) (pdu : List ℕ) (q : Receiver) (y z : List ℕ) (j k : ℕ) → y ≡ replicate messageOctets 0 → j ≡ min (room .forward) (length y)
+      → z ≡ replicate messageOctets 0 → k ≡ min (room .message) (length z) → put q n o ≡ answerPut (hearsInto r pdu (take j y) (take k z)) out at
       → put q n o ≡ answerPut (hears r room pdu) out at
   unfolding hears
   heard-lent r room pdu q y z j k h1 l1 h2 l2 e = rw (← lent-is (room .forward) j y h1 l1, ← lent-is (room .message) k z h2 l2) e
@@ -124,27 +125,27 @@ module _ (out : List ℕ) (at n : ℕ) (o : List ℕ) where
 -- ---- each answer fits: no buffer that was lent has grown
 module _ (r : Receiver) (s : Sending) (octets : List ℕ) where
   pub spoken-fits-into :
-      (pdu : List ℕ) (t : Spoken) (p : List ℕ) → lent t p ≡ sent r s octets pdu → length p ≤ 384 → Fits (speaksInto r s octets pdu .text)
+      (pdu : List ℕ) (t : Spoken) (p : List ℕ) → lent t p ≡ sent r s octets pdu → length p ≤ messageOctets → Fits (speaksInto r s octets pdu .text)
   unfolding speaksInto
   spoken-fits-into pdu t p h l = rw (← h) (spoken-fits (t .answer) p l)
 
   pub spoken-fits-lent :
-      (room : Room) (z : List ℕ) (k : ℕ) → z ≡ replicate 384 0 → k ≡ min (room .forward) (length z) → Fits (speaksInto r s octets (take k z) .text)
+      (room : Room) (z : List ℕ) (k : ℕ) → z ≡ replicate messageOctets 0 → k ≡ min (room .forward) (length z) → Fits (speaksInto r s octets (take k z) .text)
       → Fits (speaks r room s octets .text)
   unfolding speaks
   spoken-fits-lent room z k h l f = rw (← lent-is (room .forward) k z h l) f
 
 module _ (r : Receiver) (pdu : List ℕ) where
   pub heard-fits-into :
-      (forward message : List ℕ) (t : Heard) (f m : List ℕ) → outcome t f m ≡ hearing r pdu forward message → length f ≤ 384 → length m ≤ 384
+      (forward message : List ℕ) (t : Heard) (f m : List ℕ) → outcome t f m ≡ hearing r pdu forward message → length f ≤ messageOctets → length m ≤ messageOctets
       → Fits (hearsInto r pdu forward message .text)
   unfolding hearsInto
   heard-fits-into forward message t f m h lf lm =
-      let part : length (take (t .forwarded) f) ≤ 384 = simp length-take (omega (arith, lf)) in
+      let part : length (take (t .forwarded) f) ≤ messageOctets = simp length-take (omega (arith, lf)) in
       rw (← h) (heard-fits (t .answer) (record { network = t .network; application = t .application }) m (take (t .forwarded) f) lm part)
 
   pub heard-fits-lent :
-      (room : Room) (y z : List ℕ) (j k : ℕ) → y ≡ replicate 384 0 → j ≡ min (room .forward) (length y) → z ≡ replicate 384 0
+      (room : Room) (y z : List ℕ) (j k : ℕ) → y ≡ replicate messageOctets 0 → j ≡ min (room .forward) (length y) → z ≡ replicate messageOctets 0
       → k ≡ min (room .message) (length z) → Fits (hearsInto r pdu (take j y) (take k z) .text) → Fits (hears r room pdu .text)
   unfolding hears
   heard-fits-lent room y z j k h1 l1 h2 l2 f = rw (← lent-is (room .forward) j y h1 l1, ← lent-is (room .message) k z h2 l2) f

@@ -11,6 +11,7 @@ ghost use mathlib.Core.Path.{_≡_};
 ghost use Prim.Native.Nat.{_≤_};
 ghost use lib.ListN.{length};
 ghost use Rattle.common.specs.Lent.{lent};
+ghost use Rattle.transport.specs.Segment.{messageOctets};
 ghost use Rattle.answers.specs.Fits.{Fits};
 ghost use Rattle.console.specs.Answered.{put, answerPut};
 ghost use Rattle.console.specs.Receiving.{hearsInto, hears, sent, speaksInto, speaks, givenUp, givesUp, shows};
@@ -35,7 +36,7 @@ fn hear_into(
     out: &mut [u8],
     at: &mut usize,
 ) -> Receiver
-    requires { ⌜ (length (now forward) ≤ 384) × (length (now message) ≤ 384) ⌝ }
+    requires { ⌜ (length (now forward) ≤ messageOctets) × (length (now message) ≤ messageOctets) ⌝ }
     ensures exact { λ q. ⌜ put q (now (at .exit)) (now (out .exit)) ≡ answerPut (hearsInto r (now (pdu .entry)) (now (forward .entry)) (now (message .entry))) (now (out .entry)) (now (at .entry)) ⌝ }
     ensures fits { λ q. ⌜ Fits (hearsInto r (now (pdu .entry)) (now (forward .entry)) (now (message .entry)) .text) ⌝ }
 {
@@ -75,7 +76,7 @@ fn speak_into(
     out: &mut [u8],
     at: &mut usize,
 ) -> Receiver
-    requires { ⌜ length (now pdu) ≤ 384 ⌝ }
+    requires { ⌜ length (now pdu) ≤ messageOctets ⌝ }
     ensures exact { λ q. ⌜ put q (now (at .exit)) (now (out .exit)) ≡ answerPut (speaksInto r s (now (octets .entry)) (now (pdu .entry))) (now (out .entry)) (now (at .entry)) ⌝ }
     ensures fits { λ q. ⌜ Fits (speaksInto r s (now (octets .entry)) (now (pdu .entry)) .text) ⌝ }
 {

@@ -27,7 +27,9 @@ use Rattle.network.specs.Sealing.{sealable}
 use Rattle.network.proofs.AddressLaws.{unicast-some, allowed-some}
 use Rattle.network.proofs.Sealed.{within}
 use Rattle.network.proofs.SealOpen.{open-seal}
+use Rattle.network.specs.Pdu.{pduOctets}
 use Rattle.transport.specs.Form.{formOf}
+use Rattle.transport.specs.Segment.{messageOctets}
 use Rattle.memory.specs.declared.cache.Seen as cached
 use Rattle.memory.specs.Cache.{seen, remembered}
 use Rattle.memory.proofs.CacheLaws.{length-remembered, seen-or-new}
@@ -110,7 +112,7 @@ module _ (node : Node) (speeches : List Speech) (spent : Spent) where
 
   module _ (made : WellMade node) (few : length speeches ≤ 8) (speak : (k : ℕ) → k < length speeches → Speakable node (speechAt speeches k))
       (differ : (j k : ℕ) → j < length speeches → k < length speeches → speakerOf speeches j ≡ speakerOf speeches k → j ≡ k)
-      (r : Receiver) (filled : ℕ → ℕ) (sc : Seen r filled) (fwd msg : List ℕ) (wide : 29 ≤ length fwd) (big : 384 ≤ length msg) where
+      (r : Receiver) (filled : ℕ → ℕ) (sc : Seen r filled) (fwd msg : List ℕ) (wide : pduOctets ≤ length fwd) (big : messageOctets ≤ length msg) where
     -- ---- a segment of a speech
     module _ (k i seq ttl : ℕ) (sent : scene.Sent node speeches spent k i seq ttl) where
       abbrev s : Speech

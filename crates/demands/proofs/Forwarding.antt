@@ -12,7 +12,7 @@ use Rattle.common.specs.Lent.{Lent, lent}
 use Rattle.common.proofs.Tests.{by-test}
 use Rattle.keys.proofs.Octets.{octets-encryption, octets-privacy}
 use Rattle.network.specs.declared.sealing.Answer.{Answer}
-use Rattle.network.specs.Candidates.{keyAt}
+use Rattle.network.specs.Candidates.{networkKeyPlaces, keyAt}
 use Rattle.network.specs.Resealed.{OctetKey}
 use Rattle.network.specs.Sealing.{sealedLength, forwards}
 use Rattle.network.proofs.Resealed.{resealed}
@@ -23,7 +23,7 @@ use Rattle.receiver.proofs.Laws.Heard.{heard-forwarded, heard-kept}
 use Rattle.demands.specs.Forwarding.{Forwards}
 
 -- the keys of a node that setup made are of octets
-pub octet-keys : (node : Node) → WellMade node → (i : ℕ) → i < min (node .networks) 4 → OctetKey (keyAt (node .materials) i)
+pub octet-keys : (node : Node) → WellMade node → (i : ℕ) → i < min (node .networks) networkKeyPlaces → OctetKey (keyAt (node .materials) i)
 octet-keys node w i h =
     let given = getD (node .netkeys) i (record { octets = [] }) .octets in
     subst OctetKey (sym (w .derived i (omega arith)))

@@ -19,6 +19,7 @@ use Rattle.common.specs.Chunks.{chunk}
 use Rattle.common.proofs.BitLaws.{has-none, has-all, has-with-other}
 use Rattle.common.proofs.Tests.{by-test}
 use Rattle.network.specs.declared.header.Header.{Header}
+use Rattle.transport.specs.Segment.{messageOctets}
 use Rattle.memory.specs.Session.{octetPlace, segmentOctets, lengthWith, stored}
 use Rattle.memory.proofs.SessionLaws.{length-last, length-kept}
 use Rattle.memory.proofs.Stored.{place-is, stored-is, length-stored, stored-read, stored-before, stored-behind}
@@ -36,16 +37,16 @@ ends-before size j i h =
 
 -- the octets of the places that are filled are there; the last one told the length
 pub record Holds (node : Node) (s : Speech) (bits len : ℕ) (bytes : List ℕ) : Type 0 where
-  pub long : length bytes ≡ 384
+  pub long : length bytes ≡ messageOctets
   pub parts :
       (j p : ℕ) → hasBit bits j ≡ true → sizeOf s * j ≤ p → p < sizeOf s * j + sizeOf s → p < length (octetsOf node s)
       → getD bytes p 0 ≡ getD (octetsOf node s) p 0
   pub told : hasBit bits (lastOf node s) ≡ true → len ≡ length (octetsOf node s)
 
-pub holds-begun : (node : Node) (s : Speech) → Holds node s 0 0 (replicate 384 0)
+pub holds-begun : (node : Node) (s : Speech) → Holds node s 0 0 (replicate messageOctets 0)
 holds-begun node s =
     record {
-      long = length-replicate {A = ℕ} 384 0;
+      long = length-replicate {A = ℕ} messageOctets 0;
       parts = λ j p b _ _ _. absurd (false≢true (sym (has-none j) ∙ b));
       told = λ b. absurd (false≢true (sym (has-none (lastOf node s)) ∙ b));
     }

@@ -27,6 +27,7 @@ use Rattle.transport.specs.Segment.{accessOctet, controlOctet}
 use Rattle.transport.proofs.SecureOpen.{secured-length}
 use Rattle.keys.specs.declared.NetworkKeys.{NetworkKeys}
 use Rattle.keys.proofs.Widths.{nid-low}
+use Rattle.network.specs.Pdu.{pduOctets}
 use Rattle.memory.specs.declared.outgoing.Outgoing.{Outgoing}
 use Rattle.memory.specs.declared.pair.Pair.{Pair}
 use Rattle.memory.specs.declared.session.Terms.{Terms}
@@ -36,6 +37,7 @@ use Rattle.node.specs.Index.{SameFixed}
 use Rattle.node.specs.Made.{WellMade}
 use Rattle.node.proofs.Addressed.{for-allowed}
 use Rattle.node.proofs.SetupLaws.{local-is-unicast}
+use Rattle.node.specs.Addresses.{elementPlaces}
 use Rattle.receiver.specs.declared.state.Receiver.{Receiver}
 use Rattle.receiver.proofs.Good.{good-fresh}
 use Rattle.sending.specs.declared.answer.Spoken.{Spoken}
@@ -64,7 +66,7 @@ abbrev All : List ℕ → Outcome → Type 0
 All buf o = Each (λ x. x .made ≡ true) (o ∷ run (o .receiver) (restAs (o .answer) buf))
 
 -- ---- a transmission that sealing does not refuse is sent
-module _ (r : Receiver) (element : ℕ) (h : Header) (buf : List ℕ) (left-seq : nextSeq r element ≤ 0xFFFFFF) (key : h .key < 4) (wide : 29 ≤ length buf)
+module _ (r : Receiver) (element : ℕ) (h : Header) (buf : List ℕ) (left-seq : nextSeq r element ≤ 0xFFFFFF) (key : h .key < 4) (wide : pduOctets ≤ length buf)
     (can : sealable (keyAt (r .node .materials) (h .key)) (stamped r element h) ≡ true) where
   sends : Sends r element h buf
   sends = record { seq-left = left-seq; key-there = key; wide = wide; can = can }
@@ -74,7 +76,7 @@ module _ (r : Receiver) (element : ℕ) (h : Header) (buf : List ℕ) (left-seq 
 
 -- ---- the numbers of a request
 module _ (sender : Receiver) (setup : Setup) (q : Request) (words : Words) (buf : List ℕ) (b : Between sender setup q words)
-    (a : allowedAs sender q words ≡ true) (wide : 29 ≤ length buf) (enough : nextSeq sender (q .element) + 31 ≤ 0xFFFFFF) where
+    (a : allowedAs sender q words ≡ true) (wide : pduOctets ≤ length buf) (enough : nextSeq sender (q .element) + 31 ≤ 0xFFFFFF) where
   abbrev node : Node
   node = nodeOf setup
 
@@ -90,7 +92,7 @@ module _ (sender : Receiver) (setup : Setup) (q : Request) (words : Words) (buf 
   well : WellMade node
   well = good-fresh setup (b .ready) .node-made
 
-  there : q .element < min (sender .node .elements) 8
+  there : q .element < min (sender .node .elements) elementPlaces
   there = request-of sender node (b .shared) q words a .element-there
 
   ttl-fits : ttl ≤ 127
@@ -221,7 +223,7 @@ module _ (sender : Receiver) (setup : Setup) (q : Request) (words : Words) (buf 
         (m, rw (g .says, last) (rest-made (lastOf node s) 1 (x .answer .receiver) one (omega arith)))
 
 -- ---- each way
-module _ (sender : Receiver) (setup : Setup) (q : Request) (buf : List ℕ) (wide : 29 ≤ length buf) (enough : nextSeq sender (q .element) + 31 ≤ 0xFFFFFF) where
+module _ (sender : Receiver) (setup : Setup) (q : Request) (buf : List ℕ) (wide : pduOctets ≤ length buf) (enough : nextSeq sender (q .element) + 31 ≤ 0xFFFFFF) where
   said-all : (r : Receiver) (element : ℕ) (h : Header) → madeBy (saying r element h buf .answer .answer) ≡ true → All buf (leftSaid (saying r element h buf))
   said-all r element h m = let g = said-by r element buf h m in (m, rw (g .says) (tt {0}))
 

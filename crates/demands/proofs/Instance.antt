@@ -17,6 +17,7 @@ use Rattle.common.specs.Choice.{if_then_else_}
 use Rattle.common.specs.Search.{first}
 use Rattle.network.specs.Address.{kindOf, isUnicast}
 use Rattle.network.specs.Opening.{opening}
+use Rattle.network.specs.Pdu.{pduOctets}
 use Rattle.transport.specs.declared.securing.MessageKey.the-variants.{Application}
 use Rattle.transport.specs.LeadsBack.{SegmentOf}
 use Rattle.transport.specs.Securing.{applicationKeyAt}
@@ -254,6 +255,6 @@ pub sending-met : SendingMet
 sending-met =
     record {
       between = between;
-      sent = goes-out (start bench) shed toShed report (replicate 29 0) between request-accepted (omega arith) numbers-left;
-      own-key-first = each-of-all (OwnKeyFirst node (saidBy (start bench) toShed report)) (λ pdu j h. absurd (omega arith)) (pdus (start bench) toShed report (replicate 29 0));
+      sent = goes-out (start bench) shed toShed report (replicate pduOctets 0) between request-accepted (omega arith) numbers-left;
+      own-key-first = each-of-all (OwnKeyFirst node (saidBy (start bench) toShed report)) (λ pdu j h. absurd (omega arith)) (pdus (start bench) toShed report (replicate pduOctets 0));
     }

@@ -20,6 +20,7 @@ use Rattle.network.specs.Sealing.{sealing}
 use Rattle.transport.specs.declared.securing.Envelope.{Envelope}
 use Rattle.memory.specs.declared.outgoing.Outgoing.{Outgoing}
 use Rattle.memory.specs.declared.pair.Pair.{Pair}
+use Rattle.node.specs.Addresses.{elementPlaces}
 use Rattle.receiver.specs.declared.give_up.GivenUp.{GivenUp}
 use Rattle.receiver.specs.declared.answer.Refusal.{Refusal}
 use Rattle.receiver.specs.declared.state.Receiver.{Receiver}
@@ -62,7 +63,7 @@ module _ (r : Receiver) (element iv : ℕ) (buf : List ℕ) where
   pub record Speaks (o : Outcome) : Type 0 where
     pub rises : (any : ℕ) → nextSeq r any ≤ nextSeq (o .receiver) any
     pub takes : o .made ≡ true → Takes o
-    pub within : o .made ≡ true → element < 8
+    pub within : o .made ≡ true → element < elementPlaces
 
   -- nothing is made, and every next SEQ stays
   silent : (o : Outcome) → o .made ≡ false → o .receiver .next ≡ r .next → Speaks o
@@ -80,7 +81,7 @@ module _ (r : Receiver) (element iv : ℕ) (buf : List ℕ) where
   refused n = silent (leftSaid (lent (refusedAt r n) buf)) refl refl
 
   -- the PDU of this header was sent, and q is left
-  module _ (low : element < 8) (h : Header) (i : stamped r element h .iv ≡ iv) (c : Sends r element h buf) (a : Answer) (q : Receiver) (next : q .next ≡ used r element .next)
+  module _ (low : element < elementPlaces) (h : Header) (i : stamped r element h .iv ≡ iv) (c : Sends r element h buf) (a : Answer) (q : Receiver) (next : q .next ≡ used r element .next)
       (long : lengthBy a ≡ length (pduBy r element h)) where
     takes-sent : Takes (leftSaid (lent (record { answer = a; receiver = q }) (onto (pduBy r element h) buf)))
     takes-sent =
@@ -98,17 +99,17 @@ module _ (r : Receiver) (element iv : ℕ) (buf : List ℕ) where
     speaks-sent =
         record { rises = λ any. rw next (used-rises r element any); takes = λ _. takes-sent; within = λ _. low }
 
-  said : (low : element < 8) (h : Header) → stamped r element h .iv ≡ iv → Speaking (saying r element h buf)
+  said : (low : element < elementPlaces) (h : Header) → stamped r element h .iv ≡ iv → Speaking (saying r element h buf)
   said low h i = by-saying r element h buf Speaking refused (λ c. speaks-sent low h i c _ (used r element) refl refl)
 
-  started : (low : element < 8) (o : Outgoing) → o .auth .iv ≡ iv → Speaking (starting r element o buf)
+  started : (low : element < elementPlaces) (o : Outgoing) → o .auth .iv ≡ iv → Speaking (starting r element o buf)
   started low o i =
       by-starting r element o buf Speaking refused
       (λ c. speaks-sent low (segmentHeader o 0) (ap (λ (h : Header). h .iv) (segment-out r element o 0) ∙ i) c _ (withOutgoing (used r element) o) refl refl)
 
 -- ---- the calls
 -- the element of a request that is allowed is one of eight
-element-low : (r : Receiver) (q : Request) → Asked (r .node) q → q .element < 8
+element-low : (r : Receiver) (q : Request) → Asked (r .node) q → q .element < elementPlaces
 element-low r q a = omega arith
 
 given-next : (r : Receiver) (src : ℕ) → givingUp r src .receiver .next ≡ r .next

@@ -20,17 +20,18 @@ use Rattle.common.proofs.Tests.{by-test}
 use Rattle.keys.specs.declared.NetworkKeys.{NetworkKeys}
 use Rattle.network.specs.declared.header.Header.{Header}
 use Rattle.network.specs.Candidates.{keyAt}
-use Rattle.network.specs.Pdu.{pduOf}
+use Rattle.network.specs.Pdu.{pduOctets, pduOf}
 use Rattle.network.specs.Sealing.{sealable}
 use Rattle.network.specs.SealOpen.{Receives}
 use Rattle.network.proofs.AddressLaws.{unicast-some, allowed-source}
 use Rattle.network.proofs.Sealed.{within}
-use Rattle.transport.specs.Segment.{accessOctet, controlOctet}
+use Rattle.transport.specs.Segment.{messageOctets, accessOctet, controlOctet}
 use Rattle.memory.specs.declared.outgoing.Outgoing.{Outgoing}
 use Rattle.memory.specs.declared.session.Terms.{Terms}
 use Rattle.node.specs.declared.addresses.Node.{Node}
 use Rattle.node.specs.declared.setup.Setup.{Setup}
 use Rattle.node.specs.Made.{WellMade}
+use Rattle.node.specs.Addresses.{elementPlaces}
 use Rattle.receiver.specs.declared.state.Receiver.{Receiver}
 use Rattle.receiver.proofs.Good.{good-fresh}
 use Rattle.sending.specs.declared.answer.Spoken.{Spoken}
@@ -62,7 +63,7 @@ each-place P f n (suc m) e j l h =
     (λ t. let q = eqb-false j n t in each-place P f (suc n) m (e .1) j (omega arith) (omega arith))
 
 module _ (sender : Receiver) (setup : Setup) (q : Request) (words : Words) (buf fwd msg : List ℕ) (p : Sending sender setup q words buf)
-    (wide : 29 ≤ length fwd) (big : 384 ≤ length msg) where
+    (wide : pduOctets ≤ length fwd) (big : messageOctets ≤ length msg) where
   abbrev node : Node
   node = nodeOf setup
 
@@ -113,7 +114,7 @@ module _ (sender : Receiver) (setup : Setup) (q : Request) (words : Words) (buf 
     abbrev first : ℕ
     first = nextSeq sender (q .element)
 
-    there : q .element < min (sender .node .elements) 8
+    there : q .element < min (sender .node .elements) elementPlaces
     there = request-of sender node (p .between .shared) q words a .element-there
 
     keeping : Kept sender node (p .between .shared) q s o
@@ -252,7 +253,7 @@ module _ (sender : Receiver) (setup : Setup) (q : Request) (words : Words) (buf 
         (record { hands = ap (λ (x : List Handed). x ∷ []) (g .hands); stores = tt {0}; counts = ap (λ (x : Tried). x ∷ []) (g .counts) })
 
 -- ---- the promise
-module _ (sender : Receiver) (setup : Setup) (q : Request) (buf fwd msg : List ℕ) (wide : 29 ≤ length fwd) (big : 384 ≤ length msg) where
+module _ (sender : Receiver) (setup : Setup) (q : Request) (buf fwd msg : List ℕ) (wide : pduOctets ≤ length fwd) (big : messageOctets ≤ length msg) where
   read-whole :
       (words : Words) (p : Sending sender setup q words buf) → allowedAs sender q words ≡ true → wholeAs sender q words ≡ true
       → (b : SaidBy sender (q .element) (headerAs sender q words) (sendingAs sender q words buf))

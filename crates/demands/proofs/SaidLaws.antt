@@ -13,13 +13,14 @@ use native.Mathlib.Omega.{arith}
 use borrow.Author.Tests.{eq-eqb, lt-ltb, leb-false}
 use lib.ListN.{length, take}
 use Rattle.network.specs.declared.header.Header.{Header}
+use Rattle.network.specs.Candidates.{networkKeyPlaces}
 use Rattle.transport.specs.declared.securing.Envelope.{Envelope}
 use Rattle.transport.specs.declared.securing.MessageKey.{MessageKey}
 use Rattle.transport.specs.declared.securing.MessageKey.the-variants.{Application, Device}
 use Rattle.transport.specs.Ranges.{OpcodeInRange}
 use Rattle.transport.specs.SecureOpen as message
-use Rattle.transport.specs.Securing.{secured, applicationKeyAt}
-use Rattle.transport.specs.Segment.{accessOctet, controlOctet}
+use Rattle.transport.specs.Securing.{applicationKeyPlaces, secured, applicationKeyAt}
+use Rattle.transport.specs.Segment.{messageOctets, accessOctet, controlOctet}
 use Rattle.transport.proofs.SecureOpen.{secured-length}
 use Rattle.memory.specs.declared.outgoing.Outgoing.{Outgoing}
 use Rattle.node.specs.declared.addresses.Node.{Node}
@@ -51,7 +52,7 @@ module _ (sender : Receiver) (node : Node) (shared : Shared (sender .node) node)
   pub key-same : (key : MessageKey) → access.keyAllowed (sender .node) q key ≡ true → KeySame key
   key-same (Application i) a =
       let h = application-there (sender .node) q i a .0 in
-      let four = lt-ltb i 4 (omega arith) in
+      let four = lt-ltb i applicationKeyPlaces (omega arith) in
       record {
         akf-same = rw four refl;
         aid-same = rw (four, shared .appkeys-same) refl;
@@ -83,10 +84,10 @@ module _ (sender : Receiver) (node : Node) (shared : Shared (sender .node) node)
     unfolding octetsOf
     octets-same = let c = key-same key keys-allowed in rw (c .key-same, envelope-same) refl
 
-    pub access-fits : Fits payload (octetsOf node s) 384
+    pub access-fits : Fits payload (octetsOf node s) messageOctets
     access-fits =
         let l = secured-length (k .key) e payload in
-        record { some = passed .some-payload; enough = subst (λ (c : List ℕ). length c ≤ 384) octets-same (rw l (rw envelope-same (passed .payload-most))) }
+        record { some = passed .some-payload; enough = subst (λ (c : List ℕ). length c ≤ messageOctets) octets-same (rw l (rw envelope-same (passed .payload-most))) }
 
     -- the receiver holds the key, and it is the first that opens the message
     application-reads :
@@ -135,7 +136,7 @@ module _ (sender : Receiver) (node : Node) (shared : Shared (sender .node) node)
     near =
         subst (λ (i : ℕ). (sendingIv (sender .node) ≡ i) ⊎ (sendingIv (sender .node) + 1 ≡ i)) (shared .iv-same) (sending-near (sender .node) made)
 
-  pub held : (words : Words) → allowedAs sender q words ≡ true → q .network < min (node .networks) 4
+  pub held : (words : Words) → allowedAs sender q words ≡ true → q .network < min (node .networks) networkKeyPlaces
   held words a = rw (sym (shared .networks-same)) (request-of words a .network-there)
 
   -- ---- what is kept

@@ -14,6 +14,8 @@ use Rattle.common.specs.Bits.{hasBit, withBit, allBits}
 use Rattle.common.specs.Lists.{tabFrom}
 use Rattle.common.proofs.BitLaws.{has-none, has-all, all-bound, has-all-above, with-of-clear, has-with-own, has-with-other, all-of-bits}
 use Rattle.common.proofs.Tests.{by-test}
+use Rattle.network.specs.Pdu.{pduOctets}
+use Rattle.transport.specs.Segment.{messageOctets}
 use Rattle.node.specs.declared.addresses.Node.{Node}
 use Rattle.node.specs.Made.{WellMade}
 use Rattle.receiver.specs.declared.state.Receiver.{Receiver}
@@ -66,7 +68,7 @@ not-last n last b h = rw (below-clear n, below-more n (omega arith), ne-eqb (all
 
 -- ---- heard in order
 module _ (node : Node) (made : WellMade node) (s : Speech) (w : Speakable node s) (spent : Spent) (number : ℕ → ℕ) (ttl : ℕ) (fwd msg : List ℕ)
-    (wide : 29 ≤ length fwd) (big : 384 ≤ length msg)
+    (wide : pduOctets ≤ length fwd) (big : messageOctets ≤ length msg)
     (sent : (n : ℕ) → n ≤ lastOf node s → scene.Sent node (s ∷ []) spent 0 n (number n) ttl) where
   abbrev pduAt : ℕ → List ℕ
   pduAt n = segmentPdu node s n (number n) ttl

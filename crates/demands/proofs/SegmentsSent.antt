@@ -20,6 +20,7 @@ use Rattle.memory.specs.declared.outgoing.Outgoing.{Outgoing}
 use Rattle.node.specs.declared.addresses.Node.{Node}
 use Rattle.node.specs.Index.{SameFixed}
 use Rattle.node.specs.Made.{WellMade}
+use Rattle.node.specs.Addresses.{elementPlaces}
 use Rattle.receiver.specs.declared.state.Receiver.{Receiver}
 use Rattle.sending.specs.declared.answer.Spoken.{Spoken}
 use Rattle.sending.specs.declared.request.Request.{Request}
@@ -37,7 +38,7 @@ use Rattle.demands.proofs.SaidLaws.{Kept, header-said, key-said}
 use Rattle.demands.proofs.SentLaws.{Transmits, SaidBy, said-by}
 
 module _ (sender : Receiver) (made-node : WellMade (sender .node)) (node : Node) (shared : Shared (sender .node) node) (q : Request)
-    (there : q .element < min (sender .node .elements) 8) (s : Speech) (src-is : addressOf (sender .node) (q .element) ≡ s .src)
+    (there : q .element < min (sender .node .elements) elementPlaces) (s : Speech) (src-is : addressOf (sender .node) (q .element) ≡ s .src)
     (o : Outgoing) (kept : Kept sender node shared q s o) (first : ℕ) where
   abbrev element : ℕ
   element = q .element

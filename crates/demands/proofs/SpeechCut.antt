@@ -18,14 +18,14 @@ use Rattle.common.proofs.Tests.{by-test}
 use Rattle.transport.specs.declared.securing.Envelope.{Envelope}
 use Rattle.transport.specs.declared.securing.MessageKey.the-variants.{Application, Device}
 use Rattle.transport.specs.Securing.{secured}
-use Rattle.transport.specs.Segment.{fullOctets}
+use Rattle.transport.specs.Segment.{messageOctets, fullOctets}
 use Rattle.transport.proofs.SecureOpen.{secured-length}
 use Rattle.node.specs.declared.addresses.Node.{Node}
 use Rattle.demands.specs.Speech.{Words, Access, Control, Speech, isControl, cutOf, octetsOf, sizeOf, lastOf, WordsRead, Speakable}
 
 pub record Cut (node : Node) (s : Speech) : Type 0 where
   pub some : 1 ≤ length (octetsOf node s)
-  pub most : length (octetsOf node s) ≤ 384
+  pub most : length (octetsOf node s) ≤ messageOctets
   pub few : chunkCount (sizeOf s) (length (octetsOf node s)) ≤ 32
 
 pub size-bounds : (s : Speech) → (1 ≤ sizeOf s) × (sizeOf s ≤ 12)

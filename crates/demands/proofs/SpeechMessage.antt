@@ -18,6 +18,7 @@ use Rattle.transport.specs.declared.securing.Opened.the-variants.{Message}
 use Rattle.transport.specs.SecureOpen as message
 use Rattle.transport.specs.Securing.{applicationKeyAt, unsecuring}
 use Rattle.transport.proofs.SecureOpen.{secured-length, unsecure-secure, unsecure-secure-device}
+use Rattle.transport.specs.Segment.{messageOctets}
 use Rattle.node.specs.declared.addresses.Node.{Node}
 use Rattle.node.specs.Made.{WellMade}
 use Rattle.demands.specs.Speech.{Access, Speech, keyOf, aidOf, akfOf, envelopeOf, octetsOf, Fits, WordsRead, applicationPlace}
@@ -32,8 +33,8 @@ module _ (node : Node) (s : Speech) where
         unsecuring (node .appkeys) (node .applications) (node .device) (envelopeOf node s key szmic) (octetsOf node s) msg
         ≡ lent (Message key (applicationPlace node s (Access key szmic payload)) (length payload)) (onto payload msg)
 
-  module _ (made : WellMade node) (szmic : Bool) (payload msg : List ℕ) (room : 384 ≤ length msg) where
-    fits-here : (key : MessageKey) → s .words ≡ Access key szmic payload → Fits payload (octetsOf node s) 384 → message.Fits payload msg
+  module _ (made : WellMade node) (szmic : Bool) (payload msg : List ℕ) (room : messageOctets ≤ length msg) where
+    fits-here : (key : MessageKey) → s .words ≡ Access key szmic payload → Fits payload (octetsOf node s) messageOctets → message.Fits payload msg
     fits-here key e f =
         let l = secured-length (keyOf node key) (envelopeOf node s key szmic) payload in
         record { some-payload = f .some; short = let m = rw (cut-is node s (Access key szmic payload) e) at (f .enough) in omega arith; room = room }

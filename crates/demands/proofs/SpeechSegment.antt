@@ -36,7 +36,7 @@ use Rattle.transport.specs.Form.{segmentFits, formOf}
 use Rattle.transport.specs.LeadsBack.{SegmentOf}
 use Rattle.transport.specs.Ranges.{InRange, KeyInRange, OpcodeInRange}
 use Rattle.transport.specs.ReadsBack.{Carries, frontOf}
-use Rattle.transport.specs.Segment.{fullOctets}
+use Rattle.transport.specs.Segment.{messageOctets, fullOctets}
 use Rattle.transport.proofs.FormLaws.{fits-last, fits-full, key-application, key-device}
 use Rattle.transport.proofs.LeadsBack.{leads-back}
 use Rattle.transport.proofs.ReadsBack.{access-segment-reads-back, control-segment-reads-back}
@@ -181,7 +181,7 @@ module _ (node : Node) (s : Speech) (w : Speakable node s) (i : ℕ) (there : i 
     module _ (made : WellMade node) where
       taken-as : (r : Receiver) (msg : List ℕ) (ws : Words) → s .words ≡ ws → WordsRead node s ws → takenAs (formOf h) r h msg ≡ asSegment r msg
       taken-as r msg (Access key szmic payload) e q =
-          let o = message-opens node s made szmic payload (replicate 384 0) (omega arith) key e q in
+          let o = message-opens node s made szmic payload (replicate messageOctets 0) (omega arith) key e q in
           taken-access r msg key szmic payload e (o .aid-fits) (o .unicast)
       taken-as r msg (Control code parameters) e q = taken-control r msg code parameters e (q .1)
 

@@ -17,6 +17,7 @@ use Rattle.transport.specs.Fields.{opcode}
 use Rattle.transport.specs.Ranges.{OpcodeInRange}
 use Rattle.transport.specs.Securing.{unsecuring}
 use Rattle.transport.proofs.ReadsBack.{akf-access, aid-access, opcode-control}
+use Rattle.transport.specs.Segment.{messageOctets}
 use Rattle.memory.specs.declared.session.Session.{Session}
 use Rattle.node.specs.declared.addresses.Node.{Node}
 use Rattle.node.specs.Index.{SameFixed}
@@ -48,7 +49,7 @@ module _ (node : Node) (made : WellMade node) (s : Speech) (w : Speakable node s
       up msg
       ≡ lent (record { answer = handUp s .answer; trials = applicationPlace node s (s .words); receiver = segments.upgraded r session }) (onto (handUp s .octets) msg)
 
-  module _ (msg : List ℕ) (room : 384 ≤ length msg) (all : take len bytes ≡ octetsOf node s) where
+  module _ (msg : List ℕ) (room : messageOctets ≤ length msg) (all : take len bytes ≡ octetsOf node s) where
     envelope-is :
         (key : MessageKey) (szmic : Bool) (payload : List ℕ) → s .words ≡ Access key szmic payload → aidOf node key < 64
         → segments.sessionEnvelope session ≡ envelopeOf node s key szmic

@@ -18,6 +18,7 @@ use Rattle.common.specs.Lists.{onto}
 use Rattle.common.proofs.BitLaws.{has-none, has-all, has-with-own, with-of-set}
 use Rattle.common.proofs.Tests.{by-test}
 use Rattle.network.specs.declared.header.Header.{Header}
+use Rattle.transport.specs.Segment.{messageOctets}
 use Rattle.memory.specs.declared.replay.Entry.{Entry}
 use Rattle.memory.specs.declared.session.Session.{Session}
 use Rattle.memory.specs.declared.session.SessionKey.{SessionKey}
@@ -172,7 +173,7 @@ module _ (node : Node) (made : WellMade node) (s : Speech) (w : Speakable node s
             cache-stays = refl;
           }
 
-      pub gathered-steps : 384 ≤ length msg → Step node s r bits i (segments.gathered r slot session msg)
+      pub gathered-steps : messageOctets ≤ length msg → Step node s r bits i (segments.gathered r slot session msg)
       gathered-steps big =
           by-test (eqb filled (allBits (lastOf node s)))
           (λ c.
@@ -184,7 +185,7 @@ module _ (node : Node) (made : WellMade node) (s : Speech) (w : Speakable node s
           (λ c. subst (Step node s r bits i) (sym (gathered-stored r slot session msg (eqb-false filled (allBits (lastOf node s)) c))) (stored-step c))
 
     -- ---- at each stage
-    module _ (sent : s .dst ≡ 0 → ⊥) (big : 384 ≤ length msg) (seq ttl : ℕ) (room : hasRoom (r .replay) (s .src) ≡ true)
+    module _ (sent : s .dst ≡ 0 → ⊥) (big : messageOctets ≤ length msg) (seq ttl : ℕ) (room : hasRoom (r .replay) (s .src) ≡ true)
         (free : sessionSlots ≤ sessionPlace (r .sessions) (keyOf s) → freePlace (r .sessions) < sessionSlots) where
       abbrev h : Header
       h = headerOf node s i seq ttl
@@ -230,13 +231,13 @@ module _ (node : Node) (made : WellMade node) (s : Speech) (w : Speakable node s
           let within = free out in
           let long = g .session-places in
           let e = placed-open r h msg (segmentAt node s i) (unheard .other) room (unheard .newer) out within in
-          let holds = subst (λ (b : ℕ). Holds node s b 0 (replicate 384 0)) (sym zero) (holds-begun node s) in
-          let more = holds-more node s w bits 0 (replicate 384 0) holds i there seq ttl in
-          let new = newLen node s w bits 0 (replicate 384 0) holds i there seq ttl in
-          let laid = newBytes node s w bits 0 (replicate 384 0) holds i there seq ttl in
+          let holds = subst (λ (b : ℕ). Holds node s b 0 (replicate messageOctets 0)) (sym zero) (holds-begun node s) in
+          let more = holds-more node s w bits 0 (replicate messageOctets 0) holds i there seq ttl in
+          let new = newLen node s w bits 0 (replicate messageOctets 0) holds i there seq ttl in
+          let laid = newBytes node s w bits 0 (replicate messageOctets 0) holds i there seq ttl in
           let begins : stored (begun (s .src) (segmentAt node s i)) h i ≡ sessionOf node s (withBit bits i) new laid =
-          ap (λ (x : Session). stored x h i) (begun-is (s .src) (segmentAt node s i) ∙ ap (λ (b : ℕ). sessionOf node s b 0 (replicate 384 0)) (sym zero))
-          ∙ segment-stored node s w bits 0 (replicate 384 0) holds i there seq ttl in
+          ap (λ (x : Session). stored x h i) (begun-is (s .src) (segmentAt node s i) ∙ ap (λ (b : ℕ). sessionOf node s b 0 (replicate messageOctets 0)) (sym zero))
+          ∙ segment-stored node s w bits 0 (replicate messageOctets 0) holds i there seq ttl in
           subst (Step node s r bits i) (sym e)
           (rw begins
           (gathered-steps (rw zero (has-none i)) unheard room slot within (omega arith)

@@ -12,7 +12,7 @@ use Rattle.common.specs.Lists.{onto}
 use Rattle.network.specs.declared.header.Header.{Header}
 use Rattle.network.specs.Candidates.{keyAt, candidates}
 use Rattle.network.specs.Header.{transportOf}
-use Rattle.network.specs.Pdu.{pduOf}
+use Rattle.network.specs.Pdu.{pduOctets, pduOf}
 use Rattle.network.specs.Sealing.{sealable}
 use Rattle.network.specs.SealOpen.{Formed, Receives}
 use Rattle.network.proofs.SealOpen.{open-seal}
@@ -21,6 +21,7 @@ use Rattle.transport.specs.declared.securing.MessageKey.{MessageKey}
 use Rattle.transport.specs.declared.securing.Opened.the-variants.{Message}
 use Rattle.transport.specs.Form.{formOf}
 use Rattle.transport.specs.Securing.{unsecuring}
+use Rattle.transport.specs.Segment.{messageOctets}
 use Rattle.memory.specs.Cache.{remembered}
 use Rattle.node.specs.declared.setup.Setup.{Setup}
 use Rattle.node.specs.Addresses.{forNode}
@@ -44,7 +45,7 @@ pub record Reads (setup : Setup) (pdu fwd msg : List ℕ) (m : Handed) (n : Trie
 
 module _ (setup : Setup) (h : Header) (sealed : sealable (keyAt (nodeOf setup .materials) (h .key)) h ≡ true) (formed : Formed h)
     (receives : Receives (nodeOf setup .materials) (nodeOf setup .networks) (nodeOf setup .iv) h (pduOf (keyAt (nodeOf setup .materials) (h .key)) h))
-    (spoken : h .src ≡ 0 → ⊥) (here : forNode (nodeOf setup) (h .dst) ≡ true) (fwd msg : List ℕ) (wide : 29 ≤ length fwd) (big : 384 ≤ length msg) where
+    (spoken : h .src ≡ 0 → ⊥) (here : forNode (nodeOf setup) (h .dst) ≡ true) (fwd msg : List ℕ) (wide : pduOctets ≤ length fwd) (big : messageOctets ≤ length msg) where
   abbrev pdu : List ℕ
   pdu = pduOf (keyAt (nodeOf setup .materials) (h .key)) h
 

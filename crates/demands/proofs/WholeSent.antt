@@ -13,7 +13,7 @@ use Rattle.network.specs.declared.header.Header.{Header}
 use Rattle.network.specs.Address.{isUnicast}
 use Rattle.network.specs.Candidates.{keyAt}
 use Rattle.network.specs.Header.{transportOf}
-use Rattle.network.specs.Pdu.{pduOf}
+use Rattle.network.specs.Pdu.{pduOctets, pduOf}
 use Rattle.network.specs.Sealing.{sealable}
 use Rattle.network.specs.SealOpen.{Formed, Receives}
 use Rattle.network.proofs.TrialLaws.{onto-zeros, take-padded}
@@ -21,7 +21,7 @@ use Rattle.transport.specs.declared.securing.MessageKey.{MessageKey}
 use Rattle.transport.specs.declared.securing.MessageKey.the-variants.{Application, Device}
 use Rattle.transport.specs.Ranges.{KeyInRange, OpcodeInRange}
 use Rattle.transport.specs.ReadsBack.{Carries}
-use Rattle.transport.specs.Segment.{accessOctet, controlOctet}
+use Rattle.transport.specs.Segment.{messageOctets, accessOctet, controlOctet}
 use Rattle.transport.proofs.FormLaws.{key-application, key-device}
 use Rattle.transport.proofs.ReadsBack.{access-reads-back, control-reads-back}
 use Rattle.transport.proofs.SecureOpen.{secured-length}
@@ -57,8 +57,8 @@ pub record Passes (setup : Setup) (s : Speech) (h : Header) (fwd msg : List ℕ)
   pub spoken : s .src ≡ 0 → ⊥
   pub here : forNode (nodeOf setup) (s .dst) ≡ true
   pub dst-fits : s .dst < 65536
-  pub wide : 29 ≤ length fwd
-  pub big : 384 ≤ length msg
+  pub wide : pduOctets ≤ length fwd
+  pub big : messageOctets ≤ length msg
 
 module _ (setup : Setup) (s : Speech) (ttl : ℕ) (fwd msg : List ℕ) where
   abbrev node : Node

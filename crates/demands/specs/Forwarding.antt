@@ -12,8 +12,9 @@ use Rattle.network.specs.declared.header.Header.{Header}
 use Rattle.network.specs.declared.opening.Answer.the-variants.{Opened}
 use Rattle.network.specs.Candidates.{keyAt}
 use Rattle.network.specs.Opening.{opening}
-use Rattle.network.specs.Pdu.{pduOf}
+use Rattle.network.specs.Pdu.{pduOctets, pduOf}
 use Rattle.network.specs.Sealing.{forwards, lowered}
+use Rattle.transport.specs.Segment.{messageOctets}
 use Rattle.memory.specs.Cache.{seen}
 use Rattle.node.specs.Addresses.{isLocal}
 use Rattle.receiver.specs.declared.state.Receiver.{Receiver}
@@ -22,8 +23,8 @@ use Rattle.receiver.specs.Hearing.{hearing}
 
 -- a PDU passes refusals 16 and 1 to 5, and opens to h
 pub record Passes (r : Receiver) (pdu fwd msg : List ℕ) (trials : ℕ) (h : Header) : Type 0 where
-  pub wide : 29 ≤ length fwd
-  pub big : 384 ≤ length msg
+  pub wide : pduOctets ≤ length fwd
+  pub big : messageOctets ≤ length msg
   pub opens : opening (r .node .materials) (r .node .networks) (r .node .iv) pdu ≡ record { answer = Opened; trials = trials; header = h }
   pub new : seen (r .cache) h ≡ false
 

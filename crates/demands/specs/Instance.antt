@@ -12,9 +12,10 @@ use lib.ListN.{replicate}
 use Rattle.common.specs.Lists.{padded, Octets}
 use Rattle.network.specs.declared.header.Header.{Header}
 use Rattle.network.specs.Candidates.{keyAt}
-use Rattle.network.specs.Pdu.{pduOf}
+use Rattle.network.specs.Pdu.{pduOctets, pduOf}
 use Rattle.network.specs.Sealing.{forwards}
 use Rattle.transport.specs.declared.securing.MessageKey.the-variants.{Application}
+use Rattle.transport.specs.Segment.{messageOctets}
 use Rattle.node.specs.declared.setup.Setup.{Setup}
 use Rattle.node.specs.Addresses.{isLocal}
 use Rattle.node.specs.Setup.{nothing, withNetworkKey, withApplicationKey, withDeviceKey, withElements, withIndex}
@@ -58,7 +59,7 @@ abbrev pub boxes : List Speech
 boxes = humidity ∷ temperature ∷ []
 
 abbrev pub arrival : Event → Arrival
-arrival e = record { event = e; forward = replicate 29 0; message = replicate 384 0 }
+arrival e = record { event = e; forward = replicate pduOctets 0; message = replicate messageOctets 0 }
 
 abbrev pub traffic : List Arrival
 traffic =
@@ -89,7 +90,7 @@ abbrev pub report : Words
 report = Access (Application 0) true (replicate 20 0x5a)
 
 abbrev pub SendingMet : Type 0
-SendingMet = Sending (start bench) shed toShed report (replicate 29 0)
+SendingMet = Sending (start bench) shed toShed report (replicate pduOctets 0)
 
 -- ---- forwarding
 -- one box sends another a control message of three parameters, TTL 5; the shed, whose relay is on, hears it
@@ -114,6 +115,6 @@ abbrev pub ForwardingMet : Type 0
 ForwardingMet =
     Good (start shed)
     × Octets passingPdu
-    × Passes (start shed) passingPdu (replicate 29 0) (replicate 384 0) 1 passing
+    × Passes (start shed) passingPdu (replicate pduOctets 0) (replicate messageOctets 0) 1 passing
     -- and it is one that is forwarded
     × (forwards (nodeOf shed .relay) (isLocal (nodeOf shed) (passing .dst)) passing ≡ true)

@@ -20,7 +20,9 @@ use Rattle.common.specs.Search.{picked}
 use Rattle.network.specs.Address.{isUnicast}
 use Rattle.network.specs.Opening.{opening}
 use Rattle.network.specs.SealOpen as network
+use Rattle.network.specs.Pdu.{pduOctets}
 use Rattle.transport.specs.LeadsBack.{SegmentOf}
+use Rattle.transport.specs.Segment.{messageOctets}
 use Rattle.memory.specs.Replay.{lookUp}
 use Rattle.memory.specs.Session.{noSessions}
 use Rattle.node.specs.declared.addresses.Node.{Node}
@@ -133,8 +135,8 @@ Comes node speeches spent (Ask net src) = Unit {0}
 pub record Arrives (node : Node) (speeches : List Speech) (spent : Spent) (a : Arrival) : Type 0 where
   pub comes : Comes node speeches spent (a .event)
   -- the buffers are not refused 16
-  pub room-forward : 29 ≤ length (a .forward)
-  pub room-message : 384 ≤ length (a .message)
+  pub room-forward : pduOctets ≤ length (a .forward)
+  pub room-message : messageOctets ≤ length (a .message)
 
 abbrev pub Each : {A : Type 0} → (A → Type 0) → List A → Type 0
 Each P [] = Unit {0}
@@ -205,7 +207,7 @@ Acknowledges =
     → (let s = speechAt speeches k in
     let r = behind setup speeches before in
     -- a segment has come, DST is unicast, the network key is there, and so is the buffer
-    (come k before ≡ 0 → ⊥) → isUnicast (s .dst) ≡ true → net < nodeOf setup .networks → 29 ≤ length buf
+    (come k before ≡ 0 → ⊥) → isUnicast (s .dst) ≡ true → net < nodeOf setup .networks → pduOctets ≤ length buf
     → acknowledging r net (s .src) buf
     ≡ sayingAcknowledgement r (elementOf (nodeOf setup) (s .dst)) net (s .src) (record { auth = s .auth; dst = s .dst; bits = come k before }) buf)
 

@@ -13,8 +13,10 @@ use Prim.Native.Nat.{ℕ, _+_, _≤_, _<_}
 use lib.ListN.{length, take}
 use Rattle.common.specs.Lists.{tabFrom}
 use Rattle.network.specs.Candidates.{keyAt, opens}
+use Rattle.network.specs.Pdu.{pduOctets}
 use Rattle.transport.specs.declared.securing.MessageKey.the-variants.{Application, Device}
 use Rattle.transport.specs.Securing.{applicationKeyAt, fitsKey, openedBy}
+use Rattle.transport.specs.Segment.{messageOctets}
 use Rattle.node.specs.declared.addresses.Node.{Node}
 use Rattle.node.specs.declared.setup.Setup.{Setup}
 use Rattle.node.specs.Addresses.{forNode}
@@ -141,7 +143,7 @@ ReadBack =
     (sender : Receiver) (setup : Setup) (q : Request) (words : Words) (buf fwd msg : List ℕ)
     → Sending sender setup q words buf
     -- the receiver's buffers are not refused 16
-    → 29 ≤ length fwd → 384 ≤ length msg
+    → pduOctets ≤ length fwd → messageOctets ≤ length msg
     → Heard setup (saidBy sender q words) fwd msg (pdus sender q words buf)
 
 -- ---- what sending accepts goes out in full
@@ -154,5 +156,5 @@ accepted sender q (Control opcode parameters) = controlAllowed sender q opcode (
 abbrev pub GoesOut : Type 0
 GoesOut =
     (sender : Receiver) (setup : Setup) (q : Request) (words : Words) (buf : List ℕ)
-    → Between sender setup q words → accepted sender q words ≡ true → 29 ≤ length buf → nextSeq sender (q .element) + 31 ≤ 0xFFFFFF
+    → Between sender setup q words → accepted sender q words ≡ true → pduOctets ≤ length buf → nextSeq sender (q .element) + 31 ≤ 0xFFFFFF
     → Each (λ o. o .made ≡ true) (outcomes sender q words buf)

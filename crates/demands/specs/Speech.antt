@@ -18,7 +18,7 @@ use Rattle.common.specs.Chunks.{chunk, chunkCount}
 use Rattle.common.specs.Lists.{padded}
 use Rattle.network.specs.declared.header.Header.{Header}
 use Rattle.network.specs.Address.{isUnicast}
-use Rattle.network.specs.Candidates.{keyAt, candidates}
+use Rattle.network.specs.Candidates.{networkKeyPlaces, keyAt, candidates}
 use Rattle.network.specs.Pdu.{pduOf}
 use Rattle.transport.specs.declared.securing.Envelope.{Envelope}
 use Rattle.transport.specs.declared.securing.MessageKey.{MessageKey}
@@ -26,7 +26,7 @@ use Rattle.transport.specs.declared.securing.MessageKey.the-variants.{Applicati
 use Rattle.transport.specs.Ranges.{OpcodeInRange}
 use Rattle.transport.specs.SecureOpen as message
 use Rattle.transport.specs.Securing.{secured, applicationKeyAt, applicationCandidates}
-use Rattle.transport.specs.Segment.{accessOctet, controlOctet, fullOctets, segmentFront}
+use Rattle.transport.specs.Segment.{messageOctets, accessOctet, controlOctet, fullOctets, segmentFront}
 use Rattle.memory.specs.declared.pair.Pair.{Pair}
 use Rattle.node.specs.declared.addresses.Node.{Node}
 use Rattle.node.specs.Addresses.{forNode}
@@ -139,10 +139,10 @@ pub record Fits (payload cut : List ℕ) (most : ℕ) : Type 0 where
 -- device key needs a unicast DST. A control message has 256 octets at most, and an opcode of 0x01-0x7F.
 abbrev pub WordsRead : Node → Speech → Words → Type 0
 WordsRead node s (Access (Application i) szmic payload) =
-    Fits payload (octetsOf node s) 384
-    × ((msg : List ℕ) → 384 ≤ length msg
+    Fits payload (octetsOf node s) messageOctets
+    × ((msg : List ℕ) → messageOctets ≤ length msg
     → message.Receives (node .appkeys) (node .applications) i (envelopeOf node s (Application i) szmic) (octetsOf node s) msg)
-WordsRead node s (Access Device szmic payload) = Fits payload (octetsOf node s) 384 × (isUnicast (s .dst) ≡ true)
+WordsRead node s (Access Device szmic payload) = Fits payload (octetsOf node s) messageOctets × (isUnicast (s .dst) ≡ true)
 WordsRead node s (Control opcode parameters) = Fits parameters parameters 256 × OpcodeInRange opcode
 
 pub record Speakable (node : Node) (s : Speech) : Type 0 where
@@ -151,7 +151,7 @@ pub record Speakable (node : Node) (s : Speech) : Type 0 where
   -- DST has 16 bits
   pub dst-fits : s .dst < 65536
   -- the network key is held, and the IV Index is the current one or the one before
-  pub held : s .network < min (node .networks) 4
+  pub held : s .network < min (node .networks) networkKeyPlaces
   pub near : (s .auth .iv ≡ node .iv) ⊎ (s .auth .iv + 1 ≡ node .iv)
   pub words-read : WordsRead node s (s .words)
 

@@ -14,6 +14,7 @@ use Rattle.common.specs.Lists.{onto}
 use Rattle.common.proofs.Tests.{by-test}
 use Rattle.network.specs.declared.header.Header.{Header}
 use Rattle.network.specs.Header.{transportOf}
+use Rattle.transport.specs.Segment.{messageOctets}
 use Rattle.memory.specs.declared.session.Terms.{Terms}
 use Rattle.memory.specs.declared.session.Session.{Session}
 use Rattle.memory.specs.Session.{sameBit, sameTerms, octetPlace, segmentOctets, lengthWith}
@@ -98,15 +99,15 @@ module _ (t : List ℕ) (len : ℕ) where
 
   -- copied onto what lies from `at` on, where there is room for them
   pub octets-put :
-      (b : List ℕ) (at : ℕ) {n : ℕ} {y : List ℕ} → length b ≡ 384 → at ≤ 372 → n ≡ 4 + length (drop 4 (take len t)) → n ≤ 16
-      → y ≡ onto (take (length (take (384 - at) (drop at b))) (take (n - 4) (drop 4 t))) (take (384 - at) (drop at b))
-      → take at b ++ (y ++ drop (384 - at) (drop at b)) ≡ take at b ++ onto (drop 4 (take len t)) (drop at b)
+      (b : List ℕ) (at : ℕ) {n : ℕ} {y : List ℕ} → length b ≡ messageOctets → at ≤ 372 → n ≡ 4 + length (drop 4 (take len t)) → n ≤ 16
+      → y ≡ onto (take (length (take (messageOctets - at) (drop at b))) (take (n - 4) (drop 4 t))) (take (messageOctets - at) (drop at b))
+      → take at b ++ (y ++ drop (messageOctets - at) (drop at b)) ≡ take at b ++ onto (drop 4 (take len t)) (drop at b)
   octets-put b at {n} {y} eb ha en hn ey =
       let d = drop at b in
       let o = drop 4 (take len t) in
-      let ld : length d ≡ 384 - at = length-drop at b ∙ ap (λ (k : ℕ). k - at) eb in
-      let whole : take (384 - at) d ≡ d = take-all (384 - at) d (omega arith) in
-      let none : drop (384 - at) d ≡ [] = drop-of-length-le d {i = 384 - at} (omega arith) in
+      let ld : length d ≡ messageOctets - at = length-drop at b ∙ ap (λ (k : ℕ). k - at) eb in
+      let whole : take (messageOctets - at) d ≡ d = take-all (messageOctets - at) d (omega arith) in
+      let none : drop (messageOctets - at) d ≡ [] = drop-of-length-le d {i = messageOctets - at} (omega arith) in
       let k : n - 4 ≡ length o = omega arith in
       let part : take (n - 4) (drop 4 t) ≡ o = ap (λ (m : ℕ). take m (drop 4 t)) k ∙ octets-part in
       let room : take (length d) o ≡ o = take-all (length d) o (omega arith) in

@@ -12,14 +12,14 @@ use Rattle.common.specs.Bits.{withBit}
 use Rattle.common.proofs.Onto.{length-laid, laid-read, laid-before, laid-behind}
 use Rattle.network.specs.declared.header.Header.{Header}
 use Rattle.network.specs.Header.{transportOf}
-use Rattle.transport.specs.Segment.{fullOctets}
+use Rattle.transport.specs.Segment.{messageOctets, fullOctets}
 use Rattle.memory.specs.declared.session.Segment.{Segment}
 use Rattle.memory.specs.declared.session.Session.{Session}
 use Rattle.memory.specs.Session.{begun, octetPlace, segmentOctets, lengthWith, stored}
 use Rattle.memory.proofs.SessionLaws.{place-most, octets-length}
 
 -- ---- the parts
-pub begun-is : (src : ℕ) (seg : Segment) → begun src seg ≡ record { src = src; auth = seg .auth; terms = seg .terms; filled = 0; len = 0; bytes = replicate 384 0 }
+pub begun-is : (src : ℕ) (seg : Segment) → begun src seg ≡ record { src = src; auth = seg .auth; terms = seg .terms; filled = 0; len = 0; bytes = replicate messageOctets 0 }
 unfolding begun
 begun-is src seg = refl
 
@@ -45,11 +45,11 @@ pub octets-most : (h : Header) → length (h .transport) ≡ 16 → length (segm
 unfolding segmentOctets
 octets-most h e = omega (arith, octets-length (h .transport) (h .len) e)
 
-module _ (s : Session) (h : Header) (segO : ℕ) (long : length (s .bytes) ≡ 384) (sixteen : length (h .transport) ≡ 16) where
+module _ (s : Session) (h : Header) (segO : ℕ) (long : length (s .bytes) ≡ messageOctets) (sixteen : length (h .transport) ≡ 16) where
   fits : octetPlace (s .terms .ctl) segO + length (segmentOctets h) ≤ length (s .bytes)
   fits = omega (arith, place-most (s .terms .ctl) segO, octets-most h sixteen)
 
-  pub length-stored : length (stored s h segO .bytes) ≡ 384
+  pub length-stored : length (stored s h segO .bytes) ≡ messageOctets
   unfolding stored
   length-stored = length-laid (segmentOctets h) (s .bytes) (octetPlace (s .terms .ctl) segO) fits ∙ long
 

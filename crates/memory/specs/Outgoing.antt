@@ -9,12 +9,13 @@ use lib.ListN.{replicate}
 use Rattle.common.specs.Bits.{allBits}
 use Rattle.common.specs.Choice.{if_then_else_}
 use Rattle.network.specs.declared.header.Header.{Header}
+use Rattle.transport.specs.Segment.{messageOctets}
 use Rattle.memory.specs.declared.outgoing.Outgoing.{Outgoing}
 use Rattle.memory.specs.declared.outgoing.Acknowledged.{Acknowledged}
 use Rattle.memory.specs.declared.outgoing.Effect.{Effect}
 use Rattle.memory.specs.declared.outgoing.Effect.the-variants.{Nothing, Marked, Completed, Cancelled}
 use Rattle.memory.specs.Pair.{noPair}
-use Rattle.memory.specs.Session.{messageOctets, noTerms}
+use Rattle.memory.specs.Session.{noTerms}
 
 -- nothing is kept: zeros
 abbrev pub noOutgoing : Outgoing

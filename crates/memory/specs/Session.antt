@@ -20,7 +20,7 @@ use Rattle.common.specs.Lists.{onto}
 use Rattle.common.specs.Search.{first}
 use Rattle.network.specs.declared.header.Header.{Header}
 use Rattle.network.specs.Header.{transportOf}
-use Rattle.transport.specs.Segment.{fullOctets}
+use Rattle.transport.specs.Segment.{messageOctets, fullOctets}
 use Rattle.memory.specs.declared.session.Terms.{Terms}
 use Rattle.memory.specs.declared.session.Segment.{Segment}
 use Rattle.memory.specs.declared.session.Session.{Session}
@@ -30,10 +30,6 @@ use Rattle.memory.specs.Pair.{noPair}
 -- how many slots there are
 abbrev pub sessionSlots : ℕ
 sessionSlots = 8
-
--- the octets of the longest message
-abbrev pub messageOctets : ℕ
-messageOctets = 384
 
 abbrev pub noTerms : Terms
 noTerms = record { ctl = false; first = 0; szmic = false; segn = 0; dst = 0; key = 0 }

@@ -11,8 +11,8 @@ ghost use Rattle.memory.specs.Session.{noSession, segmentKey, sessionPla
 // How many slots there are.
 pub const SLOTS: usize = 8;
 
-// The octets of the longest message.
-pub const MESSAGE: usize = 384;
+// The most octets that a message has.
+pub const MESSAGE: usize = transport::securing::MESSAGE;
 
 // What all segments of a message share: a segment that joins a session may differ in none of it.
 pub struct Terms {

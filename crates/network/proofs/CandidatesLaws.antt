@@ -15,7 +15,7 @@ use Rattle.common.proofs.Picked.{places, length-places, place-at, picked-end, p
 use Rattle.common.proofs.Trials.{Visited, visited-start, visited-pass, visited-tried, visited-opens, visited-end, tries-each}
 use Rattle.keys.specs.declared.NetworkKeys.{NetworkKeys}
 use Rattle.network.specs.declared.trial.Trial.{Trial}
-use Rattle.network.specs.Candidates.{keyAt, candidates, opens, foundBy, searched}
+use Rattle.network.specs.Candidates.{networkKeyPlaces, keyAt, candidates, opens, foundBy, searched}
 use Rattle.network.specs.Header.{noHeader}
 use Rattle.network.specs.Trial.{tried}
 
@@ -24,42 +24,42 @@ module _ (keys : List NetworkKeys) (count nid : ℕ) where
   abbrev pub hasNid : ℕ → Bool
   hasNid i = eqb (keyAt keys i .nid) nid
 
-  pub candidates-are : candidates keys count nid ≡ picked hasNid (places (min count 4))
+  pub candidates-are : candidates keys count nid ≡ picked hasNid (places (min count networkKeyPlaces))
   unfolding candidates
   candidates-are = refl
 
   -- ---- whether there is a candidate, told from the NIDs alone
   -- the keys before place i are passed, and none of them is a candidate
   pub record Passed (i : ℕ) : Type 0 where
-    pub within : i ≤ min count 4
-    pub others : candidates keys count nid ≡ picked hasNid (drop i (places (min count 4)))
+    pub within : i ≤ min count networkKeyPlaces
+    pub others : candidates keys count nid ≡ picked hasNid (drop i (places (min count networkKeyPlaces)))
 
   pub none-passed : Passed 0
   none-passed = record { within = omega arith; others = candidates-are }
 
   module _ {i : ℕ} (s : Passed i) where
     -- past the last key
-    pub no-candidate : min count 4 ≤ i → true ≡ eqb (length (candidates keys count nid)) 0
+    pub no-candidate : min count networkKeyPlaces ≤ i → true ≡ eqb (length (candidates keys count nid)) 0
     no-candidate h =
-        let e = s .others ∙ picked-end hasNid (places (min count 4)) i (omega (arith, length-places (min count 4))) in
+        let e = s .others ∙ picked-end hasNid (places (min count networkKeyPlaces)) i (omega (arith, length-places (min count networkKeyPlaces))) in
         sym (eq-eqb _ _ (ap length e))
 
-    module _ (h : i < min count 4) where
-      there : i < length (places (min count 4))
-      there = omega (arith, length-places (min count 4))
+    module _ (h : i < min count networkKeyPlaces) where
+      there : i < length (places (min count networkKeyPlaces))
+      there = omega (arith, length-places (min count networkKeyPlaces))
 
-      here : hasNid (getD (places (min count 4)) i 0) ≡ hasNid i
-      here = ap hasNid (place-at (min count 4) i h)
+      here : hasNid (getD (places (min count networkKeyPlaces)) i 0) ≡ hasNid i
+      here = ap hasNid (place-at (min count networkKeyPlaces) i h)
 
       -- the key at i has another NID
       pub nid-passed : (keyAt keys i .nid ≡ nid → ⊥) → Passed (i + 1)
       nid-passed f =
-          record { within = omega arith; others = s .others ∙ picked-skip hasNid (places (min count 4)) i 0 there (here ∙ ne-eqb _ _ f) }
+          record { within = omega arith; others = s .others ∙ picked-skip hasNid (places (min count networkKeyPlaces)) i 0 there (here ∙ ne-eqb _ _ f) }
 
       -- the key at i has that NID
       pub some-candidate : keyAt keys i .nid ≡ nid → false ≡ eqb (length (candidates keys count nid)) 0
       some-candidate c =
-          let e = s .others ∙ picked-next hasNid (places (min count 4)) i 0 there (here ∙ eq-eqb _ _ c) in
+          let e = s .others ∙ picked-next hasNid (places (min count networkKeyPlaces)) i 0 there (here ∙ eq-eqb _ _ c) in
           let n : length (candidates keys count nid) ≡ 0 → ⊥ = λ z. omega (arith, ap length e) in
           sym (ne-eqb _ _ n)
 
@@ -67,21 +67,21 @@ module _ (keys : List NetworkKeys) (count nid : ℕ) where
   module _ (iv : ℕ) (pdu : List ℕ) where
     -- the keys before place i are done with, n of them were tried, and none of those opens the PDU
     abbrev pub Searching : ℕ → ℕ → Type 0
-    Searching i n = Visited hasNid (opens keys iv pdu) (min count 4) i n
+    Searching i n = Visited hasNid (opens keys iv pdu) (min count networkKeyPlaces) i n
 
     pub no-key-yet : Searching 0 0
-    no-key-yet = visited-start hasNid (opens keys iv pdu) (min count 4)
+    no-key-yet = visited-start hasNid (opens keys iv pdu) (min count networkKeyPlaces)
 
     module _ {i n : ℕ} (s : Searching i n) where
       -- past the last key
-      pub no-key-opens : min count 4 ≤ i → record { ok = false; trials = n; header = noHeader } ≡ searched keys count nid iv pdu
+      pub no-key-opens : min count networkKeyPlaces ≤ i → record { ok = false; trials = n; header = noHeader } ≡ searched keys count nid iv pdu
       unfolding searched
-      no-key-opens h = rw (candidates-are, visited-end hasNid (opens keys iv pdu) (min count 4) s h)
+      no-key-opens h = rw (candidates-are, visited-end hasNid (opens keys iv pdu) (min count networkKeyPlaces) s h)
 
-      module _ (h : i < min count 4) where
+      module _ (h : i < min count networkKeyPlaces) where
         -- the key at i has another NID
         pub key-passed : (keyAt keys i .nid ≡ nid → ⊥) → Searching (i + 1) n
-        key-passed f = visited-pass hasNid (opens keys iv pdu) (min count 4) s h (ne-eqb _ _ f)
+        key-passed f = visited-pass hasNid (opens keys iv pdu) (min count networkKeyPlaces) s h (ne-eqb _ _ f)
 
         -- it is a candidate
         module _ (c : keyAt keys i .nid ≡ nid) {t : Trial} (e : t ≡ tried (keyAt keys i) i iv pdu) where
@@ -90,11 +90,11 @@ module _ (keys : List NetworkKeys) (count nid : ℕ) where
           verdict = ap (λ (u : Trial). u .ok) (sym e)
 
           pub key-tried : t .ok ≡ false → Searching (i + 1) (n + 1)
-          key-tried f = visited-tried hasNid (opens keys iv pdu) (min count 4) s h (eq-eqb _ _ c) (verdict ∙ f)
+          key-tried f = visited-tried hasNid (opens keys iv pdu) (min count networkKeyPlaces) s h (eq-eqb _ _ c) (verdict ∙ f)
 
           pub key-opens : t .ok ≡ true → record { ok = true; trials = n + 1; header = t .header } ≡ searched keys count nid iv pdu
           unfolding searched
-          key-opens f = rw (candidates-are, visited-opens hasNid (opens keys iv pdu) (min count 4) s h (eq-eqb _ _ c) (verdict ∙ f), e)
+          key-opens f = rw (candidates-are, visited-opens hasNid (opens keys iv pdu) (min count networkKeyPlaces) s h (eq-eqb _ _ c) (verdict ∙ f), e)
 
 -- ---- no trials are made exactly where there is no candidate
 module _ (keys : List NetworkKeys) (count nid iv : ℕ) (pdu : List ℕ) where

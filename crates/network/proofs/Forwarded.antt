@@ -7,13 +7,14 @@ use borrow.Author.Tests.{lt-ltb, le-ltb}
 use lib.ListN.{length}
 use Rattle.keys.specs.declared.NetworkKeys.{NetworkKeys}
 use Rattle.network.specs.declared.header.Header.{Header}
-use Rattle.network.specs.Candidates.{keyAt}
+use Rattle.network.specs.Candidates.{networkKeyPlaces, keyAt}
 use Rattle.network.specs.SealOpen.{Formed}
 use Rattle.network.specs.Sealing.{sealable, lowered, forwarding}
 use Rattle.network.specs.Forwarded.{Forwarded, OpenForwarded}
 use Rattle.network.proofs.Sealed.{pdu-length, within, sealable-where, room}
 use Rattle.network.proofs.SealingLaws.{seal-sealed}
 use Rattle.network.proofs.SealOpen.{open-seal}
+use Rattle.network.specs.Pdu.{pduOctets}
 
 sealable-lowered : (key : NetworkKeys) (h : Header) → sealable key h ≡ true → sealable key (lowered h) ≡ true
 sealable-lowered key h s =
@@ -29,7 +30,7 @@ unfolding forwarding
 forwarded keys h buf k s f b =
     let key = keyAt keys (h .key) in
     let there = room key h (within key h s) f in
-    simp (le-ltb (length buf) 29 b, lt-ltb (h .key) 4 k)
+    simp (le-ltb (length buf) pduOctets b, lt-ltb (h .key) networkKeyPlaces k)
     (sym (seal-sealed key (lowered h) buf b (sealable-lowered key h s) (pdu-length key h there ∙ sym (pdu-length key (lowered h) there)) refl))
 
 pub open-forwarded : OpenForwarded

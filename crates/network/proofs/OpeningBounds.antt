@@ -20,19 +20,19 @@ use Rattle.network.specs.declared.iv_index.IvIndex.{IvIndex}
 use Rattle.network.specs.declared.iv_index.IvIndex.the-variants.{Index, Nothing}
 use Rattle.network.specs.declared.trial.Found.{Found}
 use Rattle.network.specs.Address.{addressesAllowed}
-use Rattle.network.specs.Candidates.{keyAt, candidates, opens, foundBy, searched}
+use Rattle.network.specs.Candidates.{networkKeyPlaces, keyAt, candidates, opens, foundBy, searched}
 use Rattle.network.specs.Header.{noHeader}
 use Rattle.network.specs.IvIndex.{ivIndexHeard}
 use Rattle.network.specs.Opening.{judged, under, opening}
-use Rattle.network.specs.Pdu.{netMic, frontOf}
+use Rattle.network.specs.Pdu.{pduOctets, netMic, frontOf}
 use Rattle.network.specs.Trial.{ctlOf, headerOf, nonceOf, bodyTried, tried}
 use Rattle.network.proofs.CandidatesLaws.{hasNid}
 
 -- ---- the header that a key gives
 abbrev LowHeader : Header → Type 0
-LowHeader h = (h .key < 4) × (h .len ≤ 16)
+LowHeader h = (h .key < networkKeyPlaces) × (h .len ≤ 16)
 
-module _ (key : NetworkKeys) (place iv : ℕ) (pdu : List ℕ) (low : place < 4) (short : length pdu ≤ 29) where
+module _ (key : NetworkKeys) (place iv : ℕ) (pdu : List ℕ) (low : place < networkKeyPlaces) (short : length pdu ≤ pduOctets) where
   header-low : (front : List ℕ) → LowHeader (headerOf place iv front (bodyTried key iv front pdu .buffer))
   unfolding headerOf bodyTried
   header-low front =
@@ -50,28 +50,28 @@ module _ (key : NetworkKeys) (place iv : ℕ) (pdu : List ℕ) (low : place < 4)
 
 -- ---- the search, and the call
 module _ (keys : List NetworkKeys) (count nid : ℕ) where
-  pub candidates-most : length (candidates keys count nid) ≤ 4
+  pub candidates-most : length (candidates keys count nid) ≤ networkKeyPlaces
   unfolding candidates
   candidates-most =
-      omega (arith, length-picked (hasNid keys count nid) (places (min count 4)), length-places (min count 4))
+      omega (arith, length-picked (hasNid keys count nid) (places (min count networkKeyPlaces)), length-places (min count networkKeyPlaces))
 
 -- at most four trials, a place below 4, at most 16 octets of transport
 pub record Bounded (trials : ℕ) (h : Header) : Type 0 where
-  pub trials-most : trials ≤ 4
-  pub key-low : h .key < 4
+  pub trials-most : trials ≤ networkKeyPlaces
+  pub key-low : h .key < networkKeyPlaces
   pub len-most : h .len ≤ 16
 
 -- a refusal has no header
-refused-bounded : (trials : ℕ) → trials ≤ 4 → Bounded trials noHeader
+refused-bounded : (trials : ℕ) → trials ≤ networkKeyPlaces → Bounded trials noHeader
 refused-bounded trials m = record { trials-most = m; key-low = omega arith; len-most = omega arith }
 
-module _ (keys : List NetworkKeys) (count : ℕ) (pdu : List ℕ) (short : length pdu ≤ 29) where
+module _ (keys : List NetworkKeys) (count : ℕ) (pdu : List ℕ) (short : length pdu ≤ pduOctets) where
   searched-bounded : (nid iv : ℕ) → Bounded (searched keys count nid iv pdu .trials) (searched keys count nid iv pdu .header)
   unfolding searched candidates
   searched-bounded nid iv =
       let m = candidates-most keys count nid in
       tries-places (hasNid keys count nid) (opens keys iv pdu)
-      (λ t. Bounded (foundBy keys iv pdu t .trials) (foundBy keys iv pdu t .header)) (min count 4)
+      (λ t. Bounded (foundBy keys iv pdu t .trials) (foundBy keys iv pdu t .header)) (min count networkKeyPlaces)
       (λ i k b c o l.
       let h = tried-low (keyAt keys i) i iv pdu (omega arith) short in
       record { trials-most = omega arith; key-low = h .0; len-most = h .1 })
@@ -99,8 +99,8 @@ opening-bounded keys count current pdu =
     let none = refused-bounded 0 (omega arith) in
     by-test (ltb (length pdu) 14)
     (λ t. rw t none)
-    (λ t. by-test (ltb 29 (length pdu))
+    (λ t. by-test (ltb pduOctets (length pdu))
     (λ u. rw (t, u) none)
     (λ u. by-test (eqb (length (candidates keys count (getD pdu 0 0 % 128))) 0)
     (λ v. rw (t, u, v) none)
-    (λ v. rw (t, u, v) (under-bounded keys count pdu (ltb-false 29 (length pdu) u) (ivIndexHeard current (getD pdu 0 0 / 128))))))
+    (λ v. rw (t, u, v) (under-bounded keys count pdu (ltb-false pduOctets (length pdu) u) (ivIndexHeard current (getD pdu 0 0 / 128))))))

@@ -21,6 +21,7 @@ use Rattle.network.specs.Candidates.{candidates, searched}
 use Rattle.network.specs.IvIndex.{ivIndexHeard}
 use Rattle.network.specs.Opening.{paper, refused, judged, under, opening}
 use Rattle.network.proofs.CandidatesLaws.{trials-none, trials-some}
+use Rattle.network.specs.Pdu.{pduOctets}
 
 -- ---- the numbers
 -- the answer of a number
@@ -71,15 +72,15 @@ module _ (keys : List NetworkKeys) (count current : ℕ) (pdu : List ℕ) {r : O
   open-short h e = rw (lt-ltb (length pdu) 14 h) e
 
   module _ (low : 14 ≤ length pdu) where
-    pub open-long : 29 < length pdu → r ≡ refused WrongLength 0 → r ≡ opening keys count current pdu
+    pub open-long : pduOctets < length pdu → r ≡ refused WrongLength 0 → r ≡ opening keys count current pdu
     unfolding opening
-    open-long h e = rw (le-ltb (length pdu) 14 low, lt-ltb 29 (length pdu) h) e
+    open-long h e = rw (le-ltb (length pdu) 14 low, lt-ltb pduOctets (length pdu) h) e
 
-    module _ (high : length pdu ≤ 29) where
+    module _ (high : length pdu ≤ pduOctets) where
       -- without a candidate no IV Index counts
       pub open-foreign : true ≡ eqb (ofNid keys count pdu) 0 → r ≡ refused NoCandidate 0 → r ≡ opening keys count current pdu
       unfolding opening
-      open-foreign n e = rw (le-ltb (length pdu) 14 low, le-ltb 29 (length pdu) high, ← n) e
+      open-foreign n e = rw (le-ltb (length pdu) 14 low, le-ltb pduOctets (length pdu) high, ← n) e
 
       module _ {x : IvIndex} (ex : x ≡ ivIndexHeard current (getD pdu 0 0 / 128)) where
         -- with a candidate or with none: the refusal is the same
@@ -87,8 +88,8 @@ module _ (keys : List NetworkKeys) (count current : ℕ) (pdu : List ℕ) {r : O
         unfolding opening under
         open-no-index n e =
             by-test (eqb (ofNid keys count pdu) 0)
-            (λ t. rw (le-ltb (length pdu) 14 low, le-ltb 29 (length pdu) high, t) e)
-            (λ t. rw (le-ltb (length pdu) 14 low, le-ltb 29 (length pdu) high, t, ← ex, n) e)
+            (λ t. rw (le-ltb (length pdu) 14 low, le-ltb pduOctets (length pdu) high, t) e)
+            (λ t. rw (le-ltb (length pdu) 14 low, le-ltb pduOctets (length pdu) high, t, ← ex, n) e)
 
         module _ {iv : ℕ} {s : Found} (i : x ≡ Index iv) (q : s ≡ searched keys count (getD pdu 0 0 % 128) iv pdu) where
           pub open-no-candidate : s .trials ≡ 0 → r ≡ refused NoCandidate 0 → r ≡ opening keys count current pdu
@@ -100,6 +101,6 @@ module _ (keys : List NetworkKeys) (count current : ℕ) (pdu : List ℕ) {r : O
           unfolding opening under
           open-judged z e =
               let n : ofNid keys count pdu ≡ 0 → ⊥ = λ m. z (ap (λ (f : Found). f .trials) q ∙ trials-none keys count (getD pdu 0 0 % 128) iv pdu m) in
-              rw (le-ltb (length pdu) 14 low, le-ltb 29 (length pdu) high, ne-eqb (ofNid keys count pdu) 0 n, ← ex, i, ← q) e
+              rw (le-ltb (length pdu) 14 low, le-ltb pduOctets (length pdu) high, ne-eqb (ofNid keys count pdu) 0 n, ← ex, i, ← q) e
 
 pub ruleset open-rules = (open-short, open-long, open-no-index, open-no-candidate, open-judged)

@@ -32,11 +32,11 @@ use Rattle.network.specs.declared.opening.Opening.{Opening}
 use Rattle.network.specs.declared.sealing.Answer.the-variants.{Sealed}
 use Rattle.network.specs.declared.trial.Found.{Found}
 use Rattle.network.specs.Address.{addressesAllowed}
-use Rattle.network.specs.Candidates.{keyAt, candidates, opens, foundBy, searched}
+use Rattle.network.specs.Candidates.{networkKeyPlaces, keyAt, candidates, opens, foundBy, searched}
 use Rattle.network.specs.IvIndex.{ivIndexHeard}
 use Rattle.network.specs.Octets.{number}
 use Rattle.network.specs.Opening.{paper, refused, judged, under, opening}
-use Rattle.network.specs.Pdu.{netMic, privacyBlock, obfuscated, pduOf, frontOf}
+use Rattle.network.specs.Pdu.{pduOctets, netMic, privacyBlock, obfuscated, pduOf, frontOf}
 use Rattle.network.specs.Resealed.{OctetKey, Resealed}
 use Rattle.network.specs.Sealing.{mostTransport, sealable, lowered}
 use Rattle.network.specs.SealOpen.{Formed}
@@ -67,7 +67,7 @@ pub record Again (key : NetworkKeys) (pdu : List ℕ) (h : Header) : Type 0 wher
   pub long : 9 + h .len + (if h .ctl then 8 else 4) ≡ length pdu
 
 -- ---- one key
-module _ (key : NetworkKeys) (place iv : ℕ) (pdu : List ℕ) (nid : key .nid ≤ 127) (o : OctetKey key) (p : Octets pdu) (least : 14 ≤ length pdu) (most : length pdu ≤ 29) where
+module _ (key : NetworkKeys) (place iv : ℕ) (pdu : List ℕ) (nid : key .nid ≤ 127) (o : OctetKey key) (p : Octets pdu) (least : 14 ≤ length pdu) (most : length pdu ≤ pduOctets) where
   abbrev front : List ℕ
   front = frontOf key iv pdu
 
@@ -157,7 +157,7 @@ module _ (key : NetworkKeys) (place iv : ℕ) (pdu : List ℕ) (nid : key .nid �
 -- a header that the key at its place can seal again
 record Resealable (keys : List NetworkKeys) (pdu : List ℕ) (h : Header) : Type 0 where
   again : Again (keyAt keys (h .key)) pdu h
-  low : h .key < 4
+  low : h .key < networkKeyPlaces
 
 abbrev ResealableWhere : List NetworkKeys → List ℕ → Opening → Type 0
 ResealableWhere keys pdu o = o .answer ≡ Opened → Resealable keys pdu (o .header)
@@ -170,12 +170,12 @@ AgainWhere keys pdu s = s .ok ≡ true → addressesAllowed (s .header .ctl) (s 
 refused-none : (keys : List NetworkKeys) (pdu : List ℕ) (a : Answer) (trials : ℕ) → 0 < paper a → ResealableWhere keys pdu (refused a trials)
 refused-none keys pdu a trials h e = let z : paper a ≡ 0 = ap paper e in absurd (omega arith)
 
-module _ (keys : List NetworkKeys) (count : ℕ) (pdu : List ℕ) (held : (i : ℕ) → i < min count 4 → OctetKey (keyAt keys i)) (p : Octets pdu)
-    (least : 14 ≤ length pdu) (most : length pdu ≤ 29) where
+module _ (keys : List NetworkKeys) (count : ℕ) (pdu : List ℕ) (held : (i : ℕ) → i < min count networkKeyPlaces → OctetKey (keyAt keys i)) (p : Octets pdu)
+    (least : 14 ≤ length pdu) (most : length pdu ≤ pduOctets) where
   searched-again : (nid iv : ℕ) → nid ≤ 127 → AgainWhere keys pdu (searched keys count nid iv pdu)
   unfolding searched candidates opens
   searched-again nid iv seven =
-      tries-places (hasNid keys count nid) (opens keys iv pdu) (λ t. AgainWhere keys pdu (foundBy keys iv pdu t)) (min count 4)
+      tries-places (hasNid keys count nid) (opens keys iv pdu) (λ t. AgainWhere keys pdu (foundBy keys iv pdu t)) (min count networkKeyPlaces)
       (λ i k low same o _ _ a.
       let n = eqb-true (keyAt keys i .nid) nid same in
       let x = tried-again (keyAt keys i) i iv pdu (omega arith) (held i low) p least most o a in
@@ -200,19 +200,19 @@ module _ (keys : List NetworkKeys) (count : ℕ) (pdu : List ℕ) (held : (i : �
   under-again (Index iv) = judged-again (searched keys count (getD pdu 0 0 % 128) iv pdu) (searched-again (getD pdu 0 0 % 128) iv (omega arith))
 
 opening-again :
-    (keys : List NetworkKeys) (count current : ℕ) (pdu : List ℕ) → ((i : ℕ) → i < min count 4 → OctetKey (keyAt keys i)) → Octets pdu
+    (keys : List NetworkKeys) (count current : ℕ) (pdu : List ℕ) → ((i : ℕ) → i < min count networkKeyPlaces → OctetKey (keyAt keys i)) → Octets pdu
     → ResealableWhere keys pdu (opening keys count current pdu)
 unfolding opening
 opening-again keys count current pdu held p =
     let wrong = refused-none keys pdu WrongLength 0 (omega arith) in
     by-test (ltb (length pdu) 14)
     (λ t. rw t wrong)
-    (λ t. by-test (ltb 29 (length pdu))
+    (λ t. by-test (ltb pduOctets (length pdu))
     (λ u. rw (t, u) wrong)
     (λ u. by-test (eqb (length (candidates keys count (getD pdu 0 0 % 128))) 0)
     (λ v. rw (t, u, v) (refused-none keys pdu NoCandidate 0 (omega arith)))
     (λ v. rw (t, u, v)
-    (under-again keys count pdu held p (ltb-false (length pdu) 14 t) (ltb-false 29 (length pdu) u) (ivIndexHeard current (getD pdu 0 0 / 128))))))
+    (under-again keys count pdu held p (ltb-false (length pdu) 14 t) (ltb-false pduOctets (length pdu) u) (ivIndexHeard current (getD pdu 0 0 / 128))))))
 
 pub resealed : Resealed
 resealed keys count current pdu trials h buf held p wide e =

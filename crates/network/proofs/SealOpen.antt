@@ -17,10 +17,10 @@ use Rattle.network.specs.declared.opening.Answer.the-variants.{Opened}
 use Rattle.network.specs.declared.trial.Found.{Found}
 use Rattle.network.specs.declared.trial.Trial.{Trial}
 use Rattle.network.specs.Address.{addressesAllowed}
-use Rattle.network.specs.Candidates.{keyAt, candidates, opens, searched}
+use Rattle.network.specs.Candidates.{networkKeyPlaces, keyAt, candidates, opens, searched}
 use Rattle.network.specs.IvIndex.{ivIndexHeard}
 use Rattle.network.specs.Opening.{judged, under, opening}
-use Rattle.network.specs.Pdu.{pduOf}
+use Rattle.network.specs.Pdu.{pduOctets, pduOf}
 use Rattle.network.specs.Sealing.{mostTransport}
 use Rattle.network.specs.Trial.{tried}
 use Rattle.network.specs.SealOpen.{octet0, OpenSeal}
@@ -31,7 +31,7 @@ use Rattle.network.proofs.Sealed.{pdu-length, first-octet, within, room
 -- ---- the call
 module _ (keys : List NetworkKeys) (count nid iv : ℕ) (pdu : List ℕ) where
   opening-of :
-      (current : ℕ) {trials : ℕ} {x : Header} → 14 ≤ length pdu → length pdu ≤ 29 → octet0 pdu % 128 ≡ nid
+      (current : ℕ) {trials : ℕ} {x : Header} → 14 ≤ length pdu → length pdu ≤ pduOctets → octet0 pdu % 128 ≡ nid
       → ivIndexHeard current (octet0 pdu / 128) ≡ Index iv → 0 < trials
       → searched keys count nid iv pdu ≡ record { ok = true; trials = trials; header = x } → addressesAllowed (x .ctl) (x .src) (x .dst) ≡ true
       → opening keys count current pdu ≡ record { answer = Opened; trials = trials; header = x }
@@ -39,15 +39,15 @@ module _ (keys : List NetworkKeys) (count nid iv : ℕ) (pdu : List ℕ) where
   opening-of current {trials} l u en ei some es ea =
       let held : length (candidates keys count nid) ≡ 0 → ⊥ =
       λ z. let k : trials ≡ 0 = sym (ap (λ (f : Found). f .trials) es) ∙ trials-none keys count nid iv pdu z in omega arith in
-      rw (le-ltb (length pdu) 14 l, le-ltb 29 (length pdu) u, en, ne-eqb (length (candidates keys count nid)) 0 held, ei, en) (ap judged es ∙ rw ea)
+      rw (le-ltb (length pdu) 14 l, le-ltb pduOctets (length pdu) u, en, ne-eqb (length (candidates keys count nid)) 0 held, ei, en) (ap judged es ∙ rw ea)
 
 -- 14 to 29 octets
-length-fits : (ctl : Bool) (len : ℕ) → 1 ≤ len → len ≤ mostTransport ctl → (let n = 9 + len + (if ctl then 8 else 4) in (14 ≤ n) × (n ≤ 29))
+length-fits : (ctl : Bool) (len : ℕ) → 1 ≤ len → len ≤ mostTransport ctl → (let n = 9 + len + (if ctl then 8 else 4) in (14 ≤ n) × (n ≤ pduOctets))
 length-fits true len l u = (omega arith, omega arith)
 length-fits false len l u = (omega arith, omega arith)
 
 -- ---- the candidates of a PDU whose key is at place i: the search ends at it, behind the candidates before it
-module _ (keys : List NetworkKeys) (count i iv : ℕ) (pdu : List ℕ) (held : i < min count 4) where
+module _ (keys : List NetworkKeys) (count i iv : ℕ) (pdu : List ℕ) (held : i < min count networkKeyPlaces) where
   abbrev nid : ℕ
   nid = keyAt keys i .nid
 
@@ -56,9 +56,9 @@ module _ (keys : List NetworkKeys) (count i iv : ℕ) (pdu : List ℕ) (held : i
       → searched keys count nid iv pdu ≡ record { ok = true; trials = length (candidates keys i nid) + 1; header = x }
   unfolding searched candidates opens
   searched-at none t =
-      let n : min i 4 ≡ i = omega arith in
+      let n : min i networkKeyPlaces ≡ i = omega arith in
       let e =
-      tries-at (hasNid keys count nid) (opens keys iv pdu) (min count 4) i held (eq-eqb nid nid refl) (ap (λ (x : Trial). x .ok) t)
+      tries-at (hasNid keys count nid) (opens keys iv pdu) (min count networkKeyPlaces) i held (eq-eqb nid nid refl) (ap (λ (x : Trial). x .ok) t)
       (λ j b e. none j b (eqb-true (keyAt keys j .nid) nid e)) in
       rw (e, t, n)
 

@@ -22,9 +22,9 @@ use Rattle.modes.proofs.CcmLaws.{mic-octets-bounds, seal-done}
 use Rattle.keys.specs.declared.NetworkKeys.{NetworkKeys}
 use Rattle.network.specs.declared.header.Header.{Header}
 use Rattle.network.specs.Address.{addressesAllowed}
-use Rattle.network.specs.Candidates.{keyAt}
+use Rattle.network.specs.Candidates.{networkKeyPlaces, keyAt}
 use Rattle.network.specs.Octets.{octets}
-use Rattle.network.specs.Pdu.{netMic, firstOctet, clearFront, obfuscated, bodyOf, pduOf}
+use Rattle.network.specs.Pdu.{pduOctets, netMic, firstOctet, clearFront, obfuscated, bodyOf, pduOf}
 use Rattle.network.specs.declared.sealing.Answer.{Answer}
 use Rattle.network.specs.declared.sealing.Answer.the-variants.{Sealed, OutsideRules, ShortBuffer}
 use Rattle.network.specs.Sealing.{paper, sealedLength, mostTransport, sealable, sealing, lowered, forwarding}
@@ -87,7 +87,7 @@ clear-room ctl len clear fits l = omega (arith, transport-most ctl len fits)
 
 module _ (key : NetworkKeys) (h : Header) (fits : h .len ≤ mostTransport (h .ctl)) where
   pub body-written :
-      (out : List ℕ) {ks : List (List ℕ)} {nonce clear y : List ℕ} {size : MicSize} {ok : Bool} → 29 ≤ length out
+      (out : List ℕ) {ks : List (List ℕ)} {nonce clear y : List ℕ} {size : MicSize} {ok : Bool} → pduOctets ≤ length out
       → ks ≡ keySchedule (key .encryption) → nonce ≡ nonceFor h → size ≡ netMic (h .ctl)
       → clear ≡ octets 2 (h .dst) ++ h .transport → length clear ≡ 18
       → lent ok y ≡ ccm.sealing ks nonce size (take (2 + h .len) clear) (take (length out - 7) (drop 7 out))
@@ -109,7 +109,7 @@ module _ (key : NetworkKeys) (h : Header) (fits : h .len ≤ mostTransport (h .c
       ap (λ (z : List ℕ). take 7 out ++ z) (ap₂ _++_ ey none ∙ append-nil (onto (bodyOf key h) d))
 
 -- the buffer is still long enough for the front
-pub length-body-written : (key : NetworkKeys) (h : Header) (out : List ℕ) {x : List ℕ} → 29 ≤ length out → x ≡ take 7 out ++ onto (bodyOf key h) (drop 7 out) → 14 ≤ length x
+pub length-body-written : (key : NetworkKeys) (h : Header) (out : List ℕ) {x : List ℕ} → pduOctets ≤ length out → x ≡ take 7 out ++ onto (bodyOf key h) (drop 7 out) → 14 ≤ length x
 length-body-written key h out {x} room e =
     let b = bodyOf key h in
     let d = drop 7 out in
@@ -139,7 +139,7 @@ front-written key h out {front} {random} {hidden} {x} {f} room ec er eh ef e =
 -- ---- both, in this order
 module _ (key : NetworkKeys) (h : Header) (sixteen : length (h .transport) ≡ 16) (ok : sealable key h ≡ true) where
   pub pdu-written :
-      (out : List ℕ) {x y : List ℕ} → 29 ≤ length out → x ≡ take 7 out ++ onto (bodyOf key h) (drop 7 out)
+      (out : List ℕ) {x y : List ℕ} → pduOctets ≤ length out → x ≡ take 7 out ++ onto (bodyOf key h) (drop 7 out)
       → y ≡ onto (firstOctet (h .iv) (key .nid) ∷ obfuscated key (h .iv) (clearFront h) (take 7 (drop 7 x))) x
       → y ≡ onto (pduOf key h) out
   unfolding pduOf
@@ -173,21 +173,21 @@ paper-apart ShortBuffer OutsideRules e f = absurd (omega arith)
 paper-apart ShortBuffer ShortBuffer e f = refl
 
 module _ (key : NetworkKeys) (h : Header) (out : List ℕ) where
-  pub seal-short : length out < 29 → lent ShortBuffer out ≡ sealing key h out
+  pub seal-short : length out < pduOctets → lent ShortBuffer out ≡ sealing key h out
   unfolding sealing
-  seal-short l = simp (lt-ltb (length out) 29 l)
+  seal-short l = simp (lt-ltb (length out) pduOctets l)
 
-  module _ (room : 29 ≤ length out) where
+  module _ (room : pduOctets ≤ length out) where
     pub seal-sealed :
         {n : ℕ} {y : List ℕ} → sealable key h ≡ true → n ≡ length (pduOf key h) → y ≡ onto (pduOf key h) out
         → lent (Sealed n) y ≡ sealing key h out
     unfolding sealing
-    seal-sealed e en ey = simp (le-ltb (length out) 29 room, e) (ap₂ (λ (k : ℕ) (z : List ℕ). lent (Sealed k) z) en ey)
+    seal-sealed e en ey = simp (le-ltb (length out) pduOctets room, e) (ap₂ (λ (k : ℕ) (z : List ℕ). lent (Sealed k) z) en ey)
 
     module _ {may : Bool} (e : may ≡ sealable key h) where
       pub seal-outside : not may ≡ true → lent OutsideRules out ≡ sealing key h out
       unfolding sealing
-      seal-outside f = simp (le-ltb (length out) 29 room, ← e, not-true may f)
+      seal-outside f = simp (le-ltb (length out) pduOctets room, ← e, not-true may f)
 
       module _ (f : not may ≡ false) where
         allowed : sealable key h ≡ true
@@ -215,18 +215,18 @@ module _ (key : NetworkKeys) (h : Header) (out : List ℕ) where
 
 -- ---- the answers of forwarding
 module _ (keys : List NetworkKeys) (h : Header) (out : List ℕ) where
-  pub forward-short : length out < 29 → lent ShortBuffer out ≡ forwarding keys h out
+  pub forward-short : length out < pduOctets → lent ShortBuffer out ≡ forwarding keys h out
   unfolding forwarding
-  forward-short l = simp (lt-ltb (length out) 29 l)
+  forward-short l = simp (lt-ltb (length out) pduOctets l)
 
-  module _ (room : 29 ≤ length out) where
-    pub forward-no-key : 4 ≤ h .key → lent OutsideRules out ≡ forwarding keys h out
+  module _ (room : pduOctets ≤ length out) where
+    pub forward-no-key : networkKeyPlaces ≤ h .key → lent OutsideRules out ≡ forwarding keys h out
     unfolding forwarding
-    forward-no-key l = simp (le-ltb (length out) 29 room, le-ltb (h .key) 4 l)
+    forward-no-key l = simp (le-ltb (length out) pduOctets room, le-ltb (h .key) networkKeyPlaces l)
 
     pub forward-sealed :
-        {r : Lent Answer} {low : Header} → h .key < 4 → low ≡ lowered h → r ≡ sealing (keyAt keys (h .key)) low out → r ≡ forwarding keys h out
+        {r : Lent Answer} {low : Header} → h .key < networkKeyPlaces → low ≡ lowered h → r ≡ sealing (keyAt keys (h .key)) low out → r ≡ forwarding keys h out
     unfolding forwarding
-    forward-sealed l el er = simp (le-ltb (length out) 29 room, lt-ltb (h .key) 4 l) (er ∙ ap (λ (z : Header). sealing (keyAt keys (h .key)) z out) el)
+    forward-sealed l el er = simp (le-ltb (length out) pduOctets room, lt-ltb (h .key) networkKeyPlaces l) (er ∙ ap (λ (z : Header). sealing (keyAt keys (h .key)) z out) el)
 
 pub ruleset forward-rules = (forward-short, forward-no-key, forward-sealed)

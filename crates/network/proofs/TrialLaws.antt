@@ -25,7 +25,7 @@ use Rattle.keys.specs.declared.NetworkKeys.{NetworkKeys}
 use Rattle.network.specs.declared.header.Header.{Header}
 use Rattle.network.specs.declared.trial.Trial.{Trial}
 use Rattle.network.specs.Octets.{numberFrom, number}
-use Rattle.network.specs.Pdu.{netMic, obfuscated, frontOf}
+use Rattle.network.specs.Pdu.{pduOctets, netMic, obfuscated, frontOf}
 use Rattle.network.specs.Trial.{noTrial, ctlOf, ttlOf, seqOf, srcOf, nonceOf, headerOf, bodyTried, tried}
 
 -- n octets read one by one from a place on
@@ -139,12 +139,12 @@ module _ (ks : List (List ℕ)) (nonce : List ℕ) (size : MicSize) (c buf : Lis
 -- ---- the answers of a trial
 -- a PDU of 14 to 29 octets that is not too short for its CTL has 3 to 18 octets between its front and its NetMIC
 pub clear-bounds :
-    (ctl : Bool) (n : ℕ) {short : Bool} → (14 ≤ n) × (n ≤ 29) → short ≡ (ctl && ltb n 18) → short ≡ false
+    (ctl : Bool) (n : ℕ) {short : Bool} → (14 ≤ n) × (n ≤ pduOctets) → short ≡ (ctl && ltb n 18) → short ≡ false
     → (10 + micOctets (netMic ctl) ≤ n) × (n ≤ 25 + micOctets (netMic ctl))
 clear-bounds true n range e f = (omega (arith, ltb-false n 18 (sym e ∙ f)), omega arith)
 clear-bounds false n range e f = (omega arith, omega arith)
 
-module _ (ctl : Bool) (n : ℕ) {short : Bool} (range : (14 ≤ n) × (n ≤ 29)) (e : short ≡ (ctl && ltb n 18)) (f : short ≡ false) where
+module _ (ctl : Bool) (n : ℕ) {short : Bool} (range : (14 ≤ n) × (n ≤ pduOctets)) (e : short ≡ (ctl && ltb n 18)) (f : short ≡ false) where
   pub clear-there : 7 + micOctets (netMic ctl) ≤ n
   clear-there = let b = clear-bounds ctl n range e f in omega arith
 
@@ -161,7 +161,7 @@ module _ (key : NetworkKeys) (place iv : ℕ) (pdu : List ℕ) {front : List ℕ
   unfolding tried
   tried-short t er = rw (← ef, ← ec, ← es, t) er
 
-  module _ (range : (14 ≤ length pdu) × (length pdu ≤ 29)) (left : short ≡ false) {ok : Bool} {out : List ℕ}
+  module _ (range : (14 ≤ length pdu) × (length pdu ≤ pduOctets)) (left : short ≡ false) {ok : Bool} {out : List ℕ}
       (eo : lent ok out ≡ opening (keySchedule (key .encryption)) (nonceOf iv front) (netMic (ctlOf front)) (drop 7 pdu) (replicate 18 0)) where
     tried-long :
         tried key place iv pdu

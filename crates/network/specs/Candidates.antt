@@ -12,6 +12,10 @@ use Rattle.network.specs.declared.trial.Found.{Found}
 use Rattle.network.specs.Header.{noHeader}
 use Rattle.network.specs.Trial.{tried}
 
+-- how many network keys can be held
+abbrev pub networkKeyPlaces : ℕ
+networkKeyPlaces = 4
+
 -- where there is no key
 abbrev pub noKey : NetworkKeys
 noKey = record { nid = 0; encryption = []; privacy = [] }
@@ -22,7 +26,7 @@ keyAt keys i = getD keys i noKey
 
 -- the places of the keys with that NID, in their fixed order; at most four keys are held
 unfoldable pub candidates : List NetworkKeys → ℕ → ℕ → List ℕ
-candidates keys count nid = picked (λ i. eqb (keyAt keys i .nid) nid) (tab (λ i. i) (min count 4))
+candidates keys count nid = picked (λ i. eqb (keyAt keys i .nid) nid) (tab (λ i. i) (min count networkKeyPlaces))
 
 -- whether the key at place i authenticates the PDU
 unfoldable pub opens : List NetworkKeys → ℕ → List ℕ → ℕ → Bool

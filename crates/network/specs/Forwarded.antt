@@ -10,9 +10,9 @@ use Rattle.keys.specs.declared.NetworkKeys.{NetworkKeys}
 use Rattle.network.specs.declared.header.Header.{Header}
 use Rattle.network.specs.declared.opening.Answer.the-variants.{Opened}
 use Rattle.network.specs.declared.sealing.Answer.the-variants.{Sealed}
-use Rattle.network.specs.Candidates.{keyAt, candidates}
+use Rattle.network.specs.Candidates.{networkKeyPlaces, keyAt, candidates}
 use Rattle.network.specs.Opening.{opening}
-use Rattle.network.specs.Pdu.{pduOf}
+use Rattle.network.specs.Pdu.{pduOctets, pduOf}
 use Rattle.network.specs.SealOpen.{Formed, Receives}
 use Rattle.network.specs.Sealing.{sealable, lowered, forwarding}
 
@@ -21,7 +21,7 @@ abbrev pub Forwarded : Type 0
 Forwarded =
     (keys : List NetworkKeys) (h : Header) (buf : List ℕ)
     → (let key = keyAt keys (h .key) in
-    h .key < 4 → sealable key h ≡ true → Formed h → 29 ≤ length buf
+    h .key < networkKeyPlaces → sealable key h ≡ true → Formed h → pduOctets ≤ length buf
     → forwarding keys h buf ≡ lent (Sealed (length (pduOf key h))) (onto (pduOf key (lowered h)) buf))
 
 -- a receiver opens it

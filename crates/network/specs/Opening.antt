@@ -17,6 +17,7 @@ use Rattle.network.specs.Address.{addressesAllowed}
 use Rattle.network.specs.Candidates.{candidates, searched}
 use Rattle.network.specs.Header.{noHeader}
 use Rattle.network.specs.IvIndex.{ivIndexHeard}
+use Rattle.network.specs.Pdu.{pduOctets}
 
 -- this paper's number of each answer; 0 where nothing is refused
 abbrev pub paper : Answer → ℕ
@@ -47,6 +48,6 @@ under keys count pdu (Index iv) = judged (searched keys count (getD pdu 0 0 % 12
 unfoldable pub opening : List NetworkKeys → ℕ → ℕ → List ℕ → Opening
 opening keys count current pdu =
     if ltb (length pdu) 14 then refused WrongLength 0 else
-    if ltb 29 (length pdu) then refused WrongLength 0 else
+    if ltb pduOctets (length pdu) then refused WrongLength 0 else
     if eqb (length (candidates keys count (getD pdu 0 0 % 128))) 0 then refused NoCandidate 0 else
     under keys count pdu (ivIndexHeard current (getD pdu 0 0 / 128))

@@ -17,6 +17,10 @@ use Rattle.network.specs.Header.{transportOf}
 use Rattle.network.specs.Nonce.{ctlTtl, networkNonce}
 use Rattle.network.specs.Octets.{octets}
 
+-- the most octets that a PDU has
+abbrev pub pduOctets : ℕ
+pduOctets = 29
+
 -- NetMIC: 4 octets, or 8 if CTL is 1
 abbrev pub netMic : Bool → MicSize
 netMic true = Eight

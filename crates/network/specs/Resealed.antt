@@ -9,9 +9,9 @@ use Rattle.keys.specs.declared.NetworkKeys.{NetworkKeys}
 use Rattle.network.specs.declared.header.Header.{Header}
 use Rattle.network.specs.declared.opening.Answer.the-variants.{Opened}
 use Rattle.network.specs.declared.sealing.Answer.the-variants.{Sealed}
-use Rattle.network.specs.Candidates.{keyAt}
+use Rattle.network.specs.Candidates.{networkKeyPlaces, keyAt}
 use Rattle.network.specs.Opening.{opening}
-use Rattle.network.specs.Pdu.{pduOf}
+use Rattle.network.specs.Pdu.{pduOctets, pduOf}
 use Rattle.network.specs.Sealing.{lowered, forwarding}
 
 -- the keys held are of octets
@@ -22,8 +22,8 @@ pub record OctetKey (key : NetworkKeys) : Type 0 where
 abbrev pub Resealed : Type 0
 Resealed =
     (keys : List NetworkKeys) (count current : ℕ) (pdu : List ℕ) (trials : ℕ) (h : Header) (buf : List ℕ)
-    → ((i : ℕ) → i < min count 4 → OctetKey (keyAt keys i))
+    → ((i : ℕ) → i < min count networkKeyPlaces → OctetKey (keyAt keys i))
     → Octets pdu
-    → 29 ≤ length buf
+    → pduOctets ≤ length buf
     → opening keys count current pdu ≡ record { answer = Opened; trials = trials; header = h }
     → forwarding keys h buf ≡ lent (Sealed (length pdu)) (onto (pduOf (keyAt keys (h .key)) (lowered h)) buf)

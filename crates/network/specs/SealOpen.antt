@@ -11,7 +11,7 @@ use Rattle.keys.specs.declared.NetworkKeys.{NetworkKeys}
 use Rattle.network.specs.declared.header.Header.{Header}
 use Rattle.network.specs.declared.iv_index.IvIndex.the-variants.{Index}
 use Rattle.network.specs.declared.opening.Answer.the-variants.{Opened}
-use Rattle.network.specs.Candidates.{keyAt, candidates, opens}
+use Rattle.network.specs.Candidates.{networkKeyPlaces, keyAt, candidates, opens}
 use Rattle.network.specs.Header.{transportOf}
 use Rattle.network.specs.IvIndex.{ivIndexHeard}
 use Rattle.network.specs.Opening.{opening}
@@ -72,7 +72,7 @@ TriedSealed =
 -- a receiver, by the keys that it holds and its current IV Index, of a PDU that the key of h sealed
 pub record Receives (keys : List NetworkKeys) (count current : ℕ) (h : Header) (pdu : List ℕ) : Type 0 where
   -- its key is one of those held
-  pub held : h .key < min count 4
+  pub held : h .key < min count networkKeyPlaces
   -- its IV Index is the current one or the one before
   pub near : (h .iv ≡ current) ⊎ (h .iv + 1 ≡ current)
   -- no key before it with the same NID authenticates the PDU

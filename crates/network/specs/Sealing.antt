@@ -16,8 +16,8 @@ use Rattle.network.specs.declared.header.Header.{Header}
 use Rattle.network.specs.declared.sealing.Answer.{Answer}
 use Rattle.network.specs.declared.sealing.Answer.the-variants.{Sealed, OutsideRules, ShortBuffer}
 use Rattle.network.specs.Address.{addressesAllowed}
-use Rattle.network.specs.Candidates.{keyAt}
-use Rattle.network.specs.Pdu.{pduOf}
+use Rattle.network.specs.Candidates.{networkKeyPlaces, keyAt}
+use Rattle.network.specs.Pdu.{pduOctets, pduOf}
 
 -- this paper's number of each answer; 0 where nothing is refused
 abbrev pub paper : Answer → ℕ
@@ -44,7 +44,7 @@ sealable key h =
 -- 16: the buffer is shorter than 29; 14: outside these rules; else the PDU fills its first octets
 unfoldable pub sealing : NetworkKeys → Header → List ℕ → Lent Answer
 sealing key h buf =
-    if ltb (length buf) 29 then lent ShortBuffer buf else
+    if ltb (length buf) pduOctets then lent ShortBuffer buf else
     if sealable key h then lent (Sealed (length (pduOf key h))) (onto (pduOf key h) buf) else
     lent OutsideRules buf
 
@@ -60,6 +60,6 @@ lowered h =
 -- the PDU resealed by the key at its place, with TTL less 1, a TTL of 0 as it is; 16 comes before a place that holds no key, 14
 unfoldable pub forwarding : List NetworkKeys → Header → List ℕ → Lent Answer
 forwarding keys h buf =
-    if ltb (length buf) 29 then lent ShortBuffer buf else
-    if ltb (h .key) 4 then sealing (keyAt keys (h .key)) (lowered h) buf else
+    if ltb (length buf) pduOctets then lent ShortBuffer buf else
+    if ltb (h .key) networkKeyPlaces then sealing (keyAt keys (h .key)) (lowered h) buf else
     lent OutsideRules buf

@@ -2,6 +2,9 @@
 ghost use mathlib.Core.Path.{_≡_};
 ghost use Rattle.network.specs.Header.{noHeader};
 
+// The most octets that a PDU has.
+pub const PDU: usize = 29;
+
 pub struct Header {
     // The place of the network key that opened it.
     pub key: usize,

@@ -5,6 +5,9 @@ use keys::NetworkKeys;
 ghost use mathlib.Core.Path.{_≡_};
 ghost use Rattle.network.specs.Opening.{paper, refused, judged, opening};
 
+// How many network keys can be held.
+pub const KEYS: usize = 4;
+
 pub enum Answer {
     // The PDU is opened, and its header stands beside.
     Opened,
@@ -67,13 +70,13 @@ fn judge(s: super::trial::Found) -> Opening
 }
 
 // Opens a PDU with the first `count` keys held, at most four, at the current IV Index.
-pub fn open(held: [NetworkKeys; 4], count: usize, current: u32, pdu: &[u8]) -> Opening
+pub fn open(held: [NetworkKeys; KEYS], count: usize, current: u32, pdu: &[u8]) -> Opening
     ensures { λ r. ⌜ r ≡ opening held count current (now (pdu .entry)) ⌝ }
 {
     if pdu.len() < 14 {
         return refuse(Answer::WrongLength, 0);
     }
-    if 29 < pdu.len() {
+    if super::header::PDU < pdu.len() {
         return refuse(Answer::WrongLength, 0);
     }
     let first = pdu[0];

@@ -9,7 +9,7 @@ ghost use Rattle.common.specs.Choice.{if_then_else_};
 ghost use Rattle.common.specs.Lent.{lent};
 ghost use Rattle.common.specs.Lists.{onto};
 ghost use Rattle.network.specs.Octets.{octets};
-ghost use Rattle.network.specs.Pdu.{firstOctet, clearFront, obfuscated, bodyOf};
+ghost use Rattle.network.specs.Pdu.{pduOctets, firstOctet, clearFront, obfuscated, bodyOf};
 ghost use Rattle.network.specs.Sealing.{paper, mostTransport, sealable, sealing, forwards, lowered, forwarding};
 
 pub enum Answer {
@@ -90,7 +90,7 @@ pub fn clear_body(h: Header) -> [u8; 18]
 
 // Writes DST and transport, which clear begins with, encrypted, and the NetMIC to out from octet 7 on.
 fn write_body(key: NetworkKeys, h: Header, clear: [u8; 18], out: &mut [u8])
-    requires { ⌜ (clear ≡ octets 2 (h .dst) ++ h .transport) × (h .len ≤ mostTransport (h .ctl)) × (29 ≤ length (now out)) ⌝ }
+    requires { ⌜ (clear ≡ octets 2 (h .dst) ++ h .transport) × (h .len ≤ mostTransport (h .ctl)) × (pduOctets ≤ length (now out)) ⌝ }
     ensures { λ _. ⌜ now (out .exit) ≡ take 7 (now (out .entry)) ++ onto (bodyOf key h) (drop 7 (now (out .entry))) ⌝ }
 {
     let n = 2 + h.len;
@@ -154,7 +154,7 @@ fn pdu_len(ctl: bool, len: usize) -> usize
 pub fn seal(key: NetworkKeys, h: Header, out: &mut [u8]) -> Answer
     ensures { λ r. ⌜ lent r (now (out .exit)) ≡ sealing key h (now (out .entry)) ⌝ }
 {
-    if out.len() < 29 {
+    if out.len() < super::header::PDU {
         return Answer::ShortBuffer;
     }
     if !may_seal(key, h) {
@@ -190,14 +190,14 @@ pub fn lower(h: Header) -> Header
 }
 
 // Seals an opened PDU again with TTL less 1, under the key that opened it and the same IV Index.
-pub fn forward(held: [NetworkKeys; 4], h: Header, out: &mut [u8]) -> Answer
+pub fn forward(held: [NetworkKeys; super::opening::KEYS], h: Header, out: &mut [u8]) -> Answer
     ensures { λ r. ⌜ lent r (now (out .exit)) ≡ forwarding held h (now (out .entry)) ⌝ }
 {
-    if out.len() < 29 {
+    if out.len() < super::header::PDU {
         return Answer::ShortBuffer;
     }
     let place = h.key;
-    if 4 <= place {
+    if super::opening::KEYS <= place {
         return Answer::OutsideRules;
     }
     seal(held[place], lower(h), out)

@@ -9,7 +9,7 @@ ghost use lib.ListN.{length, drop};
 ghost use Rattle.common.specs.Lent.{lent};
 ghost use Rattle.aes.specs.KeyExpansion.{keySchedule};
 ghost use Rattle.modes.specs.Ccm.{micOctets, opening};
-ghost use Rattle.network.specs.Pdu.{netMic, frontOf};
+ghost use Rattle.network.specs.Pdu.{pduOctets, netMic, frontOf};
 ghost use Rattle.network.specs.Trial.{noTrial, ctlOf, seqOf, srcOf, nonceOf, headerOf, tried};
 ghost use Rattle.network.specs.Candidates.{searched};
 
@@ -141,7 +141,7 @@ fn too_short(ctl: bool, n: usize) -> bool
 
 // The key at a place of the list tried on a PDU.
 pub(crate) fn try_key(key: NetworkKeys, place: usize, iv: u32, pdu: &[u8]) -> Trial
-    requires { ⌜ (14 ≤ length (now pdu)) × (length (now pdu) ≤ 29) ⌝ }
+    requires { ⌜ (14 ≤ length (now pdu)) × (length (now pdu) ≤ pduOctets) ⌝ }
     ensures { λ r. ⌜ r ≡ tried key place iv (now (pdu .entry)) ⌝ }
 {
     let front = front_of(key, iv, pdu);
@@ -161,14 +161,20 @@ pub(crate) fn try_key(key: NetworkKeys, place: usize, iv: u32, pdu: &[u8]) -> Tr
 }
 
 // The candidates are tried one by one, stopping at the first that authenticates.
-pub(crate) fn search(held: [NetworkKeys; 4], count: usize, nid: u8, iv: u32, pdu: &[u8]) -> Found
-    requires { ⌜ (14 ≤ length (now pdu)) × (length (now pdu) ≤ 29) ⌝ }
+pub(crate) fn search(
+    held: [NetworkKeys; super::opening::KEYS],
+    count: usize,
+    nid: u8,
+    iv: u32,
+    pdu: &[u8],
+) -> Found
+    requires { ⌜ (14 ≤ length (now pdu)) × (length (now pdu) ≤ pduOctets) ⌝ }
     ensures { λ r. ⌜ r ≡ searched held count nid iv (now (pdu .entry)) ⌝ }
 {
     let mut i: usize = 0;
     let mut trials: usize = 0;
     loop {
-        if 4 <= i || count <= i {
+        if super::opening::KEYS <= i || count <= i {
             break Found {
                 ok: false,
                 trials,

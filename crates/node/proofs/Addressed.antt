@@ -18,7 +18,7 @@ use Rattle.network.specs.declared.address.AddressKind.the-variants.{Unassigned,
 use Rattle.network.specs.Address.{kindOf, isUnicast, destinationKind}
 use Rattle.network.proofs.AddressLaws.{unicast-kind, group-range}
 use Rattle.node.specs.declared.addresses.Node.{Node}
-use Rattle.node.specs.Addresses.{isLocal, listens, forNode}
+use Rattle.node.specs.Addresses.{groupPlaces, isLocal, listens, forNode}
 use Rattle.node.specs.Made.{WellMade}
 use Rattle.node.specs.Setup.{groupKind, isGroup}
 use Rattle.node.proofs.SetupLaws.{local-is-unicast}
@@ -36,7 +36,7 @@ module _ (node : Node) (made : WellMade node) (a : ℕ) where
   unfolding listens
   listened-group l =
       let j = first (λ g. eqb g a) (node .groups) in
-      let h = ltb-true j (min (node .listened) 8) l in
+      let h = ltb-true j (min (node .listened) groupPlaces) l in
       let places = made .groups-places in
       let e = eqb-true (getD (node .groups) j 0) a (first-passes (λ g. eqb g a) (node .groups) 0 (omega arith)) in
       subst (λ (x : ℕ). isGroup x ≡ true) e (made .groups-only j (omega arith))

@@ -11,7 +11,7 @@ use borrow.Author.Tests.{lt-ltb, le-ltb, le-leb, lt-leb, ltb-true, ltb-false, le
 use lib.Dec.{leb, ltb}
 use Rattle.common.proofs.Tests.{by-test, and-first, and-second}
 use Rattle.node.specs.declared.addresses.Node.{Node}
-use Rattle.node.specs.Addresses.{isLocal, listens, forNode}
+use Rattle.node.specs.Addresses.{elementPlaces, isLocal, listens, forNode}
 
 module _ (node : Node) (a : ℕ) where
   -- the address is below the first element's
@@ -24,7 +24,7 @@ module _ (node : Node) (a : ℕ) where
     pub local-near : a - node .first < 8 → ltb (a - node .first) (node .elements) ≡ isLocal node a
     unfolding isLocal
     local-near p =
-        let end = node .first + min (node .elements) 8 in
+        let end = node .first + min (node .elements) elementPlaces in
         by-test (ltb (a - node .first) (node .elements))
         (λ t. simp (t, le-leb (node .first) a h, lt-ltb a end (omega (arith, ltb-true (a - node .first) (node .elements) t))))
         (λ t. simp (t, le-leb (node .first) a h, le-ltb a end (omega (arith, ltb-false (a - node .first) (node .elements) t))))
@@ -32,17 +32,17 @@ module _ (node : Node) (a : ℕ) where
     -- past 8 places there is none
     pub local-far : 8 ≤ a - node .first → false ≡ isLocal node a
     unfolding isLocal
-    local-far p = simp (le-leb (node .first) a h, le-ltb a (node .first + min (node .elements) 8) (omega arith))
+    local-far p = simp (le-leb (node .first) a h, le-ltb a (node .first + min (node .elements) elementPlaces) (omega arith))
 
   -- it is local where it lies among the elements'
-  pub local-within : node .first ≤ a → a < node .first + min (node .elements) 8 → isLocal node a ≡ true
+  pub local-within : node .first ≤ a → a < node .first + min (node .elements) elementPlaces → isLocal node a ≡ true
   unfolding isLocal
-  local-within l h = rw (le-leb (node .first) a l, lt-ltb a (node .first + min (node .elements) 8) h) refl
+  local-within l h = rw (le-leb (node .first) a l, lt-ltb a (node .first + min (node .elements) elementPlaces) h) refl
 
-  pub local-bounds : isLocal node a ≡ true → (node .first ≤ a) × (a < node .first + min (node .elements) 8)
+  pub local-bounds : isLocal node a ≡ true → (node .first ≤ a) × (a < node .first + min (node .elements) elementPlaces)
   unfolding isLocal
   local-bounds t =
-      let end = node .first + min (node .elements) 8 in
+      let end = node .first + min (node .elements) elementPlaces in
       (leb-true (node .first) a (and-first (leb (node .first) a) _ t), ltb-true a end (and-second (leb (node .first) a) _ t))
 
   -- ---- whether a PDU is for this node

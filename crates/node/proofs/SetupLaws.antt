@@ -12,12 +12,15 @@ use Rattle.common.proofs.Lists.{length-tab, getD-tab}
 use Rattle.common.proofs.Tests.{by-test, and-first, and-second}
 use Rattle.keys.specs.Derivation.{k2, k4}
 use Rattle.network.proofs.AddressLaws.{unicast-range}
+use Rattle.network.specs.Candidates.{networkKeyPlaces}
+use Rattle.transport.specs.Securing.{applicationKeyPlaces}
 use Rattle.node.specs.declared.setup.BoundKey.{BoundKey}
 use Rattle.node.specs.declared.setup.Setup.{Setup}
 use Rattle.node.specs.Setup.{every, boundWithin, keysValid, nextWithin, elementsValid, isGroup, groupsValid, indexValid, valid, networkKeyAt, materialAt, boundKeyAt, nextAt, groupAt, nodeOf, nextOf, making}
 use Rattle.node.specs.Made.{WellMade, NextWell, MakesWell, LocalIsUnicast}
 use Rattle.node.proofs.AddressesLaws.{local-bounds}
 use Rattle.node.proofs.EveryLaws.{every-each}
+use Rattle.node.specs.Addresses.{groupPlaces, elementPlaces}
 
 -- two tests that hold together
 both : (p q : Bool) → p && q ≡ true → (p ≡ true) × (q ≡ true)
@@ -25,32 +28,32 @@ both p q e = (and-first p q e, and-second p q e)
 
 module _ (s : Setup) where
   -- ---- what each part of `valid` allows
-  keys-allowed : keysValid s ≡ true → (1 ≤ s .networks) × (s .networks ≤ 4) × (s .applications ≤ 4) × (boundWithin s ≡ true)
+  keys-allowed : keysValid s ≡ true → (1 ≤ s .networks) × (s .networks ≤ networkKeyPlaces) × (s .applications ≤ applicationKeyPlaces) × (boundWithin s ≡ true)
   unfolding keysValid
   keys-allowed v =
       let a = both (leb 1 (s .networks)) _ v in
-      let b = both (leb (s .networks) 4) _ (a .1) in
-      let c = both (leb (s .applications) 4) _ (b .1) in
-      (leb-true 1 (s .networks) (a .0), leb-true (s .networks) 4 (b .0), leb-true (s .applications) 4 (c .0), c .1)
+      let b = both (leb (s .networks) networkKeyPlaces) _ (a .1) in
+      let c = both (leb (s .applications) applicationKeyPlaces) _ (b .1) in
+      (leb-true 1 (s .networks) (a .0), leb-true (s .networks) networkKeyPlaces (b .0), leb-true (s .applications) applicationKeyPlaces (c .0), c .1)
 
   elements-allowed :
-      elementsValid s ≡ true → (1 ≤ s .elements) × (s .elements ≤ 8) × (1 ≤ s .first) × (s .first + s .elements ≤ 0x8000) × (nextWithin s ≡ true)
+      elementsValid s ≡ true → (1 ≤ s .elements) × (s .elements ≤ elementPlaces) × (1 ≤ s .first) × (s .first + s .elements ≤ 0x8000) × (nextWithin s ≡ true)
   unfolding elementsValid
   elements-allowed v =
       let a = both (leb 1 (s .elements)) _ v in
-      let b = both (leb (s .elements) 8) _ (a .1) in
+      let b = both (leb (s .elements) elementPlaces) _ (a .1) in
       let c = both (leb 1 (s .first)) _ (b .1) in
       let d = both (leb (s .first + s .elements) 0x8000) _ (c .1) in (
         leb-true 1 (s .elements) (a .0),
-        leb-true (s .elements) 8 (b .0),
+        leb-true (s .elements) elementPlaces (b .0),
         leb-true 1 (s .first) (c .0),
         leb-true (s .first + s .elements) 0x8000 (d .0),
         d .1,
       )
 
-  groups-allowed : groupsValid s ≡ true → (s .listened ≤ 8) × (every isGroup (s .listened) (s .groups) ≡ true)
+  groups-allowed : groupsValid s ≡ true → (s .listened ≤ groupPlaces) × (every isGroup (s .listened) (s .groups) ≡ true)
   unfolding groupsValid
-  groups-allowed v = let a = both (leb (s .listened) 8) _ v in (leb-true (s .listened) 8 (a .0), a .1)
+  groups-allowed v = let a = both (leb (s .listened) groupPlaces) _ v in (leb-true (s .listened) groupPlaces (a .0), a .1)
 
   index-allowed : indexValid s ≡ true → s .flag ≡ true → 1 ≤ s .iv
   unfolding indexValid
@@ -107,18 +110,18 @@ module _ (s : Setup) where
           elements-least = e1;
           elements-most = e8;
           listened-most = l8;
-          netkeys-places = length-tab (networkKeyAt s) 4;
-          materials-places = length-tab (materialAt s) 4;
-          appkeys-places = length-tab (boundKeyAt s) 4;
-          groups-places = length-tab (groupAt s) 8;
+          netkeys-places = length-tab (networkKeyAt s) networkKeyPlaces;
+          materials-places = length-tab (materialAt s) networkKeyPlaces;
+          appkeys-places = length-tab (boundKeyAt s) applicationKeyPlaces;
+          groups-places = length-tab (groupAt s) groupPlaces;
           derived =
               λ i h.
-              rw (getD-tab (materialAt s) 4 i _ (omega (arith, h, n4)), getD-tab (networkKeyAt s) 4 i _ (omega (arith, h, n4))) (keys-used i h);
-          aid-derived = λ i h. rw (getD-tab (boundKeyAt s) 4 i _ (omega (arith, h, a4))) (aid-used i h);
-          bound = λ i h. rw (getD-tab (boundKeyAt s) 4 i _ (omega (arith, h, a4))) (bound-used b i h);
+              rw (getD-tab (materialAt s) networkKeyPlaces i _ (omega (arith, h, n4)), getD-tab (networkKeyAt s) networkKeyPlaces i _ (omega (arith, h, n4))) (keys-used i h);
+          aid-derived = λ i h. rw (getD-tab (boundKeyAt s) applicationKeyPlaces i _ (omega (arith, h, a4))) (aid-used i h);
+          bound = λ i h. rw (getD-tab (boundKeyAt s) applicationKeyPlaces i _ (omega (arith, h, a4))) (bound-used b i h);
           first-least = f1;
           last-most = omega (arith, f8);
-          groups-only = λ i h. rw (getD-tab (groupAt s) 8 i 0 (omega (arith, h, l8))) (group-used g i h);
+          groups-only = λ i h. rw (getD-tab (groupAt s) groupPlaces i 0 (omega (arith, h, l8))) (group-used g i h);
           index-least = index-allowed (parts .3);
         }
 
@@ -127,8 +130,8 @@ module _ (s : Setup) where
     next-well =
         let (_, e8, _, _, q) = elements-allowed (parts .1) in
         record {
-          places = length-tab (nextAt s) 8;
-          most = λ i h. rw (getD-tab (nextAt s) 8 i 0 (omega (arith, h, e8))) (next-used q i h);
+          places = length-tab (nextAt s) elementPlaces;
+          most = λ i h. rw (getD-tab (nextAt s) elementPlaces i 0 (omega (arith, h, e8))) (next-used q i h);
         }
 
 pub makes-well : MakesWell

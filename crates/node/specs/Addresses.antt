@@ -8,13 +8,20 @@ use lib.Dec.{eqb, leb, ltb}
 use Rattle.common.specs.Search.{first}
 use Rattle.node.specs.declared.addresses.Node.{Node}
 
+-- how many elements there can be, and group addresses listened to
+abbrev pub elementPlaces : ℕ
+elementPlaces = 8
+
+abbrev pub groupPlaces : ℕ
+groupPlaces = 8
+
 -- elements have consecutive addresses, and are at most 8
 unfoldable pub isLocal : Node → ℕ → Bool
-isLocal node a = leb (node .first) a && ltb a (node .first + min (node .elements) 8)
+isLocal node a = leb (node .first) a && ltb a (node .first + min (node .elements) elementPlaces)
 
 -- one of the groups is it, and they are at most 8
 unfoldable pub listens : Node → ℕ → Bool
-listens node a = ltb (first (λ g. eqb g a) (node .groups)) (min (node .listened) 8)
+listens node a = ltb (first (λ g. eqb g a) (node .groups)) (min (node .listened) groupPlaces)
 
 -- a local unicast address, 0xFFFF, 0xFFFE with relay on, or a group listened to
 unfoldable pub forNode : Node → ℕ → Bool

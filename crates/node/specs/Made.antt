@@ -6,30 +6,30 @@ use Prim.Native.Nat.{ℕ, _+_, _≤_, _<_}
 use lib.ListN.{length, getD}
 use Rattle.keys.specs.Derivation.{k2, k4}
 use Rattle.network.specs.Address.{isUnicast}
-use Rattle.network.specs.Candidates.{keyAt}
-use Rattle.transport.specs.Securing.{applicationKeyAt}
+use Rattle.network.specs.Candidates.{networkKeyPlaces, keyAt}
+use Rattle.transport.specs.Securing.{applicationKeyPlaces, applicationKeyAt}
 use Rattle.node.specs.declared.addresses.Node.{Node}
 use Rattle.node.specs.declared.setup.Setup.{Setup}
-use Rattle.node.specs.Addresses.{isLocal}
+use Rattle.node.specs.Addresses.{groupPlaces, elementPlaces, isLocal}
 use Rattle.node.specs.Setup.{isGroup, making}
 
 -- what holds of a node that setup made
 pub record WellMade (node : Node) : Type 0 where
   -- network keys: 1 to 4
   pub networks-least : 1 ≤ node .networks
-  pub networks-most : node .networks ≤ 4
+  pub networks-most : node .networks ≤ networkKeyPlaces
   -- application keys: 0 to 4
-  pub applications-most : node .applications ≤ 4
+  pub applications-most : node .applications ≤ applicationKeyPlaces
   -- elements: 1 to 8
   pub elements-least : 1 ≤ node .elements
-  pub elements-most : node .elements ≤ 8
+  pub elements-most : node .elements ≤ elementPlaces
   -- group addresses listened to: 0 to 8
-  pub listened-most : node .listened ≤ 8
+  pub listened-most : node .listened ≤ groupPlaces
   -- each array has all its places
-  pub netkeys-places : length (node .netkeys) ≡ 4
-  pub materials-places : length (node .materials) ≡ 4
-  pub appkeys-places : length (node .appkeys) ≡ 4
-  pub groups-places : length (node .groups) ≡ 8
+  pub netkeys-places : length (node .netkeys) ≡ networkKeyPlaces
+  pub materials-places : length (node .materials) ≡ networkKeyPlaces
+  pub appkeys-places : length (node .appkeys) ≡ applicationKeyPlaces
+  pub groups-places : length (node .groups) ≡ groupPlaces
   -- NID, encryption key and privacy key are derived from the network key
   pub derived : (i : ℕ) → i < node .networks → keyAt (node .materials) i ≡ k2 (getD (node .netkeys) i (record { octets = [] }) .octets)
   -- AID is derived from the application key

@@ -17,12 +17,15 @@ use Rattle.keys.specs.Derivation.{k2, k4}
 use Rattle.network.specs.declared.address.AddressKind.{AddressKind}
 use Rattle.network.specs.declared.address.AddressKind.the-variants.{Unassigned, Unicast, Virtual, Group}
 use Rattle.network.specs.Address.{kindOf}
+use Rattle.network.specs.Candidates.{networkKeyPlaces}
 use Rattle.transport.specs.declared.securing.ApplicationKey.{ApplicationKey}
+use Rattle.transport.specs.Securing.{applicationKeyPlaces}
 use Rattle.node.specs.declared.addresses.Key.{Key}
 use Rattle.node.specs.declared.addresses.Node.{Node}
 use Rattle.node.specs.declared.setup.BoundKey.{BoundKey}
 use Rattle.node.specs.declared.setup.Made.{Made}
 use Rattle.node.specs.declared.setup.Setup.{Setup}
+use Rattle.node.specs.Addresses.{groupPlaces, elementPlaces}
 
 -- zeros
 abbrev pub zeroKey : Key
@@ -36,9 +39,9 @@ abbrev pub nothing : Setup
 nothing =
     record {
       networks = 0;
-      netkeys = replicate 4 zeroKey;
+      netkeys = replicate networkKeyPlaces zeroKey;
       applications = 0;
-      appkeys = replicate 4 zeroBoundKey;
+      appkeys = replicate applicationKeyPlaces zeroBoundKey;
       device = replicate 16 0;
       first = 0;
       elements = 0;
@@ -114,12 +117,12 @@ counted most n = if ltb most n then n else n + 1
 -- with the next network key: past the last place it is only counted
 abbrev pub withNetworkKey : Setup → List ℕ → Setup
 withNetworkKey s key =
-    withKeys s (counted 4 (s .networks)) (set (s .netkeys) (s .networks) (record { octets = key })) (s .applications) (s .appkeys) (s .device)
+    withKeys s (counted networkKeyPlaces (s .networks)) (set (s .netkeys) (s .networks) (record { octets = key })) (s .applications) (s .appkeys) (s .device)
 
 -- with the next application key, bound to a network key
 abbrev pub withApplicationKey : Setup → ℕ → List ℕ → Setup
 withApplicationKey s network key =
-    withKeys s (s .networks) (s .netkeys) (counted 4 (s .applications)) (set (s .appkeys) (s .applications) (record { key = key; network = network })) (s .device)
+    withKeys s (s .networks) (s .netkeys) (counted applicationKeyPlaces (s .applications)) (set (s .appkeys) (s .applications) (record { key = key; network = network })) (s .device)
 
 -- with another device key
 abbrev pub withDeviceKey : Setup → List ℕ → Setup
@@ -131,7 +134,7 @@ withElements s address elements next = withAddresses s address elements next (s 
 
 -- with one more group address
 abbrev pub withGroup : Setup → ℕ → Setup
-withGroup s address = withAddresses s (s .first) (s .elements) (s .next) (counted 8 (s .listened)) (set (s .groups) (s .listened) address)
+withGroup s address = withAddresses s (s .first) (s .elements) (s .next) (counted groupPlaces (s .listened)) (set (s .groups) (s .listened) address)
 
 -- none of the first n fails
 abbrev pub every : {A : Type 0} → (A → Bool) → ℕ → List A → Bool
@@ -143,7 +146,7 @@ boundWithin s = every (λ (b : BoundKey). ltb (b .network) (s .networks)) (s .ap
 
 -- network keys 1 to 4, application keys 0 to 4
 unfoldable pub keysValid : Setup → Bool
-keysValid s = leb 1 (s .networks) && (leb (s .networks) 4 && (leb (s .applications) 4 && boundWithin s))
+keysValid s = leb 1 (s .networks) && (leb (s .networks) networkKeyPlaces && (leb (s .applications) applicationKeyPlaces && boundWithin s))
 
 -- each element's next SEQ: with 0x1000000 none is left
 unfoldable pub nextWithin : Setup → Bool
@@ -152,7 +155,7 @@ nextWithin s = every (λ q. leb q 0x1000000) (s .elements) (s .next)
 -- elements 1 to 8, consecutive unicast addresses, all at most 0x7FFF
 unfoldable pub elementsValid : Setup → Bool
 elementsValid s =
-    leb 1 (s .elements) && (leb (s .elements) 8 && (leb 1 (s .first) && (leb (s .first + s .elements) 0x8000 && nextWithin s)))
+    leb 1 (s .elements) && (leb (s .elements) elementPlaces && (leb 1 (s .first) && (leb (s .first + s .elements) 0x8000 && nextWithin s)))
 
 abbrev pub groupKind : AddressKind → Bool
 groupKind Unassigned = false
@@ -165,7 +168,7 @@ isGroup a = groupKind (kindOf a)
 
 -- group addresses 0 to 8
 unfoldable pub groupsValid : Setup → Bool
-groupsValid s = leb (s .listened) 8 && every isGroup (s .listened) (s .groups)
+groupsValid s = leb (s .listened) groupPlaces && every isGroup (s .listened) (s .groups)
 
 -- flag 1 with IV Index 0 is refused
 unfoldable pub indexValid : Setup → Bool
@@ -206,32 +209,32 @@ unfoldable pub nodeOf : Setup → Node
 nodeOf s =
     record {
       networks = s .networks;
-      netkeys = tab (networkKeyAt s) 4;
-      materials = tab (materialAt s) 4;
+      netkeys = tab (networkKeyAt s) networkKeyPlaces;
+      materials = tab (materialAt s) networkKeyPlaces;
       applications = s .applications;
-      appkeys = tab (boundKeyAt s) 4;
+      appkeys = tab (boundKeyAt s) applicationKeyPlaces;
       device = s .device;
       first = s .first;
       elements = s .elements;
       listened = s .listened;
-      groups = tab (groupAt s) 8;
+      groups = tab (groupAt s) groupPlaces;
       iv = s .iv;
       flag = s .flag;
       relay = s .relay;
     }
 
 unfoldable pub nextOf : Setup → List ℕ
-nextOf s = tab (nextAt s) 8
+nextOf s = tab (nextAt s) elementPlaces
 
 -- zeros
 abbrev pub noNode : Node
 noNode =
     record {
       networks = 0;
-      netkeys = replicate 4 zeroKey;
-      materials = replicate 4 zeroMaterial;
+      netkeys = replicate networkKeyPlaces zeroKey;
+      materials = replicate networkKeyPlaces zeroMaterial;
       applications = 0;
-      appkeys = replicate 4 zeroApplicationKey;
+      appkeys = replicate applicationKeyPlaces zeroApplicationKey;
       device = replicate 16 0;
       first = 0;
       elements = 0;

@@ -4,6 +4,11 @@ use transport::securing::ApplicationKey;
 ghost use mathlib.Core.Path.{_≡_};
 ghost use Rattle.node.specs.Addresses.{isLocal, listens, forNode};
 
+// How many elements there can be, and group addresses listened to.
+pub const ELEMENTS: usize = 8;
+
+pub const GROUPS: usize = 8;
+
 // Sixteen octets of a key.
 pub struct Key {
     pub octets: [u8; 16],
@@ -13,18 +18,18 @@ pub struct Key {
 pub struct Node {
     // How many network keys there are, in their fixed order; and the security material that is derived from each: NID, encryption key and privacy key.
     pub networks: usize,
-    pub netkeys: [Key; 4],
-    pub materials: [NetworkKeys; 4],
+    pub netkeys: [Key; network::opening::KEYS],
+    pub materials: [NetworkKeys; network::opening::KEYS],
     // How many application keys there are.
     pub applications: usize,
-    pub appkeys: [ApplicationKey; 4],
+    pub appkeys: [ApplicationKey; transport::securing::KEYS],
     pub device: [u8; 16],
     // The first element's address, and how many elements there are.
     pub first: u16,
     pub elements: usize,
     // How many group addresses are listened to.
     pub listened: usize,
-    pub groups: [u16; 8],
+    pub groups: [u16; GROUPS],
     // The IV Index, which setup only begins with, and its flag.
     pub iv: u32,
     pub flag: bool,
@@ -39,7 +44,7 @@ pub fn is_local(node: Node, address: u16) -> bool
         return false;
     }
     let place = (address - node.first) as usize;
-    place < 8 && place < node.elements
+    place < ELEMENTS && place < node.elements
 }
 
 // Whether a group address is listened to.
@@ -48,7 +53,7 @@ fn is_listened(node: Node, address: u16) -> bool
 {
     let groups = node.groups;
     let mut i: usize = 0;
-    while i < 8 && i < node.listened {
+    while i < GROUPS && i < node.listened {
         if groups[i] == address {
             return true;
         }

@@ -7,8 +7,11 @@ use transport::securing::ApplicationKey;
 ghost use mathlib.Core.Path.{_≡_};
 ghost use Prim.Native.Nat.{_<_, _≤_};
 ghost use Rattle.common.specs.Lists.{tab};
+ghost use Rattle.network.specs.Candidates.{networkKeyPlaces};
+ghost use Rattle.transport.specs.Securing.{applicationKeyPlaces};
 ghost use Rattle.node.specs.Setup.{nothing as nothingGiven, counted as countedTo, withNetworkKey, withApplicationKey};
 ghost use Rattle.node.specs.Setup.{groupKind, boundWithin, keysValid, nextWithin, elementsValid, groupsValid, indexValid, valid, networkKeyAt, materialAt, boundKeyAt, nextAt, groupAt, nodeOf, nextOf, noNode, making};
+ghost use Rattle.node.specs.Addresses.{groupPlaces, elementPlaces};
 
 // An application key, and the place of the network key that it is bound to.
 pub struct BoundKey {
@@ -19,18 +22,18 @@ pub struct BoundKey {
 pub struct Setup {
     // How many network keys there are: 1 to 4.
     pub networks: usize,
-    pub netkeys: [Key; 4],
+    pub netkeys: [Key; network::opening::KEYS],
     // How many application keys there are: 0 to 4.
     pub applications: usize,
-    pub appkeys: [BoundKey; 4],
+    pub appkeys: [BoundKey; transport::securing::KEYS],
     pub device: [u8; 16],
     // The first element's address, and how many elements there are: 1 to 8, each with its next SEQ.
     pub first: u16,
     pub elements: usize,
-    pub next: [u32; 8],
+    pub next: [u32; super::addresses::ELEMENTS],
     // How many group addresses are listened to: 0 to 8.
     pub listened: usize,
-    pub groups: [u16; 8],
+    pub groups: [u16; super::addresses::GROUPS],
     pub iv: u32,
     pub flag: bool,
     pub relay: bool,
@@ -41,7 +44,7 @@ pub struct Made {
     // False where the setup is outside the rules: then all is zero.
     pub ok: bool,
     pub node: Node,
-    pub next: [u32; 8],
+    pub next: [u32; super::addresses::ELEMENTS],
 }
 
 // Nothing is given: zeros, and relay off. What there is is filled in.
@@ -59,9 +62,9 @@ pub fn nothing() -> Setup
         device: [0u8; 16],
         first: 0x0000,
         elements: 0,
-        next: [0u32; 8],
+        next: [0u32; super::addresses::ELEMENTS],
         listened: 0,
-        groups: [0u16; 8],
+        groups: [0u16; super::addresses::GROUPS],
         iv: 0,
         flag: false,
         relay: false,
@@ -105,7 +108,7 @@ pub fn with_application_key(s: Setup, network: usize, key: [u8; 16]) -> Setup
 
 // Whether each application key is bound to a network key that there is.
 fn is_bound(s: Setup) -> bool
-    requires { ⌜ s .applications ≤ 4 ⌝ }
+    requires { ⌜ s .applications ≤ applicationKeyPlaces ⌝ }
     ensures { λ r. ⌜ r ≡ boundWithin s ⌝ }
 {
     let appkeys = s.appkeys;
@@ -126,10 +129,10 @@ fn keys_valid(s: Setup) -> bool
     if s.networks < 1 {
         return false;
     }
-    if 4 < s.networks {
+    if network::opening::KEYS < s.networks {
         return false;
     }
-    if 4 < s.applications {
+    if transport::securing::KEYS < s.applications {
         return false;
     }
     is_bound(s)
@@ -137,7 +140,7 @@ fn keys_valid(s: Setup) -> bool
 
 // Whether each element's next SEQ is at most 0x1000000: with that one no SEQ is left.
 fn next_within(s: Setup) -> bool
-    requires { ⌜ s .elements ≤ 8 ⌝ }
+    requires { ⌜ s .elements ≤ elementPlaces ⌝ }
     ensures { λ r. ⌜ r ≡ nextWithin s ⌝ }
 {
     let next = s.next;
@@ -157,7 +160,7 @@ fn elements_valid(s: Setup) -> bool
     if s.elements < 1 {
         return false;
     }
-    if 8 < s.elements {
+    if super::addresses::ELEMENTS < s.elements {
         return false;
     }
     if s.first < 1 {
@@ -183,7 +186,7 @@ fn group(kind: AddressKind) -> bool
 fn groups_valid(s: Setup) -> bool
     ensures { λ r. ⌜ r ≡ groupsValid s ⌝ }
 {
-    if 8 < s.listened {
+    if super::addresses::GROUPS < s.listened {
         return false;
     }
     let groups = s.groups;
@@ -288,8 +291,8 @@ fn group_at(s: Setup, i: usize) -> u16
 }
 
 // The places of each array together.
-fn network_keys_of(s: Setup) -> [Key; 4]
-    ensures { λ r. ⌜ r ≡ tab (networkKeyAt s) 4 ⌝ }
+fn network_keys_of(s: Setup) -> [Key; network::opening::KEYS]
+    ensures { λ r. ⌜ r ≡ tab (networkKeyAt s) networkKeyPlaces ⌝ }
 {
     [
         network_key_at(s, 0),
@@ -299,8 +302,8 @@ fn network_keys_of(s: Setup) -> [Key; 4]
     ]
 }
 
-fn materials_of(s: Setup) -> [NetworkKeys; 4]
-    ensures { λ r. ⌜ r ≡ tab (materialAt s) 4 ⌝ }
+fn materials_of(s: Setup) -> [NetworkKeys; network::opening::KEYS]
+    ensures { λ r. ⌜ r ≡ tab (materialAt s) networkKeyPlaces ⌝ }
 {
     [
         material_at(s, 0),
@@ -310,8 +313,8 @@ fn materials_of(s: Setup) -> [NetworkKeys; 4]
     ]
 }
 
-fn application_keys_of(s: Setup) -> [ApplicationKey; 4]
-    ensures { λ r. ⌜ r ≡ tab (boundKeyAt s) 4 ⌝ }
+fn application_keys_of(s: Setup) -> [ApplicationKey; transport::securing::KEYS]
+    ensures { λ r. ⌜ r ≡ tab (boundKeyAt s) applicationKeyPlaces ⌝ }
 {
     [
         application_key_at(s, 0),
@@ -321,8 +324,8 @@ fn application_keys_of(s: Setup) -> [ApplicationKey; 4]
     ]
 }
 
-fn groups_of(s: Setup) -> [u16; 8]
-    ensures { λ r. ⌜ r ≡ tab (groupAt s) 8 ⌝ }
+fn groups_of(s: Setup) -> [u16; super::addresses::GROUPS]
+    ensures { λ r. ⌜ r ≡ tab (groupAt s) groupPlaces ⌝ }
 {
     [
         group_at(s, 0),
@@ -374,21 +377,21 @@ fn zero_node() -> Node
     Node {
         networks: 0,
         netkeys: [key; 4],
-        materials: [material; 4],
+        materials: [material; network::opening::KEYS],
         applications: 0,
         appkeys: [application_key; 4],
         device: [0u8; 16],
         first: 0,
         elements: 0,
         listened: 0,
-        groups: [0u16; 8],
+        groups: [0u16; super::addresses::GROUPS],
         iv: 0,
         flag: false,
         relay: false,
     }
 }
 
-fn next_of(s: Setup) -> [u32; 8]
+fn next_of(s: Setup) -> [u32; super::addresses::ELEMENTS]
     ensures { λ r. ⌜ r ≡ nextOf s ⌝ }
 {
     [
@@ -411,7 +414,7 @@ pub fn make(s: Setup) -> Made
         return Made {
             ok: false,
             node: zero_node(),
-            next: [0u32; 8],
+            next: [0u32; super::addresses::ELEMENTS],
         };
     }
     let next = next_of(s);

@@ -11,7 +11,7 @@ use Rattle.common.specs.Lists.{padded, onto}
 use Rattle.common.proofs.Lists.{padded-all}
 use Rattle.network.specs.declared.header.Header.{Header}
 use Rattle.network.specs.Octets.{octets}
-use Rattle.network.specs.Pdu.{clearFront}
+use Rattle.network.specs.Pdu.{pduOctets, clearFront}
 use Rattle.radio.specs.ClearPdu.{clearPdu}
 
 -- octets read one by one
@@ -48,7 +48,7 @@ module _ (first : ℕ) (h : Header) (fits : h .len ≤ 16) where
 
     -- left is the lent buffer at exit
     pub clear-written :
-        (out : List ℕ) {left : List ℕ} → 29 ≤ length out → left ≡ onto (take (length out) (take (9 + h .len) clear)) out
+        (out : List ℕ) {left : List ℕ} → pduOctets ≤ length out → left ≡ onto (take (length out) (take (9 + h .len) clear)) out
         → lent (9 + h .len) left ≡ lent (length (clearPdu first h)) (onto (clearPdu first h) out)
     clear-written out room el =
         let l = length-clear sixteen in

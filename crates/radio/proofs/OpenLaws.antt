@@ -18,6 +18,7 @@ use Rattle.network.specs.Candidates.{candidates}
 use Rattle.network.specs.Opening.{paper, opening}
 use Rattle.network.proofs.OpeningBounds.{Bounded, opening-bounded}
 use Rattle.network.proofs.OpeningLaws as network
+use Rattle.network.specs.Pdu.{pduOctets}
 use Rattle.radio.specs.ClearPdu.{clearPdu}
 use Rattle.radio.specs.Credential.{pieces, pieceCount}
 use Rattle.radio.specs.Open.{packed, told, openDone}
@@ -35,12 +36,12 @@ pub opened-small :
 opened-small held count iv pdu e = rw e (opening-bounded held count iv pdu)
 
 module _ (credentials : List ℕ) (iv : ℕ) (pdu out : List ℕ) where
-  pub open-short : length out < 29 → lent 16 out ≡ openDone credentials iv pdu out
+  pub open-short : length out < pduOctets → lent 16 out ≡ openDone credentials iv pdu out
   unfolding openDone
   open-short h = simp (lt-ltb _ _ h)
 
   -- refused before a key is read
-  module _ (room : 29 ≤ length out) where
+  module _ (room : pduOctets ≤ length out) where
     early : {o : Opening} → o ≡ opening (pieces credentials) (pieceCount credentials) iv pdu → told (getD pdu 0 0) out o ≡ openDone credentials iv pdu out
     unfolding openDone
     early e = simp (le-ltb _ _ room, e)
@@ -50,19 +51,19 @@ module _ (credentials : List ℕ) (iv : ℕ) (pdu out : List ℕ) where
     pdu-short h = early (network.open-short (pieces credentials) (pieceCount credentials) iv pdu h refl)
 
     module _ (low : 14 ≤ length pdu) where
-      pub pdu-long : 29 < length pdu → lent 1 out ≡ openDone credentials iv pdu out
+      pub pdu-long : pduOctets < length pdu → lent 1 out ≡ openDone credentials iv pdu out
       unfolding told
       pdu-long h = early (network.open-long (pieces credentials) (pieceCount credentials) iv pdu low h refl)
 
       pub pdu-foreign :
-          {b : Bool} → length pdu ≤ 29 → b ≡ eqb (length (candidates (pieces credentials) (pieceCount credentials) (getD pdu 0 0 % 128))) 0 → b ≡ true
+          {b : Bool} → length pdu ≤ pduOctets → b ≡ eqb (length (candidates (pieces credentials) (pieceCount credentials) (getD pdu 0 0 % 128))) 0 → b ≡ true
           → lent 2 out ≡ openDone credentials iv pdu out
       unfolding told
       pdu-foreign high e t = early (network.open-foreign (pieces credentials) (pieceCount credentials) iv pdu low high (sym t ∙ e) refl)
 
   module _ {held : List NetworkKeys} {count : ℕ} {o : Opening} (eh : held ≡ pieces credentials) (ec : count ≡ pieceCount credentials)
       (eo : o ≡ opening held count iv pdu) where
-    module _ (room : 29 ≤ length out) where
+    module _ (room : pduOctets ≤ length out) where
       open-told : told (getD pdu 0 0) out o ≡ openDone credentials iv pdu out
       unfolding openDone
       open-told = simp (le-ltb _ _ room, eo, eh, ec)

@@ -17,6 +17,7 @@ use Rattle.network.specs.declared.sealing.Answer.the-variants.{Sealed, OutsideR
 use Rattle.network.specs.Sealing.{sealedLength, paper, sealable, sealing}
 use Rattle.network.proofs.Sealed.{within, pdu-length}
 use Rattle.network.proofs.SealingLaws.{body-most, transport-there}
+use Rattle.network.specs.Pdu.{pduOctets}
 use Rattle.radio.specs.Credential.{keysOf, pieceAt}
 use Rattle.radio.specs.Seal.{headerFor, sealNumber, sealDone}
 use Rattle.radio.proofs.CredentialLaws.{piece-whole}
@@ -27,10 +28,10 @@ paper-most OutsideRules = omega arith
 paper-most ShortBuffer = omega arith
 
 -- a PDU has 29 octets at most
-sealing-most : (key : NetworkKeys) (h : Header) (out : List ℕ) → length (h .transport) ≡ 16 → sealedLength (sealing key h out .answer) ≤ 29
+sealing-most : (key : NetworkKeys) (h : Header) (out : List ℕ) → length (h .transport) ≡ 16 → sealedLength (sealing key h out .answer) ≤ pduOctets
 unfolding sealing
 sealing-most key h out sixteen =
-    by-test (ltb (length out) 29)
+    by-test (ltb (length out) pduOctets)
     (λ t. rw t (omega arith))
     (λ t. by-test (sealable key h)
     (λ u.
@@ -40,15 +41,15 @@ sealing-most key h out sixteen =
 
 pub sealed-most :
     (key : NetworkKeys) (h : Header) (out : List ℕ) {a : Answer} {left : List ℕ} → length (h .transport) ≡ 16 → lent a left ≡ sealing key h out
-    → sealedLength a ≤ 29
+    → sealedLength a ≤ pduOctets
 sealed-most key h out sixteen e = rw (ap (λ (s : Lent Answer). s .answer) e) (sealing-most key h out sixteen)
 
 module _ (credential : List ℕ) (iv ctl ttl seq src dst : ℕ) (transport out : List ℕ) where
-  pub seal-short : length out < 29 → lent 16 out ≡ sealDone credential iv ctl ttl seq src dst transport out
+  pub seal-short : length out < pduOctets → lent 16 out ≡ sealDone credential iv ctl ttl seq src dst transport out
   unfolding sealDone
   seal-short h = simp (lt-ltb _ _ h)
 
-  module _ (room : 29 ≤ length out) where
+  module _ (room : pduOctets ≤ length out) where
     pub bad-credential : (length credential ≡ 33 → ⊥) → lent 14 out ≡ sealDone credential iv ctl ttl seq src dst transport out
     unfolding sealDone
     bad-credential h = simp (le-ltb _ _ room, ne-eqb _ _ h)

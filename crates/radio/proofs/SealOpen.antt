@@ -23,7 +23,7 @@ use Rattle.network.specs.Candidates.{keyAt, candidates}
 use Rattle.network.specs.Header.{transportOf}
 use Rattle.network.specs.Octets.{octets}
 use Rattle.network.specs.Opening.{opening}
-use Rattle.network.specs.Pdu.{clearFront, pduOf}
+use Rattle.network.specs.Pdu.{pduOctets, clearFront, pduOf}
 use Rattle.network.specs.SealOpen.{Formed, Receives}
 use Rattle.network.specs.Sealing.{sealable, sealing}
 use Rattle.network.proofs.Sealed.{most-16}
@@ -63,7 +63,7 @@ module _ (x : Asked) (w : WithinRules x) where
   formed : Formed header
   formed = record { dst-fits = w .dst-fits; zeros-behind = ap (padded 16) transport-back }
 
-  sealed-is : (buffer : List ℕ) → 29 ≤ length buffer → sealed x buffer ≡ lent (65536 * length asked) (onto asked buffer)
+  sealed-is : (buffer : List ℕ) → pduOctets ≤ length buffer → sealed x buffer ≡ lent (65536 * length asked) (onto asked buffer)
   unfolding sealDone sealing sealNumber
   sealed-is buffer room =
       simp (le-ltb _ _ room, eq-eqb _ _ (w .whole), le-ltb _ _ (w .ctl-fits), may-seal)
@@ -91,7 +91,7 @@ module _ (x : Asked) (w : WithinRules x) where
   clear-is = rw transport-back
 
   opened-is :
-      (credentials out : List ℕ) → take 33 credentials ≡ x .credential → 29 ≤ length out
+      (credentials out : List ℕ) → take 33 credentials ≡ x .credential → pduOctets ≤ length out
       → openDone credentials (x .iv) asked out ≡ lent (packed 0 1 (9 + length (x .transport)) 0) (onto (clearAsked x) out)
   unfolding openDone told
   opened-is credentials out e room =

@@ -11,6 +11,7 @@ use Rattle.common.specs.Lent.{Lent, lent}
 use Rattle.common.specs.Lists.{onto}
 use Rattle.network.specs.declared.opening.Opening.{Opening}
 use Rattle.network.specs.Opening.{paper, opening}
+use Rattle.network.specs.Pdu.{pduOctets}
 use Rattle.radio.specs.ClearPdu.{clearPdu}
 use Rattle.radio.specs.Credential.{pieces, pieceCount}
 
@@ -28,5 +29,5 @@ told octet0 out o =
 -- 16: out is shorter than 29; then refusals 1 to 4 over the first four whole pieces of credentials
 unfoldable pub openDone : List ℕ → ℕ → List ℕ → List ℕ → Lent ℕ
 openDone credentials iv pdu out =
-    if ltb (length out) 29 then lent 16 out else
+    if ltb (length out) pduOctets then lent 16 out else
     told (getD pdu 0 0) out (opening (pieces credentials) (pieceCount credentials) iv pdu)

@@ -13,6 +13,7 @@ use Rattle.common.specs.Lists.{padded}
 use Rattle.network.specs.declared.header.Header.{Header}
 use Rattle.network.specs.declared.sealing.Answer.{Answer}
 use Rattle.network.specs.Sealing.{paper, sealedLength, sealing}
+use Rattle.network.specs.Pdu.{pduOctets}
 use Rattle.radio.specs.Credential.{keysOf}
 
 -- the header that a call names
@@ -28,7 +29,7 @@ sealNumber a = paper a + 65536 * sealedLength a
 unfoldable pub sealDone : List ℕ → ℕ → ℕ → ℕ → ℕ → ℕ → ℕ → List ℕ → List ℕ → Lent ℕ
 sealDone credential iv ctl ttl seq src dst transport out =
     let s = sealing (keysOf credential) (headerFor iv (eqb ctl 1) ttl seq src dst transport) out in
-    if ltb (length out) 29 then lent 16 out else
+    if ltb (length out) pduOctets then lent 16 out else
     if not (eqb (length credential) 33) then lent 14 out else
     if ltb 1 ctl then lent 14 out else
     lent (sealNumber (s .answer)) (s .buffer)

@@ -10,7 +10,7 @@ use Rattle.common.specs.Lists.{onto}
 use Rattle.network.specs.Address.{addressesAllowed}
 use Rattle.network.specs.Nonce.{ctlTtl}
 use Rattle.network.specs.Octets.{octets}
-use Rattle.network.specs.Pdu.{firstOctet}
+use Rattle.network.specs.Pdu.{pduOctets, firstOctet}
 use Rattle.network.specs.Sealing.{mostTransport}
 use Rattle.radio.specs.Open.{packed, openDone}
 use Rattle.radio.specs.Seal.{sealDone}
@@ -66,7 +66,7 @@ OpenSealed =
     -- the first of the credentials is the one that sealed
     → take 33 credentials ≡ x .credential
     -- both buffers have room
-    → 29 ≤ length buffer → 29 ≤ length out
+    → pduOctets ≤ length buffer → pduOctets ≤ length out
     → (let s = sealed x buffer in
     let pdu = take (lengthIn (s .answer)) (s .buffer) in
     (refusalIn (s .answer) ≡ 0) × (openDone credentials (x .iv) pdu out ≡ lent (packed 0 1 (9 + length (x .transport)) 0) (onto (clearAsked x) out)))

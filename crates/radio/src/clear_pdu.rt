@@ -7,7 +7,7 @@ ghost use lib.ListN.{length};
 ghost use Rattle.common.specs.Lent.{lent};
 ghost use Rattle.common.specs.Lists.{onto};
 ghost use Rattle.network.specs.Octets.{octets};
-ghost use Rattle.network.specs.Pdu.{clearFront};
+ghost use Rattle.network.specs.Pdu.{pduOctets, clearFront};
 ghost use Rattle.radio.specs.ClearPdu.{clearPdu};
 
 // Octet 0, CTL/TTL, SEQ, SRC, DST and all sixteen octets of transport.
@@ -47,7 +47,7 @@ fn octets_of(first: u8, h: Header) -> [u8; 25]
 
 // Writes the clear PDU onto out's first octets, and says how many they are.
 pub(crate) fn write(first: u8, h: Header, out: &mut [u8]) -> usize
-    requires { ⌜ (h .len ≤ 16) × (29 ≤ length (now out)) ⌝ }
+    requires { ⌜ (h .len ≤ 16) × (pduOctets ≤ length (now out)) ⌝ }
     ensures { λ r. ⌜ lent r (now (out .exit)) ≡ lent (length (clearPdu first h)) (onto (clearPdu first h) (now (out .entry))) ⌝ }
 {
     let clear = octets_of(first, h);

@@ -83,7 +83,7 @@ pub(crate) fn piece(cs: &[u8], i: usize) -> NetworkKeys
 }
 
 // The first four pieces.
-pub(crate) fn pieces(cs: &[u8]) -> [NetworkKeys; 4]
+pub(crate) fn pieces(cs: &[u8]) -> [NetworkKeys; network::opening::KEYS]
     ensures { λ r. ⌜ r ≡ pieces (now (cs .entry)) ⌝ }
 {
     [piece(cs, 0), piece(cs, 1), piece(cs, 2), piece(cs, 3)]

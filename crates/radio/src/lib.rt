@@ -10,6 +10,7 @@ ghost use Rattle.common.specs.Lent.{lent};
 ghost use Rattle.radio.specs.Credential.{credentialsDone};
 ghost use Rattle.radio.specs.Open.{packed, openDone};
 ghost use Rattle.network.specs.Sealing.{sealedLength};
+ghost use Rattle.network.specs.Pdu.{pduOctets};
 ghost use Rattle.radio.specs.Seal.{sealNumber, sealDone};
 
 // 0, and out's first 33 octets are the credential of the key; 14, and out stays, where key is not 16 octets or out is shorter than 33.
@@ -30,7 +31,7 @@ pub extern "C" fn gorephan_credentials(key: &[u8], out: &mut [u8]) -> u32
 
 // Refusal, trials, octets written and place in one number.
 fn pack(refusal: u32, trials: usize, octets: usize, place: usize) -> u32
-    requires { ⌜ (refusal ≤ 16) × (trials ≤ 4) × (octets ≤ 29) × (place ≤ 3) ⌝ }
+    requires { ⌜ (refusal ≤ 16) × (trials ≤ 4) × (octets ≤ pduOctets) × (place ≤ 3) ⌝ }
     ensures { λ r. ⌜ r ≡ packed refusal trials octets place ⌝ }
 {
     refusal + 256 * (trials as u32) + 65536 * (octets as u32) + 0x1000000 * (place as u32)
@@ -41,13 +42,13 @@ fn pack(refusal: u32, trials: usize, octets: usize, place: usize) -> u32
 pub extern "C" fn gorephan_open(credentials: &[u8], iv: u32, pdu: &[u8], out: &mut [u8]) -> u32
     ensures { λ r. ⌜ lent r (now (out .exit)) ≡ openDone (now (credentials .entry)) iv (now (pdu .entry)) (now (out .entry)) ⌝ }
 {
-    if out.len() < 29 {
+    if out.len() < network::header::PDU {
         return 16;
     }
     if pdu.len() < 14 {
         return 1;
     }
-    if 29 < pdu.len() {
+    if network::header::PDU < pdu.len() {
         return 1;
     }
     if credential::foreign(credentials, pdu[0] % 128) {
@@ -80,7 +81,7 @@ fn sealed_length(answer: network::sealing::Answer) -> usize
 
 // Refusal and length in one number.
 fn seal_number(answer: network::sealing::Answer) -> u32
-    requires { ⌜ sealedLength answer ≤ 29 ⌝ }
+    requires { ⌜ sealedLength answer ≤ pduOctets ⌝ }
     ensures { λ r. ⌜ r ≡ sealNumber answer ⌝ }
 {
     network::sealing::number(answer) + 65536 * (sealed_length(answer) as u32)
@@ -101,7 +102,7 @@ pub extern "C" fn gorephan_seal(
 ) -> u32
     ensures { λ r. ⌜ lent r (now (out .exit)) ≡ sealDone (now (credential .entry)) iv ctl ttl seq src dst (now (transport .entry)) (now (out .entry)) ⌝ }
 {
-    if out.len() < 29 {
+    if out.len() < network::header::PDU {
         return 16;
     }
     if credential.len() != 33 {

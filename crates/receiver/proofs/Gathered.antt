@@ -13,6 +13,7 @@ use Rattle.common.specs.Bits.{hasBit, withBit, allBits}
 use Rattle.common.proofs.BitLaws.{has-none, has-all, with-of-set, with-of-clear, with-past}
 use Rattle.common.proofs.Tests.{by-test, by-choice}
 use Rattle.network.specs.declared.header.Header.{Header}
+use Rattle.transport.specs.Segment.{messageOctets}
 use Rattle.memory.specs.declared.session.Segment.{Segment}
 use Rattle.memory.specs.declared.session.Session.{Session}
 use Rattle.memory.specs.Session.{begun, lengthWith, stored, complete}
@@ -51,16 +52,16 @@ gathering-begun src seg h =
       filled-within = pow-pos (n + 1);
       missing =
           ne-eqb 0 (allBits n) (λ e. true≢false (sym (has-all n 0 (omega arith) (omega arith)) ∙ ap (λ (x : ℕ). hasBit x 0) (sym e) ∙ has-none 0));
-      octets-places = length-replicate {A = ℕ} 384 0;
+      octets-places = length-replicate {A = ℕ} messageOctets 0;
       length-most = omega arith;
     }
 
 -- a session with a segment more, if it is not complete
 module _ (s : Session) (h : Header) (segO : ℕ) (g : Gathering s) (sixteen : length (h .transport) ≡ 16) where
-  told-most : lengthWith s h segO ≤ 384
+  told-most : lengthWith s h segO ≤ messageOctets
   unfolding lengthWith
   told-most =
-      by-choice (λ (n : ℕ). n ≤ 384) (eqb segO (s .terms .segn))
+      by-choice (λ (n : ℕ). n ≤ messageOctets) (eqb segO (s .terms .segn))
       (λ t. omega (arith, place-most (s .terms .ctl) segO, octets-most h sixteen))
       (λ t. g .length-most)
 

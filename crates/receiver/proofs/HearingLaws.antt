@@ -14,10 +14,12 @@ use Rattle.network.specs.declared.sealing.Answer as sealing-answer
 use Rattle.network.specs.declared.sealing.Answer.the-variants as sealing
 use Rattle.network.specs.Opening.{opening}
 use Rattle.network.specs.Sealing.{forwards, forwarding}
+use Rattle.network.specs.Pdu.{pduOctets}
 use Rattle.transport.specs.declared.form.Form.{Form}
 use Rattle.transport.specs.declared.form.Form.the-variants as form
 use Rattle.transport.specs.declared.form.SegmentFields.{SegmentFields}
 use Rattle.transport.specs.Form.{formOf}
+use Rattle.transport.specs.Segment.{messageOctets}
 use Rattle.memory.specs.declared.cache.Cache.{Cache}
 use Rattle.memory.specs.Cache.{seen, remembered}
 use Rattle.node.specs.declared.addresses.Node.{Node}
@@ -120,36 +122,36 @@ pub ruleset uncached-rules = (uncached-seen, uncached-new)
 
 -- ---- 16, 1 to 4
 module _ (r : Receiver) (pdu fwd msg : List ℕ) (t : Heard) where
-  pub hear-short-forward : length fwd < 29 → t ≡ refusedHeard r refusal.ShortBuffer 0 → outcome t fwd msg ≡ hearing r pdu fwd msg
+  pub hear-short-forward : length fwd < pduOctets → t ≡ refusedHeard r refusal.ShortBuffer 0 → outcome t fwd msg ≡ hearing r pdu fwd msg
   unfolding hearing
-  hear-short-forward l et = rw (lt-ltb (length fwd) 29 l, et)
+  hear-short-forward l et = rw (lt-ltb (length fwd) pduOctets l, et)
 
-  module _ (lf : 29 ≤ length fwd) where
-    pub hear-short-message : length msg < 384 → t ≡ refusedHeard r refusal.ShortBuffer 0 → outcome t fwd msg ≡ hearing r pdu fwd msg
+  module _ (lf : pduOctets ≤ length fwd) where
+    pub hear-short-message : length msg < messageOctets → t ≡ refusedHeard r refusal.ShortBuffer 0 → outcome t fwd msg ≡ hearing r pdu fwd msg
     unfolding hearing
-    hear-short-message l et = rw (le-ltb (length fwd) 29 lf, lt-ltb (length msg) 384 l, et)
+    hear-short-message l et = rw (le-ltb (length fwd) pduOctets lf, lt-ltb (length msg) messageOctets l, et)
 
-    module _ (lm : 384 ≤ length msg) (o : Opening) (e : o ≡ opening (r .node .materials) (r .node .networks) (r .node .iv) pdu) where
+    module _ (lm : messageOctets ≤ length msg) (o : Opening) (e : o ≡ opening (r .node .materials) (r .node .networks) (r .node .iv) pdu) where
       pub hear-length : o .answer ≡ network.WrongLength → t ≡ refusedHeard r refusal.WrongLength (o .trials) → outcome t fwd msg ≡ hearing r pdu fwd msg
       unfolding hearing openedAs
-      hear-length k et = rw (le-ltb (length fwd) 29 lf, le-ltb (length msg) 384 lm, ← e, k, et)
+      hear-length k et = rw (le-ltb (length fwd) pduOctets lf, le-ltb (length msg) messageOctets lm, ← e, k, et)
 
       pub hear-candidate : o .answer ≡ network.NoCandidate → t ≡ refusedHeard r refusal.NoCandidate (o .trials) → outcome t fwd msg ≡ hearing r pdu fwd msg
       unfolding hearing openedAs
-      hear-candidate k et = rw (le-ltb (length fwd) 29 lf, le-ltb (length msg) 384 lm, ← e, k, et)
+      hear-candidate k et = rw (le-ltb (length fwd) pduOctets lf, le-ltb (length msg) messageOctets lm, ← e, k, et)
 
       pub hear-authentic : o .answer ≡ network.NotAuthentic → t ≡ refusedHeard r refusal.NotAuthentic (o .trials) → outcome t fwd msg ≡ hearing r pdu fwd msg
       unfolding hearing openedAs
-      hear-authentic k et = rw (le-ltb (length fwd) 29 lf, le-ltb (length msg) 384 lm, ← e, k, et)
+      hear-authentic k et = rw (le-ltb (length fwd) pduOctets lf, le-ltb (length msg) messageOctets lm, ← e, k, et)
 
       pub hear-address : o .answer ≡ network.WrongAddress → t ≡ refusedHeard r refusal.WrongAddress (o .trials) → outcome t fwd msg ≡ hearing r pdu fwd msg
       unfolding hearing openedAs
-      hear-address k et = rw (le-ltb (length fwd) 29 lf, le-ltb (length msg) 384 lm, ← e, k, et)
+      hear-address k et = rw (le-ltb (length fwd) pduOctets lf, le-ltb (length msg) messageOctets lm, ← e, k, et)
 
       pub hear-opened :
           o .answer ≡ network.Opened → (fwd' msg' : List ℕ) → outcome t fwd' msg' ≡ uncached r (o .header) (o .trials) fwd msg
           → outcome t fwd' msg' ≡ hearing r pdu fwd msg
       unfolding hearing openedAs
-      hear-opened k fwd' msg' et = rw (le-ltb (length fwd) 29 lf, le-ltb (length msg) 384 lm, ← e, k) et
+      hear-opened k fwd' msg' et = rw (le-ltb (length fwd) pduOctets lf, le-ltb (length msg) messageOctets lm, ← e, k) et
 
 pub ruleset hear-rules = (hear-short-forward, hear-short-message, hear-length, hear-candidate, hear-authentic, hear-address, hear-opened)

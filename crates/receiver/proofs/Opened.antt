@@ -23,7 +23,7 @@ use Rattle.network.specs.Candidates.{keyAt, candidates, opens, foundBy, searche
 use Rattle.network.specs.Header.{noHeader}
 use Rattle.network.specs.IvIndex.{ivIndexHeard}
 use Rattle.network.specs.Opening.{judged, under, opening}
-use Rattle.network.specs.Pdu.{frontOf}
+use Rattle.network.specs.Pdu.{pduOctets, frontOf}
 use Rattle.network.specs.Trial.{ctlOf, headerOf, bodyTried, tried}
 use Rattle.network.proofs.AddressLaws.{unicast-some, allowed-source}
 
@@ -93,6 +93,6 @@ pub opening-clear :
 unfolding opening
 opening-clear keys count current pdu =
     by-choice ClearOf (ltb (length pdu) 14) (λ t. tt {0})
-    (λ t. by-choice ClearOf (ltb 29 (length pdu)) (λ u. tt {0})
+    (λ t. by-choice ClearOf (ltb pduOctets (length pdu)) (λ u. tt {0})
     (λ u. by-choice ClearOf (eqb (length (candidates keys count (getD pdu 0 0 % 128))) 0) (λ v. tt {0})
     (λ v. under-clear keys count pdu (ivIndexHeard current (getD pdu 0 0 / 128)))))

@@ -23,6 +23,7 @@ use Rattle.transport.specs.declared.seq_auth.SeqAuth.{SeqAuth}
 use Rattle.transport.specs.declared.seq_auth.SeqAuth.the-variants.{At, Nowhere}
 use Rattle.transport.specs.Securing.{unsecuring}
 use Rattle.transport.specs.SeqAuth.{seqAuth}
+use Rattle.transport.specs.Segment.{messageOctets}
 use Rattle.memory.proofs.Within.{join-within, open-within}
 use Rattle.memory.specs.declared.decision.Decision.{Decision}
 use Rattle.memory.specs.declared.replay.Entry.{Entry}
@@ -40,24 +41,24 @@ use Rattle.receiver.specs.Whole.{refusedAt}
 use Rattle.receiver.specs.Segmented.{segmentOf, upgraded, messageOf, sessionEnvelope, controlUp, accessUpAs, accessUp, gathered, placedAs, placed, segmentedAs, segmented}
 
 -- ---- the message of a session
-module _ (s : Session) (l : length (s .bytes) ≡ 384) where
-  pub octets-most : 384 < s .len → 384 ≡ length (messageOf s)
+module _ (s : Session) (l : length (s .bytes) ≡ messageOctets) where
+  pub octets-most : messageOctets < s .len → messageOctets ≡ length (messageOf s)
   unfolding messageOf
   octets-most h = simp length-take (omega arith)
 
-  pub octets-own : s .len ≤ 384 → s .len ≡ length (messageOf s)
+  pub octets-own : s .len ≤ messageOctets → s .len ≡ length (messageOf s)
   unfolding messageOf
   octets-own h = simp length-take (omega arith)
 
-  pub octets-bound : length (messageOf s) ≤ 384
+  pub octets-bound : length (messageOf s) ≤ messageOctets
   unfolding messageOf
   octets-bound = simp length-take (omega arith)
 
 -- it is a part of the session's bytes
-pub message-within : (s : Session) → length (s .bytes) ≡ 384 → (n : ℕ) → n ≡ length (messageOf s) → n ≤ length (s .bytes)
+pub message-within : (s : Session) → length (s .bytes) ≡ messageOctets → (n : ℕ) → n ≡ length (messageOf s) → n ≤ length (s .bytes)
 message-within s l n e = let b = octets-bound s l in omega arith
 
-pub message-front : (s : Session) → length (s .bytes) ≡ 384 → (n : ℕ) → n ≡ length (messageOf s) → n ≡ length (take n (s .bytes))
+pub message-front : (s : Session) → length (s .bytes) ≡ messageOctets → (n : ℕ) → n ≡ length (messageOf s) → n ≡ length (take n (s .bytes))
 message-front s l n e = sym (length-take-le n (s .bytes) (message-within s l n e))
 
 pub message-part : (s : Session) (n : ℕ) → n ≡ length (messageOf s) → take n (s .bytes) ≡ messageOf s
@@ -65,7 +66,7 @@ unfolding messageOf
 message-part s n e = rw e (take-own-length (s .len) (s .bytes))
 
 pub message-copied :
-    (s : Session) → length (s .bytes) ≡ 384 → (msg : List ℕ) → 384 ≤ length msg → (n : ℕ) → n ≡ length (messageOf s)
+    (s : Session) → length (s .bytes) ≡ messageOctets → (msg : List ℕ) → messageOctets ≤ length msg → (n : ℕ) → n ≡ length (messageOf s)
     → (left : List ℕ) → left ≡ onto (take (length msg) (take n (s .bytes))) msg → lent n left ≡ lent (length (messageOf s)) (onto (messageOf s) msg)
 message-copied s l msg room n en left el =
     let b = octets-bound s l in

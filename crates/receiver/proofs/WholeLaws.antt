@@ -18,6 +18,7 @@ use Rattle.transport.specs.declared.securing.MessageKey.{MessageKey}
 use Rattle.transport.specs.declared.securing.Opened.{Opened}
 use Rattle.transport.specs.declared.securing.Opened.the-variants.{Message, NotOpened, ShortBuffer}
 use Rattle.transport.specs.Securing.{unsecuring}
+use Rattle.transport.specs.Segment.{messageOctets}
 use Rattle.memory.specs.declared.replay.Entry.{Entry}
 use Rattle.memory.specs.declared.outgoing.Acknowledged.{Acknowledged}
 use Rattle.memory.specs.Outgoing.{acknowledging}
@@ -139,7 +140,7 @@ module _ (h : Header) (l : length (h .transport) ≡ 16) where
   octets-bound = simp (length-drop, length-take) (omega arith)
 
   pub octets-copied :
-      (msg : List ℕ) → 384 ≤ length msg → (n : ℕ) → n ≡ 1 + length (drop 1 (transportOf h))
+      (msg : List ℕ) → messageOctets ≤ length msg → (n : ℕ) → n ≡ 1 + length (drop 1 (transportOf h))
       → (left : List ℕ) → left ≡ onto (take (length msg) (take (n - 1) (drop 1 (h .transport)))) msg
       → lent (n - 1) left ≡ lent (length (drop 1 (transportOf h))) (onto (drop 1 (transportOf h)) msg)
   octets-copied msg room n en left el =

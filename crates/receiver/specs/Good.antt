@@ -6,10 +6,11 @@ use mathlib.Core.List.{List}
 use mathlib.Core.Path.{_≡_}
 use Prim.Native.Nat.{ℕ, _+_, _^_, _≤_, _<_}
 use lib.ListN.{length}
+use Rattle.transport.specs.Segment.{messageOctets}
 use Rattle.memory.specs.declared.session.Session.{Session}
 use Rattle.memory.specs.Cache.{cacheEntries}
 use Rattle.memory.specs.Replay.{ReplayKept}
-use Rattle.memory.specs.Session.{sessionSlots, messageOctets, noSession, sessionAt, isFree, SessionsApart, complete}
+use Rattle.memory.specs.Session.{sessionSlots, noSession, sessionAt, isFree, SessionsApart, complete}
 use Rattle.node.specs.Made.{WellMade, NextWell}
 use Rattle.node.specs.declared.setup.Setup.{Setup}
 use Rattle.receiver.specs.declared.fresh.Answer.the-variants.{Ready}

@@ -13,9 +13,11 @@ use Rattle.network.specs.declared.opening.Answer.the-variants as network
 use Rattle.network.specs.declared.opening.Answer.{Answer}
 use Rattle.network.specs.Opening.{opening}
 use Rattle.network.specs.Sealing.{sealedLength, forwards, forwarding}
+use Rattle.network.specs.Pdu.{pduOctets}
 use Rattle.transport.specs.declared.form.Form.{Form}
 use Rattle.transport.specs.declared.form.Form.the-variants as form
 use Rattle.transport.specs.Form.{formOf}
+use Rattle.transport.specs.Segment.{messageOctets}
 use Rattle.memory.specs.Cache.{seen, remembered}
 use Rattle.receiver.specs.declared.answer.Answer.the-variants.{Refused}
 use Rattle.receiver.specs.declared.answer.Heard.{Heard}
@@ -97,6 +99,6 @@ openedAs network.Opened r h trials fwd msg = uncached r h trials fwd msg
 unfoldable pub hearing : Receiver → List ℕ → List ℕ → List ℕ → Outcome
 hearing r pdu fwd msg =
     let o = opening (r .node .materials) (r .node .networks) (r .node .iv) pdu in
-    if ltb (length fwd) 29 then outcome (refusedHeard r refusal.ShortBuffer 0) fwd msg else
-    if ltb (length msg) 384 then outcome (refusedHeard r refusal.ShortBuffer 0) fwd msg else
+    if ltb (length fwd) pduOctets then outcome (refusedHeard r refusal.ShortBuffer 0) fwd msg else
+    if ltb (length msg) messageOctets then outcome (refusedHeard r refusal.ShortBuffer 0) fwd msg else
     openedAs (o .answer) r (o .header) (o .trials) fwd msg

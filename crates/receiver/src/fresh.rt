@@ -18,7 +18,7 @@ pub struct Ready {
 }
 
 // A receiver that has heard and sent nothing.
-fn receiver(node: Node, next: [u32; 8]) -> Receiver
+fn receiver(node: Node, next: [u32; node::addresses::ELEMENTS]) -> Receiver
     ensures { λ r. ⌜ r ≡ fresh node next ⌝ }
 {
     let replay = [memory::replay::none(); memory::replay::ENTRIES];

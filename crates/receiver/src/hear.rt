@@ -14,6 +14,7 @@ ghost use Prim.Native.Nat.{_≤_};
 ghost use lib.ListN.{length};
 ghost use Rattle.common.specs.Lent.{lent};
 ghost use Rattle.transport.specs.Form.{formOf};
+ghost use Rattle.transport.specs.Segment.{messageOctets};
 ghost use Rattle.receiver.specs.Hearing.{refusedHeard, relayed, takenAs, taken, outcome, passed, uncached, hearing};
 
 // A refusal that leaves everything.
@@ -47,7 +48,7 @@ fn relay(node: Node, h: Header, forward: &mut [u8]) -> usize
 
 // A PDU for this node, by its transport form. Segments have one arm, so that the state goes to one place.
 fn take_form(r: Receiver, h: Header, message: &mut [u8]) -> Taken
-    requires { ⌜ 384 ≤ length (now message) ⌝ }
+    requires { ⌜ messageOctets ≤ length (now message) ⌝ }
     ensures { λ t. ⌜ lent t (now (message .exit)) ≡ takenAs (formOf h) r h (now (message .entry)) ⌝ }
 {
     match transport::form::read(h) {
@@ -74,7 +75,7 @@ fn take_form(r: Receiver, h: Header, message: &mut [u8]) -> Taken
 
 // A PDU that is in the cache now.
 fn take(r: Receiver, h: Header, message: &mut [u8]) -> Taken
-    requires { ⌜ 384 ≤ length (now message) ⌝ }
+    requires { ⌜ messageOctets ≤ length (now message) ⌝ }
     ensures { λ t. ⌜ lent t (now (message .exit)) ≡ taken r h (now (message .entry)) ⌝ }
 {
     let node = r.node;
@@ -86,7 +87,7 @@ fn take(r: Receiver, h: Header, message: &mut [u8]) -> Taken
 
 // A PDU that passed refusals 1 to 5 is cached, forwarded, and taken.
 fn pass(r: Receiver, h: Header, trials: usize, forward: &mut [u8], message: &mut [u8]) -> Heard
-    requires { ⌜ 384 ≤ length (now message) ⌝ }
+    requires { ⌜ messageOctets ≤ length (now message) ⌝ }
     ensures { λ t. ⌜ outcome t (now (forward .exit)) (now (message .exit)) ≡ passed r h trials (now (forward .entry)) (now (message .entry)) ⌝ }
 {
     let before = r.cache;
@@ -109,7 +110,7 @@ fn pass(r: Receiver, h: Header, trials: usize, forward: &mut [u8], message: &mut
 
 // An opened PDU: 5 where it is in the cache.
 fn pass_new(r: Receiver, h: Header, trials: usize, forward: &mut [u8], message: &mut [u8]) -> Heard
-    requires { ⌜ 384 ≤ length (now message) ⌝ }
+    requires { ⌜ messageOctets ≤ length (now message) ⌝ }
     ensures { λ t. ⌜ outcome t (now (forward .exit)) (now (message .exit)) ≡ uncached r h trials (now (forward .entry)) (now (message .entry)) ⌝ }
 {
     let cache = r.cache;
@@ -123,10 +124,10 @@ fn pass_new(r: Receiver, h: Header, trials: usize, forward: &mut [u8], message: 
 pub fn hear(r: Receiver, pdu: &[u8], forward: &mut [u8], message: &mut [u8]) -> Heard
     ensures { λ t. ⌜ outcome t (now (forward .exit)) (now (message .exit)) ≡ hearing r (now (pdu .entry)) (now (forward .entry)) (now (message .entry)) ⌝ }
 {
-    if forward.len() < 29 {
+    if forward.len() < network::header::PDU {
         return refuse(r, Refusal::ShortBuffer, 0);
     }
-    if message.len() < 384 {
+    if message.len() < transport::securing::MESSAGE {
         return refuse(r, Refusal::ShortBuffer, 0);
     }
     let node = r.node;

@@ -21,6 +21,7 @@ ghost use lib.ListN.{length};
 ghost use Rattle.common.specs.Lent.{lent};
 ghost use Rattle.common.specs.Lists.{onto};
 ghost use Rattle.transport.specs.Securing.{unsecuring};
+ghost use Rattle.transport.specs.Segment.{messageOctets};
 ghost use Rattle.memory.specs.Session.{sessionSlots, sessionAt, stored};
 ghost use Rattle.receiver.specs.Segmented.{segmentOf, sessionEnvelope, messageOf, upgraded, controlUp, accessUp, gathered, placed, segmented};
 
@@ -61,12 +62,16 @@ fn hand_up(r: Receiver, s: Session) -> Receiver
 fn octets(s: Session) -> usize
     ensures { λ r. ⌜ r ≡ length (messageOf s) ⌝ }
 {
-    if 384 < s.len { 384 } else { s.len }
+    if transport::securing::MESSAGE < s.len {
+        transport::securing::MESSAGE
+    } else {
+        s.len
+    }
 }
 
 // Copies the message of a session to the message buffer, and gives its length.
 fn copy_message(s: Session, message: &mut [u8]) -> usize
-    requires { ⌜ 384 ≤ length (now message) ⌝ }
+    requires { ⌜ messageOctets ≤ length (now message) ⌝ }
     ensures { λ n. ⌜ lent n (now (message .exit)) ≡ lent (length (messageOf s)) (onto (messageOf s) (now (message .entry))) ⌝ }
 {
     let bytes = s.bytes;
@@ -77,7 +82,7 @@ fn copy_message(s: Session, message: &mut [u8]) -> usize
 
 // A control message is handed up as it is.
 fn control_up(r: Receiver, s: Session, message: &mut [u8]) -> Taken
-    requires { ⌜ 384 ≤ length (now message) ⌝ }
+    requires { ⌜ messageOctets ≤ length (now message) ⌝ }
     ensures { λ t. ⌜ lent t (now (message .exit)) ≡ controlUp r s (now (message .entry)) ⌝ }
 {
     let len = copy_message(s, message);
@@ -160,7 +165,7 @@ fn access_up(r: Receiver, s: Session, message: &mut [u8]) -> Taken
 
 // The session in a slot with one segment more: kept, or complete, and the slot is freed.
 fn gather(r: Receiver, slot: usize, s: Session, message: &mut [u8]) -> Taken
-    requires { ⌜ (slot < sessionSlots) × (384 ≤ length (now message)) ⌝ }
+    requires { ⌜ (slot < sessionSlots) × (messageOctets ≤ length (now message)) ⌝ }
     ensures { λ t. ⌜ lent t (now (message .exit)) ≡ gathered r slot s (now (message .entry)) ⌝ }
 {
     let auth = s.auth;
@@ -185,7 +190,7 @@ fn gather(r: Receiver, slot: usize, s: Session, message: &mut [u8]) -> Taken
 
 // A segment that joins the session in a slot.
 fn join(r: Receiver, h: Header, seg: Segment, slot: usize, message: &mut [u8]) -> Taken
-    requires { ⌜ (slot < sessionSlots) × (384 ≤ length (now message)) ⌝ }
+    requires { ⌜ (slot < sessionSlots) × (messageOctets ≤ length (now message)) ⌝ }
     ensures { λ t. ⌜ lent t (now (message .exit)) ≡ gathered r slot (stored (sessionAt (r .sessions) slot) h (seg .sego)) (now (message .entry)) ⌝ }
 {
     let sessions = r.sessions;
@@ -199,7 +204,7 @@ fn join(r: Receiver, h: Header, seg: Segment, slot: usize, message: &mut [u8]) -
 
 // What becomes of a segment that has a SeqAuth.
 fn place(r: Receiver, h: Header, seg: Segment, message: &mut [u8]) -> Taken
-    requires { ⌜ 384 ≤ length (now message) ⌝ }
+    requires { ⌜ messageOctets ≤ length (now message) ⌝ }
     ensures { λ t. ⌜ lent t (now (message .exit)) ≡ placed r h seg (now (message .entry)) ⌝ }
 {
     let sessions = r.sessions;
@@ -229,7 +234,7 @@ fn place(r: Receiver, h: Header, seg: Segment, message: &mut [u8]) -> Taken
 
 // A segment: 8 where it has no SeqAuth.
 pub(crate) fn segment(r: Receiver, h: Header, fields: SegmentFields, message: &mut [u8]) -> Taken
-    requires { ⌜ 384 ≤ length (now message) ⌝ }
+    requires { ⌜ messageOctets ≤ length (now message) ⌝ }
     ensures { λ t. ⌜ lent t (now (message .exit)) ≡ segmented r h fields (now (message .entry)) ⌝ }
 {
     match transport::seq_auth::find(h.seq, fields.seqzero) {

@@ -14,7 +14,7 @@ ghost use Rattle.receiver.specs.State.{withCache, withReplay, withSessio
 pub struct Receiver {
     pub node: Node,
     // Each element's next SEQ.
-    pub next: [u32; 8],
+    pub next: [u32; node::addresses::ELEMENTS],
     pub cache: Cache,
     pub replay: [Entry; ENTRIES],
     pub sessions: [Session; SLOTS],

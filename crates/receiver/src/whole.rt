@@ -17,6 +17,7 @@ ghost use Rattle.common.specs.Lent.{lent};
 ghost use Rattle.common.specs.Lists.{onto};
 ghost use Rattle.network.specs.Header.{transportOf};
 ghost use Rattle.transport.specs.Securing.{unsecuring};
+ghost use Rattle.transport.specs.Segment.{messageOctets};
 ghost use Rattle.receiver.specs.Whole.{refusedAt, admission, admitted, wholeEnvelope, openedWhole, wholeAccess, wholeControlUp, wholeControl, acted, wholeAcknowledgement};
 
 // Whether a whole message may be accepted.
@@ -147,7 +148,7 @@ pub(crate) fn access(r: Receiver, h: Header, akf: bool, aid: u8, message: &mut [
 
 // Copies the parameters of a control message to the message buffer, and gives their number.
 fn copy_parameters(h: Header, message: &mut [u8]) -> usize
-    requires { ⌜ 384 ≤ length (now message) ⌝ }
+    requires { ⌜ messageOctets ≤ length (now message) ⌝ }
     ensures { λ n. ⌜ lent n (now (message .exit)) ≡ lent (length (drop 1 (transportOf h))) (onto (drop 1 (transportOf h)) (now (message .entry))) ⌝ }
 {
     let t = h.transport;
@@ -158,7 +159,7 @@ fn copy_parameters(h: Header, message: &mut [u8]) -> usize
 
 // A whole control message is handed up as it is.
 fn hand_up_control(r: Receiver, h: Header, opcode: u8, message: &mut [u8]) -> Taken
-    requires { ⌜ 384 ≤ length (now message) ⌝ }
+    requires { ⌜ messageOctets ≤ length (now message) ⌝ }
     ensures { λ t. ⌜ lent t (now (message .exit)) ≡ wholeControlUp r h opcode (now (message .entry)) ⌝ }
 {
     let len = copy_parameters(h, message);
@@ -181,7 +182,7 @@ fn hand_up_control(r: Receiver, h: Header, opcode: u8, message: &mut [u8]) -> Ta
 
 // A whole control message.
 pub(crate) fn control(r: Receiver, h: Header, opcode: u8, message: &mut [u8]) -> Taken
-    requires { ⌜ 384 ≤ length (now message) ⌝ }
+    requires { ⌜ messageOctets ≤ length (now message) ⌝ }
     ensures { λ t. ⌜ lent t (now (message .exit)) ≡ wholeControl r h opcode (now (message .entry)) ⌝ }
 {
     let replay = r.replay;

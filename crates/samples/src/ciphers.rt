@@ -38,7 +38,7 @@ fn encrypted(line: &[u8], out: &mut [u8]) -> usize {
 // `cmac KEY MESSAGE`: the MAC of the message.
 fn mac(line: &[u8], out: &mut [u8]) -> usize {
     let mut key = [0u8; 16];
-    let mut message = [0u8; 384];
+    let mut message = [0u8; modes::ccm::LONGEST];
     if !hex::fill(field::nth(line, 1), &mut key) {
         return 0;
     }
@@ -120,7 +120,7 @@ fn sealed(terms: Terms, message: &[u8], out: &mut [u8]) -> usize
     let nonce = terms.nonce;
     let mic = terms.mic;
     let mut whole = [0u8; 392];
-    if 384 < message.len()
+    if modes::ccm::LONGEST < message.len()
         || !modes::ccm::seal(aes::expand(key), nonce, mic_size(mic), message, &mut whole)
     {
         return 0;
@@ -134,7 +134,7 @@ fn opened(terms: Terms, sealed: &[u8], out: &mut [u8]) -> usize {
     let key = terms.key;
     let nonce = terms.nonce;
     let mic = terms.mic;
-    let mut clear = [0u8; 384];
+    let mut clear = [0u8; modes::ccm::LONGEST];
     if sealed.len() < mic
         || !modes::ccm::open(aes::expand(key), nonce, mic_size(mic), sealed, &mut clear)
     {

@@ -22,7 +22,7 @@ pub(crate) fn request(line: &[u8], out: &mut [u8]) -> usize {
 
 // `s1 MESSAGE`: the salt.
 fn salt(line: &[u8], out: &mut [u8]) -> usize {
-    let mut message = [0u8; 384];
+    let mut message = [0u8; modes::ccm::LONGEST];
     let Octets::Count(n) = hex::read(field::last(line, 1), &mut message) else {
         return 0;
     };

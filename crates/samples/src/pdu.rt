@@ -31,7 +31,7 @@ fn sealed(line: &[u8], out: &mut [u8]) -> usize {
     if h.len == 0 || !hex::fill(field::nth(line, 1), &mut key) {
         return 0;
     }
-    let mut pdu = [0u8; 29];
+    let mut pdu = [0u8; network::header::PDU];
     let answer = network::sealing::seal(keys::k2(key), h, &mut pdu);
     let Answer::Sealed(n) = answer else {
         let refusal = network::sealing::number(answer);
@@ -91,7 +91,7 @@ fn long(high: u16, low: u16) -> u32 {
 
 // The network keys that a line says. There is none where it does not say one to four.
 struct Held {
-    list: [NetworkKeys; 4],
+    list: [NetworkKeys; network::opening::KEYS],
     count: usize,
 }
 

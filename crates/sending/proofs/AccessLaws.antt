@@ -16,14 +16,16 @@ use Rattle.modes.specs.Ccm.{micOctets}
 use Rattle.network.specs.declared.header.Header.{Header}
 use Rattle.network.specs.Address.{isUnicast}
 use Rattle.network.proofs.TrialLaws.{onto-zeros}
+use Rattle.network.specs.Pdu.{pduOctets}
 use Rattle.transport.specs.declared.securing.Envelope.{Envelope}
 use Rattle.transport.specs.declared.securing.MessageKey.{MessageKey}
 use Rattle.transport.specs.declared.securing.MessageKey.the-variants.{Application, Device}
-use Rattle.transport.specs.Securing.{transMic, applicationKeyAt, secured, securing}
-use Rattle.transport.specs.Segment.{fullOctets, accessOctet}
+use Rattle.transport.specs.Securing.{applicationKeyPlaces, transMic, applicationKeyAt, secured, securing}
+use Rattle.transport.specs.Segment.{messageOctets, fullOctets, accessOctet}
 use Rattle.transport.proofs.SecureOpen.{secured-length}
 use Rattle.memory.specs.declared.outgoing.Outgoing.{Outgoing}
 use Rattle.node.specs.declared.addresses.Node.{Node}
+use Rattle.node.specs.Addresses.{elementPlaces}
 use Rattle.receiver.specs.declared.answer.Refusal.the-variants as refusal
 use Rattle.receiver.specs.declared.state.Receiver.{Receiver}
 use Rattle.sending.specs.declared.access.KeyUsed.{KeyUsed}
@@ -41,10 +43,10 @@ module _ (node : Node) (key : MessageKey) where
   module _ (i : ℕ) (k : key ≡ Application i) where
     pub used-application :
         i < 4 → record { akf = true; aid = applicationKeyAt (node .appkeys) i .aid; key = applicationKeyAt (node .appkeys) i .key } ≡ keyed node key
-    used-application h = rw (k, lt-ltb i 4 h)
+    used-application h = rw (k, lt-ltb i applicationKeyPlaces h)
 
     pub used-past : 4 ≤ i → record { akf = true; aid = 0; key = replicate 16 0 } ≡ keyed node key
-    used-past h = rw (k, le-ltb i 4 h)
+    used-past h = rw (k, le-ltb i applicationKeyPlaces h)
 
   pub used-device : key ≡ Device → record { akf = false; aid = 0; key = node .device } ≡ keyed node key
   used-device k = rw k
@@ -52,14 +54,14 @@ module _ (node : Node) (key : MessageKey) where
   module _ (q : Request) where
     module _ (i : ℕ) (k : key ≡ Application i) where
       pub key-past : 4 ≤ i → false ≡ keyAllowed node q key
-      key-past h = rw (k, le-ltb i (min (node .applications) 4) (omega arith))
+      key-past h = rw (k, le-ltb i (min (node .applications) applicationKeyPlaces) (omega arith))
 
       module _ (h : i < 4) where
         pub key-absent : node .applications ≤ i → false ≡ keyAllowed node q key
-        key-absent n = rw (k, le-ltb i (min (node .applications) 4) (omega arith))
+        key-absent n = rw (k, le-ltb i (min (node .applications) applicationKeyPlaces) (omega arith))
 
         pub key-bound : i < node .applications → eqb (applicationKeyAt (node .appkeys) i .bound) (q .network) ≡ keyAllowed node q key
-        key-bound n = rw (k, lt-ltb i (min (node .applications) 4) (omega arith))
+        key-bound n = rw (k, lt-ltb i (min (node .applications) applicationKeyPlaces) (omega arith))
 
     pub key-device : key ≡ Device → (u : Bool) → u ≡ isUnicast (q .dst) → u ≡ keyAllowed node q key
     key-device k u e = rw (k, e)
@@ -123,17 +125,17 @@ module _ (r : Receiver) (q : Request) (key : MessageKey) (szmic : Bool) (len : �
 pub ruleset allowed-rules = (allowed-request, allowed-key, allowed-size, allowed-whole, allowed-kept)
 
 -- ---- what an allowed request has
-pub request-element : (node : Node) (q : Request) → requestAllowed node q ≡ true → q .element < 8
+pub request-element : (node : Node) (q : Request) → requestAllowed node q ≡ true → q .element < elementPlaces
 unfolding requestAllowed
 request-element node q t =
-    let h = ltb-true (q .element) (min (node .elements) 8) (and-first (ltb (q .element) (min (node .elements) 8)) _ t) in
+    let h = ltb-true (q .element) (min (node .elements) elementPlaces) (and-first (ltb (q .element) (min (node .elements) elementPlaces)) _ t) in
     omega arith
 
 module _ (r : Receiver) (q : Request) (key : MessageKey) (szmic : Bool) (len : ℕ) (a : Bool) (e : a ≡ accessAllowed r q key szmic len) (t : not a ≡ false) where
   allowed : accessAllowed r q key szmic len ≡ true
   allowed = sym e ∙ not-false a t
 
-  pub element-within : q .element < 8
+  pub element-within : q .element < elementPlaces
   unfolding accessAllowed
   element-within = request-element (r .node) q (and-first (requestAllowed (r .node) q) _ allowed)
 
@@ -141,7 +143,7 @@ module _ (r : Receiver) (q : Request) (key : MessageKey) (szmic : Bool) (len : �
   unfolding accessAllowed
   sized = and-first (sizeAllowed szmic len) _ (and-second (keyAllowed (r .node) q key) _ (and-second (requestAllowed (r .node) q) _ allowed))
 
-  pub secured-within : len + micOctets (transMic szmic) ≤ 384
+  pub secured-within : len + micOctets (transMic szmic) ≤ messageOctets
   unfolding sizeAllowed
   secured-within =
       let s = and-second (leb 1 len) _ sized in
@@ -177,7 +179,7 @@ module _ (ctl : Bool) (len : ℕ) where
   cast-eight h t = let m : len ≤ 256 = rw t at h in omega arith
 
   pub cast-twelve : len ≤ 32 * fullOctets ctl → ctl ≡ false → (len - 1) / 12 < 256
-  cast-twelve h t = let m : len ≤ 384 = rw t at h in omega arith
+  cast-twelve h t = let m : len ≤ messageOctets = rw t at h in omega arith
 
 pub ruleset segments-rules = (segments-none, segments-eight, segments-twelve)
 
@@ -188,11 +190,11 @@ octets-behind first l h = ap (λ (z : List ℕ). first ∷ z) (onto-zeros 15 l h
 -- what securing leaves where there is room
 secured-onto :
     (key : List ℕ) (e : Envelope) (m buf : List ℕ) {ok : Bool} {left : List ℕ} → lent ok left ≡ securing key e m buf
-    → length m ≤ 384 → length m + micOctets (transMic (e .szmic)) ≤ length buf → left ≡ onto (secured key e m) buf
+    → length m ≤ messageOctets → length m + micOctets (transMic (e .szmic)) ≤ length buf → left ≡ onto (secured key e m) buf
 unfolding securing
 secured-onto key e m buf q h g =
     let done : securing key e m buf ≡ lent true (onto (secured key e m) buf) =
-    rw (le-ltb 384 (length m) h, le-ltb (length buf) (length m + micOctets (transMic (e .szmic))) g) in
+    rw (le-ltb messageOctets (length m) h, le-ltb (length buf) (length m + micOctets (transMic (e .szmic))) g) in
     ap (λ (u : Lent Bool). u .buffer) (q ∙ done)
 
 mic-least : (szmic : Bool) → 4 ≤ micOctets (transMic szmic)
@@ -200,7 +202,7 @@ mic-least true = omega arith
 mic-least false = omega arith
 
 -- a payload that has room with its TransMIC
-pub payload-most : (szmic : Bool) (len : ℕ) → len + micOctets (transMic szmic) ≤ 384 → len ≤ 380
+pub payload-most : (szmic : Bool) (len : ℕ) → len + micOctets (transMic szmic) ≤ messageOctets → len ≤ 380
 payload-most szmic len h = omega (arith, mic-least szmic)
 
 pub secured-eight : (szmic : Bool) (len : ℕ) → szmic ≡ true → len + 8 ≡ len + micOctets (transMic szmic)
@@ -228,8 +230,8 @@ whole-header-is e q k payload z h first ef ok left el ttl et =
 
 -- ---- the message that is kept
 pub outgoing-is :
-    (e : Envelope) (q : Request) (k : KeyUsed) (payload : List ℕ) → length payload + micOctets (transMic (e .szmic)) ≤ 384
-    → (ok : Bool) (left : List ℕ) → lent ok left ≡ securing (k .key) e payload (replicate 384 0)
+    (e : Envelope) (q : Request) (k : KeyUsed) (payload : List ℕ) → length payload + micOctets (transMic (e .szmic)) ≤ messageOctets
+    → (ok : Bool) (left : List ℕ) → lent ok left ≡ securing (k .key) e payload (replicate messageOctets 0)
     → (len : ℕ) → len ≡ length payload + micOctets (transMic (e .szmic)) → (first : ℕ) → first ≡ accessOctet true (k .akf) (k .aid)
     → (segN : ℕ) → segN ≡ lastSegment (fullOctets false) len → (ttl : ℕ) → ttl ≡ ttlOf (q .ttl)
     → record {
@@ -246,25 +248,25 @@ unfolding outgoingOf
 outgoing-is e q k payload h ok left el len en first ef segN es ttl et =
     let s = secured (k .key) e payload in
     let n : length s ≡ len = secured-length (k .key) e payload ∙ sym en in
-    let l = secured-onto (k .key) e payload (replicate 384 0) el (omega arith) h in
-    let t : left ≡ padded 384 s = l ∙ onto-zeros 384 s (omega arith) in
+    let l = secured-onto (k .key) e payload (replicate messageOctets 0) el (omega arith) h in
+    let t : left ≡ padded messageOctets s = l ∙ onto-zeros messageOctets s (omega arith) in
     rw (t, ef, es, et, n)
 
 -- ---- the call
 module _ (r : Receiver) (q : Request) (key : MessageKey) (szmic : Bool) (payload buf : List ℕ) (s : Spoken) where
-  pub send-short : length buf < 29 → s ≡ refusedAt r refusal.ShortBuffer → lent s buf ≡ sendingAccess r q key szmic payload buf
+  pub send-short : length buf < pduOctets → s ≡ refusedAt r refusal.ShortBuffer → lent s buf ≡ sendingAccess r q key szmic payload buf
   unfolding sendingAccess
-  send-short h es = rw (lt-ltb (length buf) 29 h, es)
+  send-short h es = rw (lt-ltb (length buf) pduOctets h, es)
 
-  module _ (h : 29 ≤ length buf) (a : Bool) (ea : a ≡ accessAllowed r q key szmic (length payload)) where
+  module _ (h : pduOctets ≤ length buf) (a : Bool) (ea : a ≡ accessAllowed r q key szmic (length payload)) where
     pub send-outside : not a ≡ true → s ≡ refusedAt r refusal.OutsideRules → lent s buf ≡ sendingAccess r q key szmic payload buf
     unfolding sendingAccess
-    send-outside t es = rw (le-ltb (length buf) 29 h, ← ea, not-true a t, es)
+    send-outside t es = rw (le-ltb (length buf) pduOctets h, ← ea, not-true a t, es)
 
     pub send-said :
         not a ≡ false → (left : List ℕ) → lent s left ≡ sayingAccess r q key szmic payload buf → lent s left ≡ sendingAccess r q key szmic payload buf
     unfolding sendingAccess
-    send-said t left es = rw (le-ltb (length buf) 29 h, ← ea, not-false a t) es
+    send-said t left es = rw (le-ltb (length buf) pduOctets h, ← ea, not-false a t) es
 
 pub ruleset send-rules = (send-short, send-outside, send-said)
 
@@ -292,7 +294,7 @@ unfolding isWhole envelopeOf
 whole-plain r q k szmic len e ee w ew t = ap (λ (x : Envelope). x .szmic) ee ∙ not-true szmic (and-first (not szmic) _ (sym ew ∙ t))
 
 pub begun-within :
-    (r : Receiver) (q : Request) (k : KeyUsed) (szmic : Bool) (len : ℕ) → len + micOctets (transMic szmic) ≤ 384
-    → (e : Envelope) → e ≡ envelopeOf r q k szmic → len + micOctets (transMic (e .szmic)) ≤ 384
+    (r : Receiver) (q : Request) (k : KeyUsed) (szmic : Bool) (len : ℕ) → len + micOctets (transMic szmic) ≤ messageOctets
+    → (e : Envelope) → e ≡ envelopeOf r q k szmic → len + micOctets (transMic (e .szmic)) ≤ messageOctets
 unfolding envelopeOf
 begun-within r q k szmic len h e ee = rw (ap (λ (x : Envelope). x .szmic) ee) h

@@ -13,11 +13,14 @@ use Rattle.common.specs.Lists.{padded, onto}
 use Rattle.network.specs.declared.header.Header.{Header}
 use Rattle.network.specs.Address.{isUnicast}
 use Rattle.network.proofs.TrialLaws.{onto-zeros}
+use Rattle.network.specs.Pdu.{pduOctets}
+use Rattle.network.specs.Candidates.{networkKeyPlaces}
 use Rattle.transport.specs.Segment.{acknowledgementOctets}
 use Rattle.memory.specs.declared.replay.Entry.{Entry}
 use Rattle.memory.specs.declared.session.Session.{Session}
 use Rattle.memory.specs.Replay.{lookUp}
 use Rattle.memory.specs.Session.{sessionSlots, sessionAt, sessionPlace}
+use Rattle.node.specs.Addresses.{elementPlaces}
 use Rattle.receiver.specs.declared.answer.Refusal.the-variants as refusal
 use Rattle.receiver.specs.declared.state.Receiver.{Receiver}
 use Rattle.sending.specs.declared.acknowledge.Chosen.{Chosen}
@@ -70,38 +73,38 @@ said-is r element network src c buf iv ei d ed t left et s es = rw (← ei, ← 
 
 -- ---- the call
 module _ (r : Receiver) (network src : ℕ) (buf : List ℕ) (s : Spoken) where
-  pub ack-short : length buf < 29 → s ≡ refusedAt r refusal.ShortBuffer → lent s buf ≡ acknowledging r network src buf
+  pub ack-short : length buf < pduOctets → s ≡ refusedAt r refusal.ShortBuffer → lent s buf ≡ acknowledging r network src buf
   unfolding acknowledging
-  ack-short h es = rw (lt-ltb (length buf) 29 h, es)
+  ack-short h es = rw (lt-ltb (length buf) pduOctets h, es)
 
-  module _ (h : 29 ≤ length buf) where
+  module _ (h : pduOctets ≤ length buf) where
     pub ack-past : 4 ≤ network → s ≡ refusedAt r refusal.OutsideRules → lent s buf ≡ acknowledging r network src buf
     unfolding acknowledging
-    ack-past g es = rw (le-ltb (length buf) 29 h, le-ltb network (min (r .node .networks) 4) (omega arith), es)
+    ack-past g es = rw (le-ltb (length buf) pduOctets h, le-ltb network (min (r .node .networks) networkKeyPlaces) (omega arith), es)
 
     module _ (g : network < 4) where
       pub ack-absent : r .node .networks ≤ network → s ≡ refusedAt r refusal.OutsideRules → lent s buf ≡ acknowledging r network src buf
       unfolding acknowledging
-      ack-absent k es = rw (le-ltb (length buf) 29 h, le-ltb network (min (r .node .networks) 4) (omega arith), es)
+      ack-absent k es = rw (le-ltb (length buf) pduOctets h, le-ltb network (min (r .node .networks) networkKeyPlaces) (omega arith), es)
 
       module _ (k : network < r .node .networks) (c : Chosen) (ec : c ≡ chosen (r .replay) (r .sessions) src) (u : Bool) (eu : u ≡ isUnicast (c .dst)) where
-        here : network < min (r .node .networks) 4
+        here : network < min (r .node .networks) networkKeyPlaces
         here = omega arith
 
         pub ack-not-unicast : not u ≡ true → s ≡ refusedAt r refusal.OutsideRules → lent s buf ≡ acknowledging r network src buf
         unfolding acknowledging
-        ack-not-unicast t es = rw (le-ltb (length buf) 29 h, lt-ltb network (min (r .node .networks) 4) here, ← ec, ← eu, not-true u t, es)
+        ack-not-unicast t es = rw (le-ltb (length buf) pduOctets h, lt-ltb network (min (r .node .networks) networkKeyPlaces) here, ← ec, ← eu, not-true u t, es)
 
         module _ (tu : not u ≡ false) (element : ℕ) (el : element ≡ elementOf (r .node) (c .dst)) where
           pub ack-no-element : 8 ≤ element → s ≡ refusedAt r refusal.OutsideRules → lent s buf ≡ acknowledging r network src buf
           unfolding acknowledging
           ack-no-element m es =
-              rw (le-ltb (length buf) 29 h, lt-ltb network (min (r .node .networks) 4) here, ← ec, ← eu, not-false u tu, ← el, le-ltb element 8 m, es)
+              rw (le-ltb (length buf) pduOctets h, lt-ltb network (min (r .node .networks) networkKeyPlaces) here, ← ec, ← eu, not-false u tu, ← el, le-ltb element elementPlaces m, es)
 
           pub ack-said :
-              element < 8 → (left : List ℕ) → lent s left ≡ sayingAcknowledgement r element network src c buf → lent s left ≡ acknowledging r network src buf
+              element < elementPlaces → (left : List ℕ) → lent s left ≡ sayingAcknowledgement r element network src c buf → lent s left ≡ acknowledging r network src buf
           unfolding acknowledging
           ack-said m left es =
-              rw (le-ltb (length buf) 29 h, lt-ltb network (min (r .node .networks) 4) here, ← ec, ← eu, not-false u tu, ← el, lt-ltb element 8 m) es
+              rw (le-ltb (length buf) pduOctets h, lt-ltb network (min (r .node .networks) networkKeyPlaces) here, ← ec, ← eu, not-false u tu, ← el, lt-ltb element elementPlaces m) es
 
 pub ruleset ack-rules = (ack-short, ack-past, ack-absent, ack-not-unicast, ack-no-element, ack-said)

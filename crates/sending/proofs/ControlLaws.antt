@@ -14,8 +14,10 @@ use Rattle.common.specs.Lists.{padded, onto}
 use Rattle.common.proofs.Tests.{and-first, and-second}
 use Rattle.network.specs.declared.header.Header.{Header}
 use Rattle.network.proofs.TrialLaws.{onto-zeros}
-use Rattle.transport.specs.Segment.{fullOctets, controlOctet}
+use Rattle.network.specs.Pdu.{pduOctets}
+use Rattle.transport.specs.Segment.{messageOctets, fullOctets, controlOctet}
 use Rattle.memory.specs.declared.outgoing.Outgoing.{Outgoing}
+use Rattle.node.specs.Addresses.{elementPlaces}
 use Rattle.receiver.specs.declared.answer.Refusal.the-variants as refusal
 use Rattle.receiver.specs.declared.state.Receiver.{Receiver}
 use Rattle.sending.specs.declared.answer.Spoken.{Spoken}
@@ -66,7 +68,7 @@ module _ (r : Receiver) (q : Request) (opcode len : ℕ) (a : Bool) (e : a ≡ c
   allowed : controlAllowed r q opcode len ≡ true
   allowed = sym e ∙ not-false a t
 
-  pub element-within : q .element < 8
+  pub element-within : q .element < elementPlaces
   unfolding controlAllowed
   element-within = request-element (r .node) q (and-first (requestAllowed (r .node) q) _ allowed)
 
@@ -91,7 +93,7 @@ whole-header-is iv q opcode parameters h first ef left el ttl et =
 
 pub outgoing-is :
     (r : Receiver) (q : Request) (opcode : ℕ) (parameters : List ℕ) → length parameters ≤ 256
-    → (left : List ℕ) → left ≡ onto (take 384 parameters) (replicate 384 0) → (src : ℕ) → src ≡ addressOf (r .node) (q .element)
+    → (left : List ℕ) → left ≡ onto (take messageOctets parameters) (replicate messageOctets 0) → (src : ℕ) → src ≡ addressOf (r .node) (q .element)
     → (iv : ℕ) → iv ≡ sendingIv (r .node) → (first : ℕ) → first ≡ controlOctet true opcode
     → (segN : ℕ) → segN ≡ lastSegment (fullOctets true) (length parameters) → (ttl : ℕ) → ttl ≡ ttlOf (q .ttl)
     → record {
@@ -106,25 +108,25 @@ pub outgoing-is :
     ≡ outgoingOf r q opcode parameters
 unfolding outgoingOf
 outgoing-is r q opcode parameters h left el src es iv ei first ef segN en ttl et =
-    let all : take 384 parameters ≡ parameters = take-all 384 parameters (omega arith) in
-    let t : left ≡ padded 384 parameters = el ∙ ap (λ (z : List ℕ). onto z (replicate 384 0)) all ∙ onto-zeros 384 parameters (omega arith) in
+    let all : take messageOctets parameters ≡ parameters = take-all messageOctets parameters (omega arith) in
+    let t : left ≡ padded messageOctets parameters = el ∙ ap (λ (z : List ℕ). onto z (replicate messageOctets 0)) all ∙ onto-zeros messageOctets parameters (omega arith) in
     rw (t, es, ei, ef, en, et)
 
 -- ---- the call
 module _ (r : Receiver) (q : Request) (opcode : ℕ) (parameters buf : List ℕ) (s : Spoken) where
-  pub send-short : length buf < 29 → s ≡ refusedAt r refusal.ShortBuffer → lent s buf ≡ sendingControl r q opcode parameters buf
+  pub send-short : length buf < pduOctets → s ≡ refusedAt r refusal.ShortBuffer → lent s buf ≡ sendingControl r q opcode parameters buf
   unfolding sendingControl
-  send-short h es = rw (lt-ltb (length buf) 29 h, es)
+  send-short h es = rw (lt-ltb (length buf) pduOctets h, es)
 
-  module _ (h : 29 ≤ length buf) (a : Bool) (ea : a ≡ controlAllowed r q opcode (length parameters)) where
+  module _ (h : pduOctets ≤ length buf) (a : Bool) (ea : a ≡ controlAllowed r q opcode (length parameters)) where
     pub send-outside : not a ≡ true → s ≡ refusedAt r refusal.OutsideRules → lent s buf ≡ sendingControl r q opcode parameters buf
     unfolding sendingControl
-    send-outside t es = rw (le-ltb (length buf) 29 h, ← ea, not-true a t, es)
+    send-outside t es = rw (le-ltb (length buf) pduOctets h, ← ea, not-true a t, es)
 
     pub send-said :
         not a ≡ false → (left : List ℕ) → lent s left ≡ sayingControl r q opcode parameters buf → lent s left ≡ sendingControl r q opcode parameters buf
     unfolding sendingControl
-    send-said t left es = rw (le-ltb (length buf) 29 h, ← ea, not-false a t) es
+    send-said t left es = rw (le-ltb (length buf) pduOctets h, ← ea, not-false a t) es
 
   module _ (left : List ℕ) where
     pub say-whole :

@@ -8,7 +8,9 @@ use borrow.Author.Tests.{lt-ltb, le-ltb, ne-eqb, not-true, not-false}
 use lib.Dec.{leb}
 use Rattle.network.specs.declared.address.AddressKind.{AddressKind}
 use Rattle.network.specs.Address.{kindOf}
+use Rattle.network.specs.Candidates.{networkKeyPlaces}
 use Rattle.node.specs.declared.addresses.Node.{Node}
+use Rattle.node.specs.Addresses.{elementPlaces}
 use Rattle.sending.specs.declared.request.Request.{Request}
 use Rattle.sending.specs.declared.request.Ttl.{Ttl}
 use Rattle.sending.specs.declared.request.Ttl.the-variants.{Named}
@@ -21,32 +23,32 @@ ttl-named t n k h = rw (k, ne-eqb n 1 h)
 module _ (node : Node) (q : Request) where
   pub request-element-high : 8 ≤ q .element → false ≡ requestAllowed node q
   unfolding requestAllowed
-  request-element-high h = simp (le-ltb (q .element) (min (node .elements) 8) (omega arith))
+  request-element-high h = simp (le-ltb (q .element) (min (node .elements) elementPlaces) (omega arith))
 
-  module _ (e : q .element < 8) where
+  module _ (e : q .element < elementPlaces) where
     pub request-no-element : node .elements ≤ q .element → false ≡ requestAllowed node q
     unfolding requestAllowed
-    request-no-element h = simp (le-ltb (q .element) (min (node .elements) 8) (omega arith))
+    request-no-element h = simp (le-ltb (q .element) (min (node .elements) elementPlaces) (omega arith))
 
     module _ (f : q .element < node .elements) where
       pub request-network-high : 4 ≤ q .network → false ≡ requestAllowed node q
       unfolding requestAllowed
       request-network-high h =
-          simp (lt-ltb (q .element) (min (node .elements) 8) (omega arith), le-ltb (q .network) (min (node .networks) 4) (omega arith))
+          simp (lt-ltb (q .element) (min (node .elements) elementPlaces) (omega arith), le-ltb (q .network) (min (node .networks) networkKeyPlaces) (omega arith))
 
       module _ (g : q .network < 4) where
         pub request-no-network : node .networks ≤ q .network → false ≡ requestAllowed node q
         unfolding requestAllowed
         request-no-network h =
-            simp (lt-ltb (q .element) (min (node .elements) 8) (omega arith), le-ltb (q .network) (min (node .networks) 4) (omega arith))
+            simp (lt-ltb (q .element) (min (node .elements) elementPlaces) (omega arith), le-ltb (q .network) (min (node .networks) networkKeyPlaces) (omega arith))
 
         module _ (h : q .network < node .networks) (kind : AddressKind) (ek : kind ≡ kindOf (q .dst)) (s : Bool) (es : s ≡ sendableKind kind) where
           pub request-no-destination : not s ≡ true → false ≡ requestAllowed node q
           unfolding requestAllowed
           request-no-destination t =
               rw (
-                lt-ltb (q .element) (min (node .elements) 8) (omega arith),
-                lt-ltb (q .network) (min (node .networks) 4) (omega arith),
+                lt-ltb (q .element) (min (node .elements) elementPlaces) (omega arith),
+                lt-ltb (q .network) (min (node .networks) networkKeyPlaces) (omega arith),
                 ← ek,
                 ← es,
                 not-true s t,
@@ -56,8 +58,8 @@ module _ (node : Node) (q : Request) where
           unfolding requestAllowed
           request-ttl t a ea =
               rw (
-                lt-ltb (q .element) (min (node .elements) 8) (omega arith),
-                lt-ltb (q .network) (min (node .networks) 4) (omega arith),
+                lt-ltb (q .element) (min (node .elements) elementPlaces) (omega arith),
+                lt-ltb (q .network) (min (node .networks) networkKeyPlaces) (omega arith),
                 ← ek,
                 ← es,
                 not-false s t,

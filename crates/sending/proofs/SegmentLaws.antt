@@ -19,11 +19,12 @@ use Rattle.common.proofs.Parts.{drop-take, take-own-length}
 use Rattle.common.proofs.Tests.{and-first, and-second}
 use Rattle.network.specs.declared.header.Header.{Header}
 use Rattle.network.proofs.TrialLaws.{onto-zeros}
-use Rattle.transport.specs.Segment.{fullOctets, segmentFront}
+use Rattle.network.specs.Pdu.{pduOctets}
+use Rattle.transport.specs.Segment.{messageOctets, fullOctets, segmentFront}
 use Rattle.transport.proofs.SegmentLaws.{length-front}
 use Rattle.memory.specs.declared.outgoing.Outgoing.{Outgoing}
 use Rattle.node.specs.declared.addresses.Node.{Node}
-use Rattle.node.specs.Addresses.{isLocal}
+use Rattle.node.specs.Addresses.{elementPlaces, isLocal}
 use Rattle.node.proofs.AddressesLaws.{local-bounds}
 use Rattle.receiver.specs.declared.answer.Refusal.the-variants as refusal
 use Rattle.receiver.specs.declared.state.Receiver.{Receiver}
@@ -45,11 +46,11 @@ module _ (ctl : Bool) (segO : ℕ) where
   place-access k = rw k
 
 -- ---- the octets of the message
-module _ (o : Outgoing) (l : length (o .bytes) ≡ 384) where
-  pub message-most : 384 < o .len → 384 ≡ length (take (o .len) (o .bytes))
+module _ (o : Outgoing) (l : length (o .bytes) ≡ messageOctets) where
+  pub message-most : messageOctets < o .len → messageOctets ≡ length (take (o .len) (o .bytes))
   message-most h = simp length-take (omega arith)
 
-  pub message-own : o .len ≤ 384 → o .len ≡ length (take (o .len) (o .bytes))
+  pub message-own : o .len ≤ messageOctets → o .len ≡ length (take (o .len) (o .bytes))
   message-own h = simp length-take (omega arith)
 
 -- ---- where a chunk ends
@@ -73,11 +74,11 @@ module _ (o : Outgoing) (segO start size len : ℕ) (es : start ≡ chunkPlace (
     chunk-full k = rw (← es, chunk-is) (omega arith)
 
 -- it ends within the bytes
-module _ (o : Outgoing) (l : length (o .bytes) ≡ 384) (n : ℕ) where
-  pub bytes-within : n ≤ 384 → n ≤ length (o .bytes)
+module _ (o : Outgoing) (l : length (o .bytes) ≡ messageOctets) (n : ℕ) where
+  pub bytes-within : n ≤ messageOctets → n ≤ length (o .bytes)
   bytes-within h = omega arith
 
-  pub bytes-before : (len : ℕ) → len ≤ 384 → n ≤ len → n ≤ length (o .bytes)
+  pub bytes-before : (len : ℕ) → len ≤ messageOctets → n ≤ len → n ≤ length (o .bytes)
   bytes-before len h k = omega arith
 
 -- ---- the chunk is a part of the bytes
@@ -234,24 +235,24 @@ segment-below r element n b e f =
 
 -- ---- 16; 14; or sent
 module _ (r : Receiver) (n : ℕ) (buf : List ℕ) where
-  pub send-short : length buf < 29 → (s : Spoken) → s ≡ refusedAt r refusal.ShortBuffer → lent s buf ≡ sendingSegment r n buf
+  pub send-short : length buf < pduOctets → (s : Spoken) → s ≡ refusedAt r refusal.ShortBuffer → lent s buf ≡ sendingSegment r n buf
   unfolding sendingSegment
-  send-short h s es = rw (lt-ltb (length buf) 29 h, es)
+  send-short h s es = rw (lt-ltb (length buf) pduOctets h, es)
 
-  module _ (h : 29 ≤ length buf) (element : ℕ) (ee : element ≡ elementOf (r .node) (r .out .src)) where
+  module _ (h : pduOctets ≤ length buf) (element : ℕ) (ee : element ≡ elementOf (r .node) (r .out .src)) where
     pub send-no-element : 8 ≤ element → (s : Spoken) → s ≡ refusedAt r refusal.OutsideRules → lent s buf ≡ sendingSegment r n buf
     unfolding sendingSegment
-    send-no-element k s es = rw (le-ltb (length buf) 29 h, ← ee, le-ltb element 8 k, es)
+    send-no-element k s es = rw (le-ltb (length buf) pduOctets h, ← ee, le-ltb element elementPlaces k, es)
 
-    module _ (k : element < 8) (b : Bool) (eb : b ≡ segmentAllowed r element n) where
+    module _ (k : element < elementPlaces) (b : Bool) (eb : b ≡ segmentAllowed r element n) where
       pub send-not-allowed : not b ≡ true → (s : Spoken) → s ≡ refusedAt r refusal.OutsideRules → lent s buf ≡ sendingSegment r n buf
       unfolding sendingSegment
-      send-not-allowed t s es = rw (le-ltb (length buf) 29 h, ← ee, lt-ltb element 8 k, ← eb, not-true b t, es)
+      send-not-allowed t s es = rw (le-ltb (length buf) pduOctets h, ← ee, lt-ltb element elementPlaces k, ← eb, not-true b t, es)
 
       pub send-done :
           not b ≡ false → (d : Header) → d ≡ segmentHeader (r .out) n → (t : Transmitted) (left : List ℕ) → lent t left ≡ transmitted r element d buf
           → (s : Spoken) → s ≡ spoken t → lent s left ≡ sendingSegment r n buf
       unfolding sendingSegment
-      send-done f d ed t left et s es = rw (le-ltb (length buf) 29 h, ← ee, lt-ltb element 8 k, ← eb, not-false b f, ← ed, ← et, es)
+      send-done f d ed t left et s es = rw (le-ltb (length buf) pduOctets h, ← ee, lt-ltb element elementPlaces k, ← eb, not-false b f, ← ed, ← et, es)
 
 pub ruleset send-rules = (send-short, send-no-element, send-not-allowed, send-done)

@@ -14,11 +14,12 @@ use Rattle.common.specs.Lent.{Lent, lent}
 use Rattle.common.specs.Lists.{padded}
 use Rattle.network.specs.declared.header.Header.{Header}
 use Rattle.network.specs.Address.{isUnicast}
+use Rattle.network.specs.Pdu.{pduOctets}
 use Rattle.transport.specs.declared.securing.Envelope.{Envelope}
 use Rattle.transport.specs.declared.securing.MessageKey.{MessageKey}
 use Rattle.transport.specs.declared.securing.MessageKey.the-variants.{Application, Device}
-use Rattle.transport.specs.Securing.{applicationKeyAt, secured}
-use Rattle.transport.specs.Segment.{accessOctet}
+use Rattle.transport.specs.Securing.{applicationKeyPlaces, applicationKeyAt, secured}
+use Rattle.transport.specs.Segment.{messageOctets, accessOctet}
 use Rattle.memory.specs.declared.outgoing.Outgoing.{Outgoing}
 use Rattle.node.specs.declared.addresses.Node.{Node}
 use Rattle.receiver.specs.declared.answer.Refusal.the-variants as refusal
@@ -34,13 +35,13 @@ use Rattle.sending.specs.Transmission.{sendingIv, addressOf, nextSeq, tr
 -- the key that a request names: AKF, AID and its octets; past the four places of application keys there is none
 abbrev pub keyed : Node → MessageKey → KeyUsed
 keyed node (Application i) =
-    if ltb i 4 then record { akf = true; aid = applicationKeyAt (node .appkeys) i .aid; key = applicationKeyAt (node .appkeys) i .key } else
+    if ltb i applicationKeyPlaces then record { akf = true; aid = applicationKeyAt (node .appkeys) i .aid; key = applicationKeyAt (node .appkeys) i .key } else
     record { akf = true; aid = 0; key = replicate 16 0 }
 keyed node Device = record { akf = false; aid = 0; key = node .device }
 
 -- an application key that is there, bound to the network key named; the device key needs a unicast DST
 abbrev pub keyAllowed : Node → Request → MessageKey → Bool
-keyAllowed node q (Application i) = ltb i (min (node .applications) 4) && eqb (applicationKeyAt (node .appkeys) i .bound) (q .network)
+keyAllowed node q (Application i) = ltb i (min (node .applications) applicationKeyPlaces) && eqb (applicationKeyAt (node .appkeys) i .bound) (q .network)
 keyAllowed node q Device = isUnicast (q .dst)
 
 -- 1 to 11 octets with the 4-octet TransMIC go unsegmented
@@ -105,7 +106,7 @@ outgoingOf e q k payload =
       ttl = ttlOf (q .ttl);
       heard = 0;
       len = length m;
-      bytes = padded 384 m;
+      bytes = padded messageOctets m;
     }
 
 -- it is sent whole or begun, or 15
@@ -120,6 +121,6 @@ sayingAccess r q key szmic payload buf =
 -- 16; 14; then it is said
 unfoldable pub sendingAccess : Receiver → Request → MessageKey → Bool → List ℕ → List ℕ → Lent Spoken
 sendingAccess r q key szmic payload buf =
-    if ltb (length buf) 29 then lent (refusedAt r refusal.ShortBuffer) buf else
+    if ltb (length buf) pduOctets then lent (refusedAt r refusal.ShortBuffer) buf else
     if accessAllowed r q key szmic (length payload) then sayingAccess r q key szmic payload buf else
     lent (refusedAt r refusal.OutsideRules) buf

@@ -12,12 +12,15 @@ use Rattle.common.specs.Lent.{Lent, lent}
 use Rattle.common.specs.Lists.{padded}
 use Rattle.network.specs.declared.header.Header.{Header}
 use Rattle.network.specs.Address.{isUnicast}
+use Rattle.network.specs.Pdu.{pduOctets}
+use Rattle.network.specs.Candidates.{networkKeyPlaces}
 use Rattle.transport.specs.Segment.{acknowledgementOctets}
 use Rattle.memory.specs.declared.replay.Entry.{Entry}
 use Rattle.memory.specs.declared.session.Session.{Session}
 use Rattle.memory.specs.Pair.{noPair}
 use Rattle.memory.specs.Replay.{lookUp}
 use Rattle.memory.specs.Session.{sessionSlots, sessionAt, sessionPlace, blockAck}
+use Rattle.node.specs.Addresses.{elementPlaces}
 use Rattle.receiver.specs.declared.answer.Refusal.the-variants as refusal
 use Rattle.receiver.specs.declared.state.Receiver.{Receiver}
 use Rattle.sending.specs.declared.acknowledge.Chosen.{Chosen}
@@ -67,9 +70,9 @@ unfoldable pub acknowledging : Receiver → ℕ → ℕ → List ℕ → Lent Sp
 acknowledging r network src buf =
     let c = chosen (r .replay) (r .sessions) src in
     let element = elementOf (r .node) (c .dst) in
-    if ltb (length buf) 29 then lent (refusedAt r refusal.ShortBuffer) buf else
-    if ltb network (min (r .node .networks) 4) then
+    if ltb (length buf) pduOctets then lent (refusedAt r refusal.ShortBuffer) buf else
+    if ltb network (min (r .node .networks) networkKeyPlaces) then
     (if isUnicast (c .dst) then
-    (if ltb element 8 then sayingAcknowledgement r element network src c buf else lent (refusedAt r refusal.OutsideRules) buf) else
+    (if ltb element elementPlaces then sayingAcknowledgement r element network src c buf else lent (refusedAt r refusal.OutsideRules) buf) else
     lent (refusedAt r refusal.OutsideRules) buf) else
     lent (refusedAt r refusal.OutsideRules) buf

@@ -12,7 +12,8 @@ use Rattle.common.specs.Choice.{if_then_else_}
 use Rattle.common.specs.Lent.{Lent, lent}
 use Rattle.common.specs.Lists.{padded}
 use Rattle.network.specs.declared.header.Header.{Header}
-use Rattle.transport.specs.Segment.{controlOctet}
+use Rattle.network.specs.Pdu.{pduOctets}
+use Rattle.transport.specs.Segment.{messageOctets, controlOctet}
 use Rattle.memory.specs.declared.outgoing.Outgoing.{Outgoing}
 use Rattle.receiver.specs.declared.answer.Refusal.the-variants as refusal
 use Rattle.receiver.specs.declared.state.Receiver.{Receiver}
@@ -55,7 +56,7 @@ outgoingOf r q opcode parameters =
       ttl = ttlOf (q .ttl);
       heard = 0;
       len = length parameters;
-      bytes = padded 384 parameters;
+      bytes = padded messageOctets parameters;
     }
 
 -- it is sent whole or begun, or 15
@@ -68,6 +69,6 @@ sayingControl r q opcode parameters buf =
 -- 16; 14; then it is said
 unfoldable pub sendingControl : Receiver → Request → ℕ → List ℕ → List ℕ → Lent Spoken
 sendingControl r q opcode parameters buf =
-    if ltb (length buf) 29 then lent (refusedAt r refusal.ShortBuffer) buf else
+    if ltb (length buf) pduOctets then lent (refusedAt r refusal.ShortBuffer) buf else
     if controlAllowed r q opcode (length parameters) then sayingControl r q opcode parameters buf else
     lent (refusedAt r refusal.OutsideRules) buf

@@ -7,7 +7,9 @@ use lib.Dec.{eqb, leb, ltb}
 use Rattle.network.specs.declared.address.AddressKind.{AddressKind}
 use Rattle.network.specs.declared.address.AddressKind.the-variants.{Unassigned, Unicast, Virtual, Group}
 use Rattle.network.specs.Address.{kindOf}
+use Rattle.network.specs.Candidates.{networkKeyPlaces}
 use Rattle.node.specs.declared.addresses.Node.{Node}
+use Rattle.node.specs.Addresses.{elementPlaces}
 use Rattle.sending.specs.declared.request.Request.{Request}
 use Rattle.sending.specs.declared.request.Ttl.{Ttl}
 use Rattle.sending.specs.declared.request.Ttl.the-variants.{Unnamed, Named}
@@ -36,5 +38,5 @@ sendableKind Group = true
 -- the element and the network key are there; DST and TTL may be sent to and with
 unfoldable pub requestAllowed : Node → Request → Bool
 requestAllowed node q =
-    ltb (q .element) (min (node .elements) 8)
-    && (ltb (q .network) (min (node .networks) 4) && (sendableKind (kindOf (q .dst)) && ttlAllowed (q .ttl)))
+    ltb (q .element) (min (node .elements) elementPlaces)
+    && (ltb (q .network) (min (node .networks) networkKeyPlaces) && (sendableKind (kindOf (q .dst)) && ttlAllowed (q .ttl)))

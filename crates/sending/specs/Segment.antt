@@ -13,10 +13,11 @@ use Rattle.common.specs.Chunks.{chunk}
 use Rattle.common.specs.Lent.{Lent, lent}
 use Rattle.common.specs.Lists.{padded}
 use Rattle.network.specs.declared.header.Header.{Header}
+use Rattle.network.specs.Pdu.{pduOctets}
 use Rattle.transport.specs.Segment.{fullOctets, segmentFront}
 use Rattle.memory.specs.declared.outgoing.Outgoing.{Outgoing}
 use Rattle.node.specs.declared.addresses.Node.{Node}
-use Rattle.node.specs.Addresses.{isLocal}
+use Rattle.node.specs.Addresses.{elementPlaces, isLocal}
 use Rattle.receiver.specs.declared.answer.Refusal.the-variants as refusal
 use Rattle.receiver.specs.declared.state.Receiver.{Receiver}
 use Rattle.receiver.specs.State.{withOutgoing}
@@ -80,7 +81,7 @@ unfoldable pub sendingSegment : Receiver → ℕ → List ℕ → Lent Spoken
 sendingSegment r n buf =
     let element = elementOf (r .node) (r .out .src) in
     let t = transmitted r element (segmentHeader (r .out) n) buf in
-    if ltb (length buf) 29 then lent (refusedAt r refusal.ShortBuffer) buf else
-    if ltb element 8 then
+    if ltb (length buf) pduOctets then lent (refusedAt r refusal.ShortBuffer) buf else
+    if ltb element elementPlaces then
     (if segmentAllowed r element n then lent (spoken (t .answer)) (t .buffer) else lent (refusedAt r refusal.OutsideRules) buf) else
     lent (refusedAt r refusal.OutsideRules) buf

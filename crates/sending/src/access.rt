@@ -17,7 +17,8 @@ ghost use lib.ListN.{length};
 ghost use Rattle.common.specs.Lent.{lent};
 ghost use Rattle.modes.specs.Ccm.{micOctets};
 ghost use Rattle.transport.specs.Securing.{transMic};
-ghost use Rattle.transport.specs.Segment.{fullOctets};
+ghost use Rattle.transport.specs.Segment.{messageOctets, fullOctets};
+ghost use Rattle.node.specs.Addresses.{elementPlaces};
 ghost use Rattle.sending.specs.Access.{keyed, keyAllowed, isWhole, sizeAllowed, accessAllowed, envelopeOf, wholeHeader, lastSegment, outgoingOf, sayingAccess, sendingAccess};
 
 // The key that secures a message, and what octet 0 and the nonce say of it.
@@ -120,7 +121,7 @@ fn is_allowed(r: Receiver, q: Request, key: MessageKey, szmic: bool, len: usize)
 
 // What the nonce of the message rests on: the SEQ is the element's next.
 fn envelope(r: Receiver, q: Request, k: KeyUsed, szmic: bool) -> Envelope
-    requires { ⌜ q .element < 8 ⌝ }
+    requires { ⌜ q .element < elementPlaces ⌝ }
     ensures { λ e. ⌜ e ≡ envelopeOf r q k szmic ⌝ }
 {
     let node = r.node;
@@ -185,11 +186,11 @@ fn secured_len(szmic: bool, len: usize) -> usize
 
 // The segmented message that is kept.
 fn outgoing(e: Envelope, q: Request, k: KeyUsed, payload: &[u8]) -> Outgoing
-    requires { ⌜ length (now payload) + micOctets (transMic (e .szmic)) ≤ 384 ⌝ }
+    requires { ⌜ length (now payload) + micOctets (transMic (e .szmic)) ≤ messageOctets ⌝ }
     ensures { λ o. ⌜ o ≡ outgoingOf e q k (now (payload .entry)) ⌝ }
 {
     let key = k.key;
-    let mut bytes = [0u8; 384];
+    let mut bytes = [0u8; transport::securing::MESSAGE];
     transport::securing::secure(key, e, payload, &mut bytes);
     let len = secured_len(e.szmic, payload.len());
     let ttl = q.ttl;
@@ -223,7 +224,7 @@ fn say(
     payload: &[u8],
     out: &mut [u8],
 ) -> Spoken
-    requires { ⌜ (q .element < 8) × (length (now payload) + micOctets (transMic szmic) ≤ 384) ⌝ }
+    requires { ⌜ (q .element < elementPlaces) × (length (now payload) + micOctets (transMic szmic) ≤ messageOctets) ⌝ }
     ensures { λ s. ⌜ lent s (now (out .exit)) ≡ sayingAccess r q key szmic (now (payload .entry)) (now (out .entry)) ⌝ }
 {
     let node = r.node;
@@ -248,7 +249,7 @@ pub fn send(
 ) -> Spoken
     ensures { λ s. ⌜ lent s (now (out .exit)) ≡ sendingAccess r q key szmic (now (payload .entry)) (now (out .entry)) ⌝ }
 {
-    if out.len() < 29 {
+    if out.len() < network::header::PDU {
         return super::answer::refuse(r, Refusal::ShortBuffer);
     }
     if !is_allowed(r, q, key, szmic, payload.len()) {

@@ -12,6 +12,7 @@ use receiver::state::Receiver;
 ghost use mathlib.Core.Path.{_≡_};
 ghost use Prim.Native.Nat.{_<_};
 ghost use Rattle.common.specs.Lent.{lent};
+ghost use Rattle.node.specs.Addresses.{elementPlaces};
 ghost use Rattle.sending.specs.Acknowledge.{chosen, noChoice, acknowledgementHeader, sayingAcknowledgement, acknowledging};
 
 // The message that is acknowledged; DST 0 marks that there is none.
@@ -83,7 +84,7 @@ fn header(iv: u32, network: usize, src: u16, c: Chosen) -> Header
 
 // An element sends the acknowledgement.
 fn say(r: Receiver, element: usize, network: usize, src: u16, c: Chosen, out: &mut [u8]) -> Spoken
-    requires { ⌜ element < 8 ⌝ }
+    requires { ⌜ element < elementPlaces ⌝ }
     ensures { λ s. ⌜ lent s (now (out .exit)) ≡ sayingAcknowledgement r element network src c (now (out .entry)) ⌝ }
 {
     let node = r.node;
@@ -100,7 +101,7 @@ pub fn send(r: Receiver, network: usize, src: u16, out: &mut [u8]) -> Spoken
     let sessions = r.sessions;
     let c = choose(replay, sessions, src);
     let element = super::segment::element_of(node, c.dst);
-    if out.len() < 29 {
+    if out.len() < network::header::PDU {
         return super::answer::refuse(r, Refusal::ShortBuffer);
     }
     if 4 <= network {
@@ -112,7 +113,7 @@ pub fn send(r: Receiver, network: usize, src: u16, out: &mut [u8]) -> Spoken
     if !network::address::is_unicast(c.dst) {
         return super::answer::refuse(r, Refusal::OutsideRules);
     }
-    if 8 <= element {
+    if node::addresses::ELEMENTS <= element {
         return super::answer::refuse(r, Refusal::OutsideRules);
     }
     say(r, element, network, src, c, out)

@@ -11,6 +11,7 @@ ghost use mathlib.Core.Path.{_≡_};
 ghost use Prim.Native.Nat.{_<_, _≤_};
 ghost use lib.ListN.{length};
 ghost use Rattle.common.specs.Lent.{lent};
+ghost use Rattle.node.specs.Addresses.{elementPlaces};
 ghost use Rattle.sending.specs.Control.{controlAllowed, wholeHeader, outgoingOf, sayingControl, sendingControl};
 
 fn is_allowed(r: Receiver, q: Request, opcode: u8, len: usize) -> bool
@@ -60,13 +61,13 @@ fn whole_header(iv: u32, q: Request, opcode: u8, parameters: &[u8]) -> Header
 
 // The segmented message that is kept.
 fn outgoing(r: Receiver, q: Request, opcode: u8, parameters: &[u8]) -> Outgoing
-    requires { ⌜ (q .element < 8) × (length (now parameters) ≤ 256) ⌝ }
+    requires { ⌜ (q .element < elementPlaces) × (length (now parameters) ≤ 256) ⌝ }
     ensures { λ o. ⌜ o ≡ outgoingOf r q opcode (now (parameters .entry)) ⌝ }
 {
     let node = r.node;
     let next = r.next;
     let element = q.element;
-    let mut bytes = [0u8; 384];
+    let mut bytes = [0u8; transport::securing::MESSAGE];
     common::copy(parameters, &mut bytes);
     let ttl = q.ttl;
     Outgoing {
@@ -92,7 +93,7 @@ fn outgoing(r: Receiver, q: Request, opcode: u8, parameters: &[u8]) -> Outgoing
 
 // Sends a control message that may be sent.
 fn say(r: Receiver, q: Request, opcode: u8, parameters: &[u8], out: &mut [u8]) -> Spoken
-    requires { ⌜ (q .element < 8) × (length (now parameters) ≤ 256) ⌝ }
+    requires { ⌜ (q .element < elementPlaces) × (length (now parameters) ≤ 256) ⌝ }
     ensures { λ s. ⌜ lent s (now (out .exit)) ≡ sayingControl r q opcode (now (parameters .entry)) (now (out .entry)) ⌝ }
 {
     let node = r.node;
@@ -108,7 +109,7 @@ fn say(r: Receiver, q: Request, opcode: u8, parameters: &[u8], out: &mut [u8]) -
 pub fn send(r: Receiver, q: Request, opcode: u8, parameters: &[u8], out: &mut [u8]) -> Spoken
     ensures { λ s. ⌜ lent s (now (out .exit)) ≡ sendingControl r q opcode (now (parameters .entry)) (now (out .entry)) ⌝ }
 {
-    if out.len() < 29 {
+    if out.len() < network::header::PDU {
         return super::answer::refuse(r, Refusal::ShortBuffer);
     }
     if !is_allowed(r, q, opcode, parameters.len()) {

@@ -13,7 +13,8 @@ ghost use lib.Dec.{leb};
 ghost use lib.ListN.{length, getD, take};
 ghost use Rattle.common.specs.Lent.{lent};
 ghost use Rattle.common.specs.Lists.{padded};
-ghost use Rattle.transport.specs.Segment.{fullOctets};
+ghost use Rattle.transport.specs.Segment.{messageOctets, fullOctets};
+ghost use Rattle.node.specs.Addresses.{elementPlaces};
 ghost use Rattle.sending.specs.Segment.{chunkPlace, outgoingChunk, segmentPdu, segmentHeader, elementOf, segmentAllowed, starting, sendingSegment};
 
 // How many octets a full segment has.
@@ -29,7 +30,7 @@ fn full_octets(ctl: bool) -> usize
 // Where the octets of a segment begin.
 fn chunk_place(ctl: bool, sego: u8) -> usize
     requires { ⌜ sego < 32 ⌝ }
-    ensures { λ r. ⌜ (r ≡ chunkPlace ctl sego) × (r ≤ 384) ⌝ }
+    ensures { λ r. ⌜ (r ≡ chunkPlace ctl sego) × (r ≤ messageOctets) ⌝ }
 {
     if ctl {
         return sego as usize * 8;
@@ -39,10 +40,10 @@ fn chunk_place(ctl: bool, sego: u8) -> usize
 
 // How many octets the message has; it is kept in 384.
 fn message_len(o: Outgoing) -> usize
-    ensures { λ r. ⌜ (r ≡ length (take (o .len) (o .bytes))) × (r ≤ 384) ⌝ }
+    ensures { λ r. ⌜ (r ≡ length (take (o .len) (o .bytes))) × (r ≤ messageOctets) ⌝ }
 {
-    if 384 < o.len {
-        return 384;
+    if transport::securing::MESSAGE < o.len {
+        return transport::securing::MESSAGE;
     }
     o.len
 }
@@ -121,7 +122,7 @@ fn segment_header(o: Outgoing, sego: u8) -> Header
 
 // Begins a segmented message: segment 0 goes out, and the message is kept.
 pub(crate) fn start(r: Receiver, element: usize, o: Outgoing, out: &mut [u8]) -> Spoken
-    requires { ⌜ element < 8 ⌝ }
+    requires { ⌜ element < elementPlaces ⌝ }
     ensures { λ s. ⌜ lent s (now (out .exit)) ≡ starting r element o (now (out .entry)) ⌝ }
 {
     let t = super::transmission::transmit(r, element, segment_header(o, 0), out);
@@ -152,8 +153,8 @@ pub(crate) fn element_of(node: Node, address: u16) -> usize
 }
 
 // Whether an element's next SEQ is at most 8,191 after a message's first.
-fn is_near(next: [u32; 8], element: usize, first: u32) -> bool
-    requires { ⌜ element < 8 ⌝ }
+fn is_near(next: [u32; node::addresses::ELEMENTS], element: usize, first: u32) -> bool
+    requires { ⌜ element < elementPlaces ⌝ }
     ensures { λ b. ⌜ b ≡ leb (getD next element 0) (first + 8191) ⌝ }
 {
     next[element] as u64 <= first as u64 + 8191
@@ -161,7 +162,7 @@ fn is_near(next: [u32; 8], element: usize, first: u32) -> bool
 
 // Whether a named segment of the kept message may be sent by an element.
 fn is_allowed(r: Receiver, element: usize, n: u8) -> bool
-    requires { ⌜ element < 8 ⌝ }
+    requires { ⌜ element < elementPlaces ⌝ }
     ensures { λ b. ⌜ b ≡ segmentAllowed r element n ⌝ }
 {
     let o = r.out;
@@ -190,10 +191,10 @@ pub fn send(r: Receiver, n: u8, out: &mut [u8]) -> Spoken
     let node = r.node;
     let o = r.out;
     let element = element_of(node, o.src);
-    if out.len() < 29 {
+    if out.len() < network::header::PDU {
         return super::answer::refuse(r, Refusal::ShortBuffer);
     }
-    if 8 <= element {
+    if node::addresses::ELEMENTS <= element {
         return super::answer::refuse(r, Refusal::OutsideRules);
     }
     if !is_allowed(r, element, n) {

@@ -6,6 +6,7 @@ use receiver::state::Receiver;
 ghost use mathlib.Core.Path.{_≡_};
 ghost use Prim.Native.Nat.{_+_, _<_, _≤_};
 ghost use Rattle.common.specs.Lent.{lent};
+ghost use Rattle.node.specs.Addresses.{elementPlaces};
 ghost use Rattle.sending.specs.Transmission.{sendingIv, addressOf, nextSeq, withNext, stamped, transmitted};
 
 pub enum Transmission {
@@ -38,7 +39,7 @@ pub fn address_of(node: Node, element: usize) -> u16
 
 // The header with the element's next SEQ and address.
 fn stamp(r: Receiver, element: usize, h: Header) -> Header
-    requires { ⌜ element < 8 ⌝ }
+    requires { ⌜ element < elementPlaces ⌝ }
     ensures { λ s. ⌜ s ≡ stamped r element h ⌝ }
 {
     let next = r.next;
@@ -51,7 +52,7 @@ fn stamp(r: Receiver, element: usize, h: Header) -> Header
 
 // The receiver after an element used a SEQ.
 fn advance(r: Receiver, element: usize) -> Receiver
-    requires { ⌜ (element < 8) × (nextSeq r element ≤ 0xFFFFFF) ⌝ }
+    requires { ⌜ (element < elementPlaces) × (nextSeq r element ≤ 0xFFFFFF) ⌝ }
     ensures { λ q. ⌜ q ≡ withNext r element ⌝ }
 {
     let mut q = r;
@@ -63,7 +64,7 @@ fn advance(r: Receiver, element: usize) -> Receiver
 
 // Seals the header, stamped, into out; the element's SEQ is used only where the PDU is made.
 pub(crate) fn transmit(r: Receiver, element: usize, h: Header, out: &mut [u8]) -> Transmitted
-    requires { ⌜ element < 8 ⌝ }
+    requires { ⌜ element < elementPlaces ⌝ }
     ensures { λ t. ⌜ lent t (now (out .exit)) ≡ transmitted r element h (now (out .entry)) ⌝ }
 {
     let next = r.next;

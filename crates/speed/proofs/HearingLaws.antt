@@ -11,6 +11,7 @@ use lib.ListN.{length, take, drop, replicate}
 use Rattle.common.specs.Lent.{lent}
 use Rattle.network.specs.declared.opening.Opening.{Opening}
 use Rattle.network.specs.Opening.{opening}
+use Rattle.network.specs.Pdu.{pduOctets}
 use Rattle.node.specs.declared.addresses.Node.{Node}
 use Rattle.memory.specs.Session.{sessionAt}
 use Rattle.receiver.specs.declared.answer.Heard.{Heard}
@@ -30,19 +31,19 @@ pub ruleset held-rules = (held-free, held-kept)
 -- ---- one turn more
 pub heard-more :
     (r : Receiver) (pdu : List ℕ) (slot : ℕ) (msg : List ℕ) (i : ℕ) {count : ℕ} {left : List ℕ} → lent count left ≡ heardOver r pdu slot msg i
-    → {h : Heard} {fwd msg' : List ℕ} → outcome h fwd msg' ≡ hearing r pdu (replicate 29 0) left → {a b : ℕ} → a ≡ accepted (h .answer)
+    → {h : Heard} {fwd msg' : List ℕ} → outcome h fwd msg' ≡ hearing r pdu (replicate pduOctets 0) left → {a b : ℕ} → a ≡ accepted (h .answer)
     → b ≡ held (sessionAt (h .receiver .sessions) slot .src) → lent (count + (a + b)) msg' ≡ heardOver r pdu slot msg (i + 1)
 unfolding heardOver
 heard-more r pdu slot msg i p q ea eb = rw (add-one i, ← p, ← q, ea, eb)
 
-pub pdu-part : (pdus : List ℕ) (i : ℕ) → take (29 * i + 29 - 29 * i) (drop (29 * i) pdus) ≡ pduAt pdus i
+pub pdu-part : (pdus : List ℕ) (i : ℕ) → take (pduOctets * i + pduOctets - pduOctets * i) (drop (pduOctets * i) pdus) ≡ pduAt pdus i
 pdu-part pdus i =
-    let octets : 29 * i + 29 - 29 * i ≡ 29 = omega arith in
-    ap (λ n. take n (drop (29 * i) pdus)) octets
+    let octets : pduOctets * i + pduOctets - pduOctets * i ≡ pduOctets = omega arith in
+    ap (λ n. take n (drop (pduOctets * i) pdus)) octets
 
 pub row-more :
     (r : Receiver) (pdus msg : List ℕ) (i : ℕ) {q : Receiver} {count : ℕ} {left : List ℕ} → row q count left ≡ heardRow r pdus msg i
-    → {pdu : List ℕ} → pdu ≡ pduAt pdus i → {h : Heard} {fwd msg' : List ℕ} → outcome h fwd msg' ≡ hearing q pdu (replicate 29 0) left
+    → {pdu : List ℕ} → pdu ≡ pduAt pdus i → {h : Heard} {fwd msg' : List ℕ} → outcome h fwd msg' ≡ hearing q pdu (replicate pduOctets 0) left
     → {a : ℕ} → a ≡ accepted (h .answer) → row (h .receiver) (count + a) msg' ≡ heardRow r pdus msg (i + 1)
 unfolding heardRow
 row-more r pdus msg i p ep q ea = rw (add-one i, ← p, ← ep, ← q, ea)
@@ -81,7 +82,7 @@ module _ (keys : List ℕ) (first iv : ℕ) (pdus msg : List ℕ) where
   no-keys-row h = simp (ne-eqb _ _ h)
 
   pub row-heard :
-      length keys ≡ 48 → {r : Receiver} → r ≡ receiverOf keys first iv → {n k : ℕ} {left : List ℕ} → k ≡ length pdus / 29
+      length keys ≡ 48 → {r : Receiver} → r ≡ receiverOf keys first iv → {n k : ℕ} {left : List ℕ} → k ≡ length pdus / pduOctets
       → lent n left ≡ countedRow r pdus msg k → lent n left ≡ heardAll keys first iv pdus msg
   unfolding heardAll
   row-heard h er ek en = simp (eq-eqb _ _ h, ← er, ← ek) en

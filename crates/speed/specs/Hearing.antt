@@ -16,6 +16,7 @@ use Rattle.common.specs.Lent.{Lent, lent}
 use Rattle.network.specs.declared.opening.Answer.the-variants as network
 use Rattle.network.specs.declared.opening.Answer as opening-answer
 use Rattle.network.specs.Opening.{opening}
+use Rattle.network.specs.Pdu.{pduOctets}
 use Rattle.node.specs.declared.addresses.Node.{Node}
 use Rattle.node.specs.declared.setup.Setup.{Setup}
 use Rattle.memory.specs.Session.{sessionAt}
@@ -58,7 +59,7 @@ unfoldable pub heardOver : Receiver → List ℕ → ℕ → List ℕ → ℕ �
 heardOver r pdu slot msg zero = lent 0 msg
 heardOver r pdu slot msg (suc n) =
     let before = heardOver r pdu slot msg n in
-    let o = hearing r pdu (replicate 29 0) (before .buffer) in
+    let o = hearing r pdu (replicate pduOctets 0) (before .buffer) in
     lent
     (before .answer + (accepted (o .heard .answer) + held (sessionAt (o .heard .receiver .sessions) slot .src)))
     (o .message)
@@ -80,14 +81,14 @@ row r n msg = record { receiver = r; count = n; message = msg }
 
 -- PDU i, from 0, of 29 octets each
 abbrev pub pduAt : List ℕ → ℕ → List ℕ
-pduAt pdus i = take 29 (drop (29 * i) pdus)
+pduAt pdus i = take pduOctets (drop (pduOctets * i) pdus)
 
 -- each is heard by the receiver that the one before left
 unfoldable pub heardRow : Receiver → List ℕ → List ℕ → ℕ → Row
 heardRow r pdus msg zero = row r 0 msg
 heardRow r pdus msg (suc n) =
     let before = heardRow r pdus msg n in
-    let o = hearing (before .receiver) (pduAt pdus n) (replicate 29 0) (before .message) in
+    let o = hearing (before .receiver) (pduAt pdus n) (replicate pduOctets 0) (before .message) in
     row (o .heard .receiver) (before .count + accepted (o .heard .answer)) (o .message)
 
 -- the count and the message buffer after the first n
@@ -98,7 +99,7 @@ countedRow r pdus msg n = lent (heardRow r pdus msg n .count) (heardRow r pdus m
 unfoldable pub heardAll : List ℕ → ℕ → ℕ → List ℕ → List ℕ → Lent ℕ
 heardAll keys first iv pdus msg =
     if not (eqb (length keys) 48) then lent 0 msg else
-    countedRow (receiverOf keys first iv) pdus msg (length pdus / 29)
+    countedRow (receiverOf keys first iv) pdus msg (length pdus / pduOctets)
 
 -- 1 for a PDU that was opened
 abbrev pub opened : opening-answer.Answer → ℕ

@@ -10,6 +10,7 @@ ghost use mathlib.Core.Path.{_≡_};
 ghost use Prim.Native.Nat.{_≤_, _<_, _*_};
 ghost use lib.ListN.{length};
 ghost use Rattle.common.specs.Lent.{lent};
+ghost use Rattle.network.specs.Pdu.{pduOctets};
 ghost use Rattle.speed.specs.Hearing.{keyAt, setupOf, receiverOf, accepted, held, heardOver, heardTimes, countedRow, heardAll, opened, openedOver, openedTimes};
 
 // Key i, from 0, of the three.
@@ -102,7 +103,7 @@ fn hear_over(r: Receiver, pdu: &[u8], slot: usize, message: &mut [u8], times: u3
     let mut count: u64 = 0;
     let mut i: u32 = 0;
     while i < times {
-        let mut forward = [0u8; 29];
+        let mut forward = [0u8; network::header::PDU];
         let h = receiver::hear::hear(r, pdu, &mut forward, message);
         let answer = h.answer;
         let after = h.receiver;
@@ -135,16 +136,16 @@ pub extern "C" fn speed_hear(
 
 // Hears the first n PDUs of a row, 29 octets each, one after the other, and counts what is accepted.
 fn hear_row(r: Receiver, pdus: &[u8], n: usize, message: &mut [u8]) -> u64
-    requires { ⌜ 29 * n ≤ length (now pdus) ⌝ }
+    requires { ⌜ pduOctets * n ≤ length (now pdus) ⌝ }
     ensures { λ count. ⌜ lent count (now (message .exit)) ≡ countedRow r (now (pdus .entry)) (now (message .entry)) n ⌝ }
 {
     let mut receiver = r;
     let mut count: u64 = 0;
     let mut i: usize = 0;
     while i < n {
-        let mut forward = [0u8; 29];
-        let at = 29 * i;
-        let end = at + 29;
+        let mut forward = [0u8; network::header::PDU];
+        let at = network::header::PDU * i;
+        let end = at + network::header::PDU;
         let h = receiver::hear::hear(receiver, &pdus[at..end], &mut forward, message);
         let answer = h.answer;
         count += accept(answer);
@@ -169,7 +170,12 @@ pub extern "C" fn speed_hear_row(
     if keys.len() != 48 {
         return 0;
     }
-    hear_row(receiver(keys, first, iv), pdus, pdus.len() / 29, message)
+    hear_row(
+        receiver(keys, first, iv),
+        pdus,
+        pdus.len() / network::header::PDU,
+        message,
+    )
 }
 
 // 1 for a PDU that was opened.

@@ -27,7 +27,7 @@ pub(crate) fn send_all(node: Receiver) {
 // Begins message #6: its segment 0.
 fn begin(node: Receiver) -> Receiver {
     let next = node.next;
-    let mut pdu = [0u8; 29];
+    let mut pdu = [0u8; network::header::PDU];
     let spoken = sending::access::send(
         node,
         super::request(0x1201, 4),
@@ -44,7 +44,7 @@ fn begin(node: Receiver) -> Receiver {
 // Sends a segment of the message that the node keeps.
 fn segment(node: Receiver, n: u8) -> Receiver {
     let next = node.next;
-    let mut pdu = [0u8; 29];
+    let mut pdu = [0u8; network::header::PDU];
     let spoken = sending::segment::send(node, n, &mut pdu);
     let answer = spoken.answer;
     say(next[0], answer, &pdu);
@@ -53,8 +53,8 @@ fn segment(node: Receiver, n: u8) -> Receiver {
 
 // A node hears a PDU; a message that it hands up is written.
 fn hear(node: Receiver, pdu: &[u8]) -> Receiver {
-    let mut forward = [0u8; 29];
-    let mut message = [0u8; 384];
+    let mut forward = [0u8; network::header::PDU];
+    let mut message = [0u8; transport::securing::MESSAGE];
     let heard = receiver::hear::hear(node, pdu, &mut forward, &mut message);
     let answer = heard.answer;
     let mut line = [0u8; 128];
@@ -94,7 +94,7 @@ fn write_octets(octets: &[u8]) {
 
 // A node acknowledges the sender of message #6, and the transport PDU is written.
 fn acknowledge(node: Receiver) -> Receiver {
-    let mut pdu = [0u8; 29];
+    let mut pdu = [0u8; network::header::PDU];
     let spoken = sending::acknowledge::send(node, 0, 0x0003, &mut pdu);
     let answer = spoken.answer;
     let Answer::Sent(len) = answer else {

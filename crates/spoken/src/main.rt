@@ -79,7 +79,7 @@ fn send_all(iv: u32, flag: bool) {
 // A node sends a control message with TTL 0.
 fn control(node: Receiver, dst: u16, opcode: u8, parameters: &[u8]) {
     let next = node.next;
-    let mut pdu = [0u8; 29];
+    let mut pdu = [0u8; network::header::PDU];
     let spoken = sending::control::send(node, request(dst, 0), opcode, parameters, &mut pdu);
     let answer = spoken.answer;
     say(next[0], answer, &pdu);
@@ -89,7 +89,7 @@ fn control(node: Receiver, dst: u16, opcode: u8, parameters: &[u8]) {
 fn send_to_label() {
     let node = site::setting::node(0x1234, 0x07080B, 0x12345677, false);
     let next = node.next;
-    let mut pdu = [0u8; 29];
+    let mut pdu = [0u8; network::header::PDU];
     let spoken = sending::access::send(
         node,
         request(0xB529, 3),

@@ -37,7 +37,7 @@ fn send_message(bench: Bench) -> Bench {
         network: 0,
     };
     let sender = bench.sender;
-    let mut pdu = [0u8; 29];
+    let mut pdu = [0u8; network::header::PDU];
     let spoken = sending::access::send(
         sender,
         request,
@@ -69,7 +69,7 @@ fn send_rest(begun: Bench, segn: u8) -> Bench {
 // Sends one segment.
 fn send_segment(bench: Bench, n: u8) -> Bench {
     let sender = bench.sender;
-    let mut pdu = [0u8; 29];
+    let mut pdu = [0u8; network::header::PDU];
     let spoken = sending::segment::send(sender, n, &mut pdu);
     carry(bench, spoken, &pdu)
 }
@@ -95,8 +95,8 @@ fn say(seq: u32, answer: Answer, pdu: &[u8]) {
 
 // A node hears a PDU and answers; what it hands up is shown.
 fn hear(node: Receiver, pdu: &[u8]) -> Receiver {
-    let mut forward = [0u8; 29];
-    let mut message = [0u8; 384];
+    let mut forward = [0u8; network::header::PDU];
+    let mut message = [0u8; transport::securing::MESSAGE];
     let heard = receiver::hear::hear(node, pdu, &mut forward, &mut message);
     let answer = heard.answer;
     let mut line = [0u8; 128];
@@ -121,7 +121,7 @@ fn show(message: &[u8]) {
 fn acknowledge(bench: Bench) {
     let station = bench.station;
     let next = station.next;
-    let mut pdu = [0u8; 29];
+    let mut pdu = [0u8; network::header::PDU];
     let spoken = sending::acknowledge::send(station, 0, SENDER, &mut pdu);
     let answer = spoken.answer;
     say(next[0], answer, &pdu);

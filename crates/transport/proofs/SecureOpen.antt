@@ -25,10 +25,11 @@ use Rattle.transport.specs.declared.securing.MessageKey.{MessageKey}
 use Rattle.transport.specs.declared.securing.MessageKey.the-variants.{Application, Device}
 use Rattle.transport.specs.declared.securing.Opened.{Opened}
 use Rattle.transport.specs.declared.securing.Opened.the-variants.{Message, NotOpened, ShortBuffer}
-use Rattle.transport.specs.Securing.{transMic, messageNonceOf, secured, openedBy, applicationKeyAt, applicationCandidates}
+use Rattle.transport.specs.Securing.{applicationKeyPlaces, transMic, messageNonceOf, secured, openedBy, applicationKeyAt, applicationCandidates}
 use Rattle.transport.specs.Securing.{opensMessage, messageBy, byApplicationKeys, byDeviceKey, unsecuring, paper, trialsOf}
 use Rattle.transport.specs.SecureOpen.{SecuredLength, Fits, Receives, UnsecureSecure, UnsecureSecureDevice, TrialsMost, Stands, MessageStands, PlaceLow, RefusedKeeps}
 use Rattle.transport.proofs.SecuringLaws.{fitsAt, open-application, open-device, device-opens}
+use Rattle.transport.specs.Segment.{messageOctets}
 
 pub secured-length : SecuredLength
 unfolding secured
@@ -56,9 +57,9 @@ by-key-at :
 unfolding byApplicationKeys applicationCandidates
 by-key-at keys count i e c buf len r o l =
     let h = r .held in
-    let n : min i 4 ≡ i = omega arith in
+    let n : min i applicationKeyPlaces ≡ i = omega arith in
     let ends =
-    tries-at (fitsAt keys count e) (opensMessage keys e c buf) (min count 4) i h (r .fitting) (ap (λ (x : Lent Bool). x .answer) o) (r .none-before) in
+    tries-at (fitsAt keys count e) (opensMessage keys e c buf) (min count applicationKeyPlaces) i h (r .fitting) (ap (λ (x : Lent Bool). x .answer) o) (r .none-before) in
     rw (ends, o, l, n)
 
 pub unsecure-secure : UnsecureSecure
@@ -78,16 +79,16 @@ unsecure-secure-device keys count device e m buf f t =
 
 -- ---- the bounds
 module _ (keys : List ApplicationKey) (count : ℕ) (e : Envelope) where
-  pub candidates-most : length (applicationCandidates keys count e) ≤ 4
+  pub candidates-most : length (applicationCandidates keys count e) ≤ applicationKeyPlaces
   unfolding applicationCandidates
-  candidates-most = omega (arith, length-picked (fitsAt keys count e) (places (min count 4)), length-places (min count 4))
+  candidates-most = omega (arith, length-picked (fitsAt keys count e) (places (min count applicationKeyPlaces)), length-places (min count applicationKeyPlaces))
 
 -- what an answer says of the buffer beside it
 abbrev Says : List ℕ → List ℕ → Opened → List ℕ → Type 0
-Says c buf (Message (Application i) trials len) b = (i < 4) × (trials ≤ 4) × Stands c buf len b
-Says c buf (Message Device trials len) b = (trials ≤ 4) × Stands c buf len b
-Says c buf (NotOpened trials) b = (trials ≤ 4) × (b ≡ buf)
-Says c buf ShortBuffer b = (length buf < 384) × (b ≡ buf)
+Says c buf (Message (Application i) trials len) b = (i < applicationKeyPlaces) × (trials ≤ applicationKeyPlaces) × Stands c buf len b
+Says c buf (Message Device trials len) b = (trials ≤ applicationKeyPlaces) × Stands c buf len b
+Says c buf (NotOpened trials) b = (trials ≤ applicationKeyPlaces) × (b ≡ buf)
+Says c buf ShortBuffer b = (length buf < messageOctets) × (b ≡ buf)
 
 stands : (key : List ℕ) (e : Envelope) (c buf : List ℕ) → openedBy key e c buf .answer ≡ true → Stands c buf (length c - micOctets (transMic (e .szmic))) (openedBy key e c buf .buffer)
 unfolding openedBy
@@ -103,7 +104,7 @@ module _ (keys : List ApplicationKey) (count : ℕ) (device : List ℕ) (e : Env
   unfolding byApplicationKeys applicationCandidates
   keys-leave =
       let m = candidates-most keys count e in
-      tries-places (fitsAt keys count e) (opensMessage keys e c buf) (λ t. Leaves (messageBy keys e c buf t)) (min count 4)
+      tries-places (fitsAt keys count e) (opensMessage keys e c buf) (λ t. Leaves (messageBy keys e c buf t)) (min count applicationKeyPlaces)
       (λ i k b f o l. (omega arith, omega arith, stands (applicationKeyAt keys i .key) e c buf o)) (m, refl)
 
   device-leaves : Leaves (byDeviceKey device e c buf)
@@ -113,11 +114,11 @@ module _ (keys : List ApplicationKey) (count : ℕ) (device : List ℕ) (e : Env
   unsecuring-leaves : Leaves (unsecuring keys count device e c buf)
   unfolding unsecuring
   unsecuring-leaves =
-      by-choice Leaves (ltb (length buf) 384) (λ t. (ltb-true (length buf) 384 t, refl))
+      by-choice Leaves (ltb (length buf) messageOctets) (λ t. (ltb-true (length buf) messageOctets t, refl))
       (λ t. by-choice Leaves (ltb (length c) (1 + micOctets (transMic (e .szmic)))) (λ u. (omega arith, refl))
       (λ u. by-choice Leaves (e .akf) (λ v. keys-leave) (λ v. device-leaves)))
 
-says-trials : (c buf : List ℕ) (a : Opened) (b : List ℕ) → Says c buf a b → trialsOf a ≤ 4
+says-trials : (c buf : List ℕ) (a : Opened) (b : List ℕ) → Says c buf a b → trialsOf a ≤ applicationKeyPlaces
 says-trials c buf (Message (Application i) trials len) b l = l .1
 says-trials c buf (Message Device trials len) b l = l .0
 says-trials c buf (NotOpened trials) b l = l .0
@@ -154,7 +155,7 @@ unsecuring-refused-keeps keys count device e c buf h =
 -- 16 only where the buffer is short
 pub unsecuring-short :
     (keys : List ApplicationKey) (count : ℕ) (device : List ℕ) (e : Envelope) (c buf : List ℕ) → unsecuring keys count device e c buf .answer ≡ ShortBuffer
-    → length buf < 384
+    → length buf < messageOctets
 unsecuring-short keys count device e c buf q =
     let left = unsecuring keys count device e c buf .buffer in
     let l : Says c buf ShortBuffer left = subst (λ (a : Opened). Says c buf a left) q (unsecuring-leaves keys count device e c buf) in

@@ -21,8 +21,9 @@ use Rattle.transport.specs.declared.securing.Envelope.{Envelope}
 use Rattle.transport.specs.declared.securing.MessageKey.the-variants.{Application, Device}
 use Rattle.transport.specs.declared.securing.Opened.{Opened}
 use Rattle.transport.specs.declared.securing.Opened.the-variants.{Message, NotOpened, ShortBuffer}
-use Rattle.transport.specs.Securing.{transMic, messageNonceOf, secured, openedBy, applicationKeyAt, fitsKey, applicationCandidates}
+use Rattle.transport.specs.Securing.{applicationKeyPlaces, transMic, messageNonceOf, secured, openedBy, applicationKeyAt, fitsKey, applicationCandidates}
 use Rattle.transport.specs.Securing.{opensMessage, byApplicationKeys, byDeviceKey, securing, unsecuring}
+use Rattle.transport.specs.Segment.{messageOctets}
 
 -- ---- the nonce
 module _ (e : Envelope) (n : List ℕ) where
@@ -75,28 +76,28 @@ module _ (keys : List ApplicationKey) (count : ℕ) (e : Envelope) where
   abbrev pub fitsAt : ℕ → Bool
   fitsAt i = fitsKey e (applicationKeyAt keys i)
 
-  candidates-are : applicationCandidates keys count e ≡ picked fitsAt (places (min count 4))
+  candidates-are : applicationCandidates keys count e ≡ picked fitsAt (places (min count applicationKeyPlaces))
   unfolding applicationCandidates
   candidates-are = refl
 
   module _ (c buf : List ℕ) where
     -- the keys before place i are done with, n of them were tried, and none of those opens the message
     abbrev pub Searching : ℕ → ℕ → Type 0
-    Searching i n = Visited fitsAt (opensMessage keys e c buf) (min count 4) i n
+    Searching i n = Visited fitsAt (opensMessage keys e c buf) (min count applicationKeyPlaces) i n
 
     pub no-key-yet : Searching 0 0
-    no-key-yet = visited-start fitsAt (opensMessage keys e c buf) (min count 4)
+    no-key-yet = visited-start fitsAt (opensMessage keys e c buf) (min count applicationKeyPlaces)
 
     module _ {i n : ℕ} (s : Searching i n) where
       -- past the last key
-      pub no-key-opens : min count 4 ≤ i → lent (NotOpened n) buf ≡ byApplicationKeys keys count e c buf
+      pub no-key-opens : min count applicationKeyPlaces ≤ i → lent (NotOpened n) buf ≡ byApplicationKeys keys count e c buf
       unfolding byApplicationKeys
-      no-key-opens h = rw (candidates-are, visited-end fitsAt (opensMessage keys e c buf) (min count 4) s h)
+      no-key-opens h = rw (candidates-are, visited-end fitsAt (opensMessage keys e c buf) (min count applicationKeyPlaces) s h)
 
-      module _ (h : i < min count 4) where
+      module _ (h : i < min count applicationKeyPlaces) where
         -- the key at i does not fit
         pub key-passed : {fit : Bool} → fit ≡ fitsAt i → fit ≡ false → Searching (i + 1) n
-        key-passed ef f = visited-pass fitsAt (opensMessage keys e c buf) (min count 4) s h (sym ef ∙ f)
+        key-passed ef f = visited-pass fitsAt (opensMessage keys e c buf) (min count applicationKeyPlaces) s h (sym ef ∙ f)
 
         -- it fits
         module _ {fit : Bool} (ef : fit ≡ fitsAt i) (t : fit ≡ true) {ok : Bool} {out : List ℕ}
@@ -105,14 +106,14 @@ module _ (keys : List ApplicationKey) (count : ℕ) (e : Envelope) where
           verdict = sym (ap (λ (r : Lent Bool). r .answer) eo)
 
           pub key-tried : ok ≡ false → Searching (i + 1) (n + 1)
-          key-tried f = visited-tried fitsAt (opensMessage keys e c buf) (min count 4) s h (sym ef ∙ t) (verdict ∙ f)
+          key-tried f = visited-tried fitsAt (opensMessage keys e c buf) (min count applicationKeyPlaces) s h (sym ef ∙ t) (verdict ∙ f)
 
           pub key-opens :
               {len : ℕ} → len ≡ length c - micOctets (transMic (e .szmic)) → ok ≡ true
               → lent (Message (Application i) (n + 1) len) out ≡ byApplicationKeys keys count e c buf
           unfolding byApplicationKeys
           key-opens el f =
-              rw (candidates-are, visited-opens fitsAt (opensMessage keys e c buf) (min count 4) s h (sym ef ∙ t) (verdict ∙ f), ← eo, el)
+              rw (candidates-are, visited-opens fitsAt (opensMessage keys e c buf) (min count applicationKeyPlaces) s h (sym ef ∙ t) (verdict ∙ f), ← eo, el)
 
 -- ---- the device key
 module _ (device : List ℕ) (e : Envelope) (c buf : List ℕ) {ok : Bool} {out : List ℕ} (eo : lent ok out ≡ openedBy device e c buf) where
@@ -126,20 +127,20 @@ module _ (device : List ℕ) (e : Envelope) (c buf : List ℕ) {ok : Bool} {out 
 
 -- ---- the answers of opening
 module _ (keys : List ApplicationKey) (count : ℕ) (device : List ℕ) (e : Envelope) (c buf : List ℕ) where
-  pub open-short-buffer : length buf < 384 → lent ShortBuffer buf ≡ unsecuring keys count device e c buf
+  pub open-short-buffer : length buf < messageOctets → lent ShortBuffer buf ≡ unsecuring keys count device e c buf
   unfolding unsecuring
-  open-short-buffer h = rw (lt-ltb (length buf) 384 h)
+  open-short-buffer h = rw (lt-ltb (length buf) messageOctets h)
 
-  module _ (room : 384 ≤ length buf) where
+  module _ (room : messageOctets ≤ length buf) where
     pub open-too-short : length c < 1 + micOctets (transMic (e .szmic)) → lent (NotOpened 0) buf ≡ unsecuring keys count device e c buf
     unfolding unsecuring
-    open-too-short h = rw (le-ltb (length buf) 384 room, lt-ltb (length c) (1 + micOctets (transMic (e .szmic))) h)
+    open-too-short h = rw (le-ltb (length buf) messageOctets room, lt-ltb (length c) (1 + micOctets (transMic (e .szmic))) h)
 
     module _ (long : 1 + micOctets (transMic (e .szmic)) ≤ length c) where
       pub open-application : {r : Lent Opened} → e .akf ≡ true → r ≡ byApplicationKeys keys count e c buf → r ≡ unsecuring keys count device e c buf
       unfolding unsecuring
-      open-application t er = er ∙ rw (le-ltb (length buf) 384 room, le-ltb (length c) (1 + micOctets (transMic (e .szmic))) long, t)
+      open-application t er = er ∙ rw (le-ltb (length buf) messageOctets room, le-ltb (length c) (1 + micOctets (transMic (e .szmic))) long, t)
 
       pub open-device : {r : Lent Opened} → e .akf ≡ false → r ≡ byDeviceKey device e c buf → r ≡ unsecuring keys count device e c buf
       unfolding unsecuring
-      open-device t er = er ∙ rw (le-ltb (length buf) 384 room, le-ltb (length c) (1 + micOctets (transMic (e .szmic))) long, t)
+      open-device t er = er ∙ rw (le-ltb (length buf) messageOctets room, le-ltb (length c) (1 + micOctets (transMic (e .szmic))) long, t)

@@ -12,7 +12,8 @@ use Rattle.transport.specs.declared.securing.Envelope.{Envelope}
 use Rattle.transport.specs.declared.securing.MessageKey.{MessageKey}
 use Rattle.transport.specs.declared.securing.MessageKey.the-variants.{Application, Device}
 use Rattle.transport.specs.declared.securing.Opened.the-variants.{Message}
-use Rattle.transport.specs.Securing.{transMic, secured, openedBy, applicationKeyAt, fitsKey, applicationCandidates, unsecuring, paper, trialsOf}
+use Rattle.transport.specs.Securing.{applicationKeyPlaces, transMic, secured, openedBy, applicationKeyAt, fitsKey, applicationCandidates, unsecuring, paper, trialsOf}
+use Rattle.transport.specs.Segment.{messageOctets}
 
 -- a secured message has its TransMIC behind it
 abbrev pub SecuredLength : Type 0
@@ -23,16 +24,16 @@ pub record Fits (m buf : List ℕ) : Type 0 where
   -- there is a payload
   pub some-payload : 1 ≤ length m
   -- no message is longer than the least buffer
-  pub short : length m ≤ 384
+  pub short : length m ≤ messageOctets
   -- the buffer is not refused 16
-  pub room : 384 ≤ length buf
+  pub room : messageOctets ≤ length buf
 
 -- a receiver, by the application keys that it holds, of a message c that the key at place i secured
 pub record Receives (keys : List ApplicationKey) (count i : ℕ) (e : Envelope) (c buf : List ℕ) : Type 0 where
   -- AKF is 1
   pub akf-set : e .akf ≡ true
   -- the key is one of those held
-  pub held : i < min count 4
+  pub held : i < min count applicationKeyPlaces
   -- it is of that AID, and bound to the opening network key
   pub fitting : fitsKey e (applicationKeyAt keys i) ≡ true
   -- no key before it that fits authenticates the message
@@ -59,11 +60,11 @@ UnsecureSecureDevice =
 abbrev pub TrialsMost : Type 0
 TrialsMost =
     (keys : List ApplicationKey) (count : ℕ) (device : List ℕ) (e : Envelope) (c buf : List ℕ)
-    → trialsOf (unsecuring keys count device e c buf .answer) ≤ 4
+    → trialsOf (unsecuring keys count device e c buf .answer) ≤ applicationKeyPlaces
 
 -- the message of len octets that stands in what a call left of buf
 pub record Stands (c buf : List ℕ) (len : ℕ) (left : List ℕ) : Type 0 where
-  pub len-most : len ≤ 384
+  pub len-most : len ≤ messageOctets
   pub len-within : len ≤ length c
   -- the buffer is as long as it was
   pub as-long : length left ≡ length buf
@@ -78,7 +79,7 @@ MessageStands =
 abbrev pub PlaceLow : Type 0
 PlaceLow =
     (keys : List ApplicationKey) (count : ℕ) (device : List ℕ) (e : Envelope) (c buf : List ℕ) (i trials len : ℕ) (left : List ℕ)
-    → unsecuring keys count device e c buf ≡ lent (Message (Application i) trials len) left → i < 4
+    → unsecuring keys count device e c buf ≡ lent (Message (Application i) trials len) left → i < applicationKeyPlaces
 
 -- what is refused, 13 or 16, keeps the buffer
 abbrev pub RefusedKeeps : Type 0

@@ -22,6 +22,11 @@ use Rattle.transport.specs.declared.securing.Envelope.{Envelope}
 use Rattle.transport.specs.declared.securing.MessageKey.the-variants.{Application, Device}
 use Rattle.transport.specs.declared.securing.Opened.{Opened}
 use Rattle.transport.specs.declared.securing.Opened.the-variants.{Message, NotOpened, ShortBuffer}
+use Rattle.transport.specs.Segment.{messageOctets}
+
+-- how many application keys can be held
+abbrev pub applicationKeyPlaces : ℕ
+applicationKeyPlaces = 4
 
 -- TransMIC: 4 octets, or 8 if SZMIC is 1
 abbrev pub transMic : Bool → MicSize
@@ -56,7 +61,7 @@ fitsKey e k = eqb (k .aid) (e .aid) && eqb (k .bound) (e .network)
 
 -- the places of the keys that fit, in their fixed order; at most four keys are held
 unfoldable pub applicationCandidates : List ApplicationKey → ℕ → Envelope → List ℕ
-applicationCandidates keys count e = picked (λ i. fitsKey e (applicationKeyAt keys i)) (tab (λ i. i) (min count 4))
+applicationCandidates keys count e = picked (λ i. fitsKey e (applicationKeyAt keys i)) (tab (λ i. i) (min count applicationKeyPlaces))
 
 -- whether the key at place i authenticates the message
 abbrev pub opensMessage : List ApplicationKey → Envelope → List ℕ → List ℕ → ℕ → Bool
@@ -82,7 +87,7 @@ byDeviceKey device e c buf =
 -- 16: the message buffer is shorter than 384; 13: too short for payload and TransMIC, which is judged before any key; else by the keys
 unfoldable pub unsecuring : List ApplicationKey → ℕ → List ℕ → Envelope → List ℕ → List ℕ → Lent Opened
 unsecuring keys count device e c buf =
-    if ltb (length buf) 384 then lent ShortBuffer buf else
+    if ltb (length buf) messageOctets then lent ShortBuffer buf else
     if ltb (length c) (1 + micOctets (transMic (e .szmic))) then lent (NotOpened 0) buf else
     if e .akf then byApplicationKeys keys count e c buf else
     byDeviceKey device e c buf
@@ -102,6 +107,6 @@ trialsOf ShortBuffer = 0
 -- securing into a lent buffer: false, and the buffer as it was, where m is longer than 384 octets or the buffer too short
 unfoldable pub securing : List ℕ → Envelope → List ℕ → List ℕ → Lent Bool
 securing key e m buf =
-    if ltb 384 (length m) then lent false buf else
+    if ltb messageOctets (length m) then lent false buf else
     if ltb (length buf) (length m + micOctets (transMic (e .szmic))) then lent false buf else
     lent true (onto (secured key e m) buf)

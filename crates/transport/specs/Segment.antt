@@ -8,7 +8,12 @@ use mathlib.Core.Bool.{Bool}
 use mathlib.Core.List.{List, _∷_, _++_}
 use Prim.Native.Nat.{ℕ, _+_, _*_, _%_}
 use Rattle.common.specs.Choice.{if_then_else_}
+use Rattle.modes.specs.Ccm.{longest}
 use Rattle.network.specs.Octets.{octets}
+
+-- the most octets that a message has
+abbrev pub messageOctets : ℕ
+messageOctets = longest
 
 -- SEG, AKF, AID
 unfoldable pub accessOctet : Bool → Bool → ℕ → ℕ

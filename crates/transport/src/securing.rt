@@ -7,6 +7,12 @@ ghost use Rattle.common.specs.Lent.{lent};
 ghost use Rattle.modes.specs.Ccm.{micOctets};
 ghost use Rattle.transport.specs.Securing.{transMic, messageNonceOf, openedBy, fitsKey, byApplicationKeys, byDeviceKey, securing, unsecuring};
 
+// How many application keys can be held.
+pub const KEYS: usize = 4;
+
+// The most octets that a message has.
+pub const MESSAGE: usize = modes::ccm::LONGEST;
+
 // An application key, its AID, and the place of the network key that it is bound to.
 pub struct ApplicationKey {
     pub key: [u8; 16],
@@ -108,7 +114,7 @@ fn fits(e: Envelope, k: ApplicationKey) -> bool
 
 // The application keys that fit are tried one by one, stopping at the first that authenticates.
 fn open_by_application(
-    keys: [ApplicationKey; 4],
+    keys: [ApplicationKey; KEYS],
     count: usize,
     e: Envelope,
     sealed: &[u8],
@@ -121,7 +127,7 @@ fn open_by_application(
     let mut i: usize = 0;
     let mut trials: usize = 0;
     loop {
-        if 4 <= i || count <= i {
+        if KEYS <= i || count <= i {
             break Opened::NotOpened { trials };
         }
         let k = keys[i];
@@ -157,7 +163,7 @@ fn open_by_device(device: [u8; 16], e: Envelope, sealed: &[u8], out: &mut [u8]) 
 
 // Writes the message that was secured to the first octets of out; out is untouched where no key opens it.
 pub fn open(
-    keys: [ApplicationKey; 4],
+    keys: [ApplicationKey; KEYS],
     count: usize,
     device: [u8; 16],
     e: Envelope,
@@ -166,7 +172,7 @@ pub fn open(
 ) -> Opened
     ensures { λ r. ⌜ lent r (now (out .exit)) ≡ unsecuring keys count device e (now (sealed .entry)) (now (out .entry)) ⌝ }
 {
-    if out.len() < 384 {
+    if out.len() < MESSAGE {
         return Opened::ShortBuffer;
     }
     if sealed.len() < 1 + mic_octets(e.szmic) {

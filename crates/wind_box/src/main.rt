@@ -47,7 +47,7 @@ fn send_status(wind_box: Receiver, force: u8) -> Receiver {
     };
     // A vendor's opcode of three octets (MP 3.7.3.1), and the force.
     let status = [0xC1, 0xFF, 0xFF, force];
-    let mut pdu = [0u8; 29];
+    let mut pdu = [0u8; network::header::PDU];
     let spoken = sending::access::send(
         wind_box,
         request,

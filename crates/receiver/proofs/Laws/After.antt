@@ -11,6 +11,7 @@ use Prim.Native.Nat.{ℕ, _≤_}
 use lib.ListN.{length}
 use Rattle.common.specs.Lent.{Lent}
 use Rattle.network.specs.declared.header.Header.{Header}
+use Rattle.transport.specs.Segment.{messageOctets}
 use Rattle.memory.specs.Session.{noSession}
 use Rattle.receiver.specs.declared.answer.Answer.{Answer}
 use Rattle.receiver.specs.declared.answer.Answer.the-variants.{Refused, Stored, Repeated, Access, Control, Acknowledgement}
@@ -41,7 +42,7 @@ After q msg (Acknowledgement src bits effect) left buf = Unit {0}
 abbrev AfterTaken : Receiver → List ℕ → Lent Taken → Type 0
 AfterTaken q msg t = After q msg (t .answer .answer) (t .answer .receiver) (t .buffer)
 
-module _ (q : Receiver) (msg : List ℕ) (room : 384 ≤ length msg) where
+module _ (q : Receiver) (msg : List ℕ) (room : messageOctets ≤ length msg) where
   ways : (h : Header) → Ways q h msg (AfterTaken q msg)
   unfolding openedAs wholeControlUp acted accessUpAs controlUp
   ways h =

@@ -20,7 +20,9 @@ use Rattle.network.specs.declared.opening.Answer.the-variants as network
 use Rattle.network.specs.declared.opening.Opening.{Opening}
 use Rattle.network.specs.Opening.{opening}
 use Rattle.network.specs.Sealing.{sealedLength, forwards, forwarding}
+use Rattle.network.specs.Pdu.{pduOctets}
 use Rattle.transport.specs.Form.{formOf}
+use Rattle.transport.specs.Segment.{messageOctets}
 use Rattle.memory.specs.Cache.{seen, remembered}
 use Rattle.node.specs.Addresses.{isLocal, forNode}
 use Rattle.receiver.specs.declared.answer.Refusal.{Refusal}
@@ -66,22 +68,22 @@ module _ (r : Receiver) (fwd msg pdu : List ℕ) where
     walk-opened network.Opened h trials f =
         by-choice P (seen (r .cache) h) {y = passed r h trials fwd msg} (λ _. refuses refusal.Cached trials refl) (λ _. f refl)
 
-    pub walk-hearing : (o .answer ≡ network.Opened → 384 ≤ length msg → P (passed r (o .header) (o .trials) fwd msg)) → P (hearing r pdu fwd msg)
+    pub walk-hearing : (o .answer ≡ network.Opened → messageOctets ≤ length msg → P (passed r (o .header) (o .trials) fwd msg)) → P (hearing r pdu fwd msg)
     unfolding hearing
     walk-hearing passes =
-        by-choice P (ltb (length fwd) 29) (λ _. refuses refusal.ShortBuffer 0 refl)
-        (λ _. by-choice P (ltb (length msg) 384) (λ _. refuses refusal.ShortBuffer 0 refl)
-        (λ u. walk-opened (o .answer) (o .header) (o .trials) (λ e. passes e (ltb-false (length msg) 384 u))))
+        by-choice P (ltb (length fwd) pduOctets) (λ _. refuses refusal.ShortBuffer 0 refl)
+        (λ _. by-choice P (ltb (length msg) messageOctets) (λ _. refuses refusal.ShortBuffer 0 refl)
+        (λ u. walk-opened (o .answer) (o .header) (o .trials) (λ e. passes e (ltb-false (length msg) messageOctets u))))
 
   pub heard-unopened : (o .answer ≡ network.Opened → ⊥) → Early r fwd msg (hearing r pdu fwd msg)
   heard-unopened n = walk-hearing (Early r fwd msg) (λ n trials e. (n, record { is-early = e; tried = trials; leaves = refl })) (λ e _. absurd (n e))
 
 -- ---- a PDU that opens
-module _ (r : Receiver) (pdu fwd msg : List ℕ) (wide : 29 ≤ length fwd) (big : 384 ≤ length msg) (h : Header) (trials : ℕ)
+module _ (r : Receiver) (pdu fwd msg : List ℕ) (wide : pduOctets ≤ length fwd) (big : messageOctets ≤ length msg) (h : Header) (trials : ℕ)
     (opens : opening (r .node .materials) (r .node .networks) (r .node .iv) pdu ≡ record { answer = network.Opened; trials = trials; header = h }) where
   pub heard-opened : hearing r pdu fwd msg ≡ uncached r h trials fwd msg
   unfolding hearing openedAs
-  heard-opened = rw (le-ltb (length fwd) 29 wide, le-ltb (length msg) 384 big, opens) refl
+  heard-opened = rw (le-ltb (length fwd) pduOctets wide, le-ltb (length msg) messageOctets big, opens) refl
 
   pub heard-again : seen (r .cache) h ≡ true → hearing r pdu fwd msg ≡ outcome (refusedHeard r refusal.Cached trials) fwd msg
   unfolding uncached

@@ -9,6 +9,7 @@ use mathlib.Core.Path.{_≡_, refl, subst}
 use Prim.Native.Nat.{ℕ, _≤_}
 use lib.ListN.{length}
 use Rattle.network.specs.declared.header.Header.{Header}
+use Rattle.transport.specs.Segment.{messageOctets}
 use Rattle.receiver.specs.declared.answer.Answer.{Answer}
 use Rattle.receiver.specs.declared.answer.Answer.the-variants.{Refused}
 use Rattle.receiver.specs.declared.answer.Refusal.{Refusal}
@@ -38,7 +39,7 @@ module _ (r : Receiver) (pdu fwd msg : List ℕ) where
         let same : m ≡ n = cc in
         inl (subst (λ (k : Refusal). Refuses r fwd msg k o) same (record { is-early = t; tried = trials; leaves = refl }))
 
-    late-is : 384 ≤ length msg → (trials : ℕ) → Either (passed r h trials fwd msg)
+    late-is : messageOctets ≤ length msg → (trials : ℕ) → Either (passed r h trials fwd msg)
     unfolding passed
     late-is room trials e =
         let t = taken (caching r h) h msg in

@@ -35,6 +35,7 @@ use Rattle.transport.specs.SeqAuth.{seqAuth}
 use Rattle.transport.proofs.Ranges.{keeps-to-ranges}
 use Rattle.transport.proofs.ReadsBack.{segO-fits}
 use Rattle.transport.proofs.SecureOpen.{unsecuring-refused-keeps, unsecuring-short}
+use Rattle.transport.specs.Segment.{messageOctets}
 use Rattle.memory.specs.declared.decision.Decision.{Decision}
 use Rattle.memory.specs.declared.decision.Decision.the-variants as decided
 use Rattle.memory.specs.declared.pair.Pair.{Pair}
@@ -93,7 +94,7 @@ by-admission P Replayed f p = f _ refl
 by-admission P NoEntryLeft f p = f _ refl
 by-admission P Admitted f p = p
 
-module _ (q : Receiver) (h : Header) (msg : List ℕ) (room : 384 ≤ length msg) (P : Lent Taken → Type 0) (w : Ways q h msg P) where
+module _ (q : Receiver) (h : Header) (msg : List ℕ) (room : messageOctets ≤ length msg) (P : Lent Taken → Type 0) (w : Ways q h msg P) where
   refused : (n : Refusal) → early n ≡ false → P (lent (refusedAt q n 0) msg)
   refused n = w .refuses n 0
 
@@ -186,7 +187,7 @@ module _ (r : Receiver) (pdu fwd msg : List ℕ) (P : Receiver → Type 0) where
   abbrev WaysLeft : Type 0
   WaysLeft = Ways (caching r h) h msg (λ t. P (t .answer .receiver))
 
-  left-passed : WaysLeft → 384 ≤ length msg → (trials : ℕ) → P (passed r h trials fwd msg .heard .receiver)
+  left-passed : WaysLeft → messageOctets ≤ length msg → (trials : ℕ) → P (passed r h trials fwd msg .heard .receiver)
   unfolding passed
   left-passed w room trials = walk-taken (caching r h) h msg room (λ t. P (t .answer .receiver)) w
 

@@ -14,10 +14,13 @@ use Rattle.common.specs.Bits.{hasBit}
 use Rattle.common.proofs.Tests.{and-first, and-second}
 use Rattle.modes.specs.Ccm.{micOctets}
 use Rattle.network.specs.Address.{kindOf}
+use Rattle.network.specs.Candidates.{networkKeyPlaces}
 use Rattle.node.specs.declared.addresses.Node.{Node}
 use Rattle.transport.specs.declared.securing.MessageKey.{MessageKey}
 use Rattle.transport.specs.declared.securing.MessageKey.the-variants.{Application}
-use Rattle.transport.specs.Securing.{transMic, applicationKeyAt}
+use Rattle.transport.specs.Securing.{applicationKeyPlaces, transMic, applicationKeyAt}
+use Rattle.transport.specs.Segment.{messageOctets}
+use Rattle.node.specs.Addresses.{elementPlaces}
 use Rattle.receiver.specs.declared.state.Receiver.{Receiver}
 use Rattle.sending.specs.declared.request.Request.{Request}
 use Rattle.sending.specs.declared.request.Ttl.{Ttl}
@@ -30,21 +33,21 @@ use Rattle.sending.specs.Transmission.{nextSeq}
 
 -- the element and the network key are there; DST and TTL may be sent to and with
 pub record Asked (node : Node) (q : Request) : Type 0 where
-  pub element-there : q .element < min (node .elements) 8
-  pub network-there : q .network < min (node .networks) 4
+  pub element-there : q .element < min (node .elements) elementPlaces
+  pub network-there : q .network < min (node .networks) networkKeyPlaces
   pub sendable : sendableKind (kindOf (q .dst)) ≡ true
   pub ttl-allowed : ttlAllowed (q .ttl) ≡ true
 
 asked : (node : Node) (q : Request) → requestAllowed node q ≡ true → Asked node q
 unfolding requestAllowed
 asked node q e =
-    let element = ltb (q .element) (min (node .elements) 8) in
-    let network = ltb (q .network) (min (node .networks) 4) in
+    let element = ltb (q .element) (min (node .elements) elementPlaces) in
+    let network = ltb (q .network) (min (node .networks) networkKeyPlaces) in
     let e1 = and-second element _ e in
     let e2 = and-second network _ e1 in
     record {
-      element-there = ltb-true (q .element) (min (node .elements) 8) (and-first element _ e);
-      network-there = ltb-true (q .network) (min (node .networks) 4) (and-first network _ e1);
+      element-there = ltb-true (q .element) (min (node .elements) elementPlaces) (and-first element _ e);
+      network-there = ltb-true (q .network) (min (node .networks) networkKeyPlaces) (and-first network _ e1);
       sendable = and-first (sendableKind (kindOf (q .dst))) _ e2;
       ttl-allowed = and-second (sendableKind (kindOf (q .dst))) _ e2;
     }
@@ -58,13 +61,13 @@ pub record AccessAllowed (node : Node) (q : Request) (key : MessageKey) (szmic :
   pub asks : Asked node q
   pub key-allowed : keyAllowed node q key ≡ true
   pub some-payload : 1 ≤ len
-  pub payload-most : len + micOctets (transMic szmic) ≤ 384
+  pub payload-most : len + micOctets (transMic szmic) ≤ messageOctets
 
 size-some : (szmic : Bool) (len : ℕ) → sizeAllowed szmic len ≡ true → 1 ≤ len
 unfolding sizeAllowed
 size-some szmic len e = leb-true 1 len (and-first (leb 1 len) _ e)
 
-size-most : (szmic : Bool) (len : ℕ) → sizeAllowed szmic len ≡ true → len + micOctets (transMic szmic) ≤ 384
+size-most : (szmic : Bool) (len : ℕ) → sizeAllowed szmic len ≡ true → len + micOctets (transMic szmic) ≤ messageOctets
 unfolding sizeAllowed
 size-most true len e = let m = leb-true len 376 (and-second (leb 1 len) _ e) in omega arith
 size-most false len e = let m = leb-true len 380 (and-second (leb 1 len) _ e) in omega arith
@@ -85,11 +88,11 @@ access-allows r q key szmic len e =
 -- an application key that may be used is there, and bound to the network key named
 pub application-there :
     (node : Node) (q : Request) (i : ℕ) → keyAllowed node q (Application i) ≡ true
-    → (i < min (node .applications) 4) × (applicationKeyAt (node .appkeys) i .bound ≡ q .network)
+    → (i < min (node .applications) applicationKeyPlaces) × (applicationKeyAt (node .appkeys) i .bound ≡ q .network)
 application-there node q i e =
-    let there = ltb i (min (node .applications) 4) in
+    let there = ltb i (min (node .applications) applicationKeyPlaces) in
     let bound = applicationKeyAt (node .appkeys) i .bound in
-    (ltb-true i (min (node .applications) 4) (and-first there _ e), eqb-true bound (q .network) (and-second there _ e))
+    (ltb-true i (min (node .applications) applicationKeyPlaces) (and-first there _ e), eqb-true bound (q .network) (and-second there _ e))
 
 -- one that goes whole has the TransMIC of 4 octets, and 11 octets at most
 pub whole-short : (szmic : Bool) (len : ℕ) → isWhole szmic len ≡ true → (szmic ≡ false) × (len ≤ 11)

@@ -16,11 +16,14 @@ use Rattle.common.specs.Lent.{Lent, lent}
 use Rattle.common.proofs.Tests.{by-choice}
 use Rattle.network.specs.declared.header.Header.{Header}
 use Rattle.network.specs.Address.{isUnicast}
+use Rattle.network.specs.Pdu.{pduOctets}
+use Rattle.network.specs.Candidates.{networkKeyPlaces}
 use Rattle.transport.specs.declared.securing.MessageKey.{MessageKey}
 use Rattle.memory.specs.declared.replay.Entry.{Entry}
 use Rattle.memory.specs.declared.session.Session.{Session}
 use Rattle.memory.specs.Replay.{lookUp}
 use Rattle.memory.specs.Session.{sessionSlots, sessionAt, sessionPlace}
+use Rattle.node.specs.Addresses.{elementPlaces}
 use Rattle.receiver.specs.declared.answer.Refusal.{Refusal}
 use Rattle.receiver.specs.declared.answer.Refusal.the-variants as refusal
 use Rattle.receiver.specs.declared.state.Receiver.{Receiver}
@@ -61,7 +64,7 @@ module _ (r : Receiver) (buf : List ℕ) (P : Lent Spoken → Type 0) (refused :
     unfolding sendingAccess sayingAccess
     walk-access said started =
         let k = keyed (r .node) key in
-        by-choice P (ltb (length buf) 29) {x = short} {y = if allowed then sayingAccess r q key szmic payload buf else outside} (λ _. refused refusal.ShortBuffer)
+        by-choice P (ltb (length buf) pduOctets) {x = short} {y = if allowed then sayingAccess r q key szmic payload buf else outside} (λ _. refused refusal.ShortBuffer)
         (λ _. by-choice P allowed {x = sayingAccess r q key szmic payload buf} {y = outside}
         (λ a. by-choice P whole {x = saying r (q .element) (accessHeader r q key szmic payload) buf}
         {y = starting r (q .element) (outgoingOf (envelopeOf r q k szmic) q k payload) buf} (said a) (started a))
@@ -78,7 +81,7 @@ module _ (r : Receiver) (buf : List ℕ) (P : Lent Spoken → Type 0) (refused :
     unfolding control.sendingControl control.sayingControl
     walk-control said started =
         let h = control.wholeHeader (sendingIv (r .node)) q opcode parameters in
-        by-choice P (ltb (length buf) 29) {x = short} {y = if fine then control.sayingControl r q opcode parameters buf else outside} (λ _. refused refusal.ShortBuffer)
+        by-choice P (ltb (length buf) pduOctets) {x = short} {y = if fine then control.sayingControl r q opcode parameters buf else outside} (λ _. refused refusal.ShortBuffer)
         (λ _. by-choice P fine {x = control.sayingControl r q opcode parameters buf} {y = outside}
         (λ a. by-choice P (leb (length parameters) 11) {x = saying r (q .element) h buf} {y = starting r (q .element) (control.outgoingOf r q opcode parameters) buf}
         (said a) (started a))
@@ -87,74 +90,74 @@ module _ (r : Receiver) (buf : List ℕ) (P : Lent Spoken → Type 0) (refused :
   pub walk-segment :
       (n : ℕ)
       → (let element = elementOf (r .node) (r .out .src) in
-      (element < 8 → segmentAllowed r element n ≡ true → P (saying r element (segmentHeader (r .out) n) buf)) → P (sendingSegment r n buf))
+      (element < elementPlaces → segmentAllowed r element n ≡ true → P (saying r element (segmentHeader (r .out) n) buf)) → P (sendingSegment r n buf))
   unfolding sendingSegment
   walk-segment n said =
       let element = elementOf (r .node) (r .out .src) in
       let sent = saying r element (segmentHeader (r .out) n) buf in
-      by-choice P (ltb (length buf) 29) {x = short} {y = if ltb element 8 then (if segmentAllowed r element n then sent else outside) else outside}
+      by-choice P (ltb (length buf) pduOctets) {x = short} {y = if ltb element elementPlaces then (if segmentAllowed r element n then sent else outside) else outside}
       (λ _. refused refusal.ShortBuffer)
-      (λ _. by-choice P (ltb element 8) {x = if segmentAllowed r element n then sent else outside} {y = outside}
-      (λ t. by-choice P (segmentAllowed r element n) {x = sent} {y = outside} (said (ltb-true element 8 t)) (λ _. refused refusal.OutsideRules))
+      (λ _. by-choice P (ltb element elementPlaces) {x = if segmentAllowed r element n then sent else outside} {y = outside}
+      (λ t. by-choice P (segmentAllowed r element n) {x = sent} {y = outside} (said (ltb-true element elementPlaces t)) (λ _. refused refusal.OutsideRules))
       (λ _. refused refusal.OutsideRules))
 
   pub walk-acknowledge :
       (net src : ℕ)
       → (let c = chosen (r .replay) (r .sessions) src in
       let element = elementOf (r .node) (c .dst) in
-      (element < 8 → P (saying r element (acknowledgementHeader (sendingIv (r .node)) net src c) buf)) → P (acknowledging r net src buf))
+      (element < elementPlaces → P (saying r element (acknowledgementHeader (sendingIv (r .node)) net src c) buf)) → P (acknowledging r net src buf))
   unfolding acknowledging sayingAcknowledgement
   walk-acknowledge net src said =
       let c = chosen (r .replay) (r .sessions) src in
       let element = elementOf (r .node) (c .dst) in
       let sent = saying r element (acknowledgementHeader (sendingIv (r .node)) net src c) buf in
-      by-choice P (ltb (length buf) 29) {x = short}
-      {y = if ltb net (min (r .node .networks) 4) then (if isUnicast (c .dst) then (if ltb element 8 then sent else outside) else outside) else outside}
+      by-choice P (ltb (length buf) pduOctets) {x = short}
+      {y = if ltb net (min (r .node .networks) networkKeyPlaces) then (if isUnicast (c .dst) then (if ltb element elementPlaces then sent else outside) else outside) else outside}
       (λ _. refused refusal.ShortBuffer)
-      (λ _. by-choice P (ltb net (min (r .node .networks) 4)) {x = if isUnicast (c .dst) then (if ltb element 8 then sent else outside) else outside} {y = outside}
-      (λ _. by-choice P (isUnicast (c .dst)) {x = if ltb element 8 then sent else outside} {y = outside}
-      (λ _. by-choice P (ltb element 8) {x = sent} {y = outside} (λ t. said (ltb-true element 8 t)) (λ _. refused refusal.OutsideRules))
+      (λ _. by-choice P (ltb net (min (r .node .networks) networkKeyPlaces)) {x = if isUnicast (c .dst) then (if ltb element elementPlaces then sent else outside) else outside} {y = outside}
+      (λ _. by-choice P (isUnicast (c .dst)) {x = if ltb element elementPlaces then sent else outside} {y = outside}
+      (λ _. by-choice P (ltb element elementPlaces) {x = sent} {y = outside} (λ t. said (ltb-true element elementPlaces t)) (λ _. refused refusal.OutsideRules))
       (λ _. refused refusal.OutsideRules))
       (λ _. refused refusal.OutsideRules))
 
 -- ---- where the tests pass
-module _ (r : Receiver) (buf : List ℕ) (wide : 29 ≤ length buf) where
+module _ (r : Receiver) (buf : List ℕ) (wide : pduOctets ≤ length buf) where
   module _ (q : Request) (key : MessageKey) (szmic : Bool) (payload : List ℕ) (a : accessAllowed r q key szmic (length payload) ≡ true) where
     pub access-whole : isWhole szmic (length payload) ≡ true → sendingAccess r q key szmic payload buf ≡ saying r (q .element) (accessHeader r q key szmic payload) buf
     unfolding sendingAccess sayingAccess
-    access-whole w = rw (le-ltb (length buf) 29 wide, a, w) refl
+    access-whole w = rw (le-ltb (length buf) pduOctets wide, a, w) refl
 
     pub access-begun :
         isWhole szmic (length payload) ≡ false
         → (let k = keyed (r .node) key in sendingAccess r q key szmic payload buf ≡ starting r (q .element) (outgoingOf (envelopeOf r q k szmic) q k payload) buf)
     unfolding sendingAccess sayingAccess
-    access-begun w = rw (le-ltb (length buf) 29 wide, a, w) refl
+    access-begun w = rw (le-ltb (length buf) pduOctets wide, a, w) refl
 
   module _ (q : Request) (opcode : ℕ) (parameters : List ℕ) (a : control.controlAllowed r q opcode (length parameters) ≡ true) where
     pub control-whole :
         leb (length parameters) 11 ≡ true
         → control.sendingControl r q opcode parameters buf ≡ saying r (q .element) (control.wholeHeader (sendingIv (r .node)) q opcode parameters) buf
     unfolding control.sendingControl control.sayingControl
-    control-whole w = rw (le-ltb (length buf) 29 wide, a, w) refl
+    control-whole w = rw (le-ltb (length buf) pduOctets wide, a, w) refl
 
     pub control-begun :
         leb (length parameters) 11 ≡ false
         → control.sendingControl r q opcode parameters buf ≡ starting r (q .element) (control.outgoingOf r q opcode parameters) buf
     unfolding control.sendingControl control.sayingControl
-    control-begun w = rw (le-ltb (length buf) 29 wide, a, w) refl
+    control-begun w = rw (le-ltb (length buf) pduOctets wide, a, w) refl
 
   pub segment-sent :
-      (n element : ℕ) → elementOf (r .node) (r .out .src) ≡ element → element < 8 → segmentAllowed r element n ≡ true
+      (n element : ℕ) → elementOf (r .node) (r .out .src) ≡ element → element < elementPlaces → segmentAllowed r element n ≡ true
       → sendingSegment r n buf ≡ saying r element (segmentHeader (r .out) n) buf
   unfolding sendingSegment
-  segment-sent n element e low a = rw (e, le-ltb (length buf) 29 wide, lt-ltb element 8 low, a) refl
+  segment-sent n element e low a = rw (e, le-ltb (length buf) pduOctets wide, lt-ltb element elementPlaces low, a) refl
 
   pub acknowledgement-sent :
-      (net src : ℕ) (c : Chosen) → chosen (r .replay) (r .sessions) src ≡ c → net < min (r .node .networks) 4 → isUnicast (c .dst) ≡ true
-      → elementOf (r .node) (c .dst) < 8 → acknowledging r net src buf ≡ sayingAcknowledgement r (elementOf (r .node) (c .dst)) net src c buf
+      (net src : ℕ) (c : Chosen) → chosen (r .replay) (r .sessions) src ≡ c → net < min (r .node .networks) networkKeyPlaces → isUnicast (c .dst) ≡ true
+      → elementOf (r .node) (c .dst) < elementPlaces → acknowledging r net src buf ≡ sayingAcknowledgement r (elementOf (r .node) (c .dst)) net src c buf
   unfolding acknowledging
   acknowledgement-sent net src c e there unicast low =
-      rw (e, le-ltb (length buf) 29 wide, lt-ltb net (min (r .node .networks) 4) there, unicast, lt-ltb (elementOf (r .node) (c .dst)) 8 low) refl
+      rw (e, le-ltb (length buf) pduOctets wide, lt-ltb net (min (r .node .networks) networkKeyPlaces) there, unicast, lt-ltb (elementOf (r .node) (c .dst)) elementPlaces low) refl
 
 -- ---- what is acknowledged of a source
 module _ (replay : List Entry) (sessions : List Session) (src : ℕ) (z : src ≡ 0 → ⊥) where

@@ -16,7 +16,7 @@ use Rattle.network.specs.declared.header.Header.{Header}
 use Rattle.network.proofs.TrialLaws.{take-padded}
 use Rattle.transport.specs.declared.securing.Envelope.{Envelope}
 use Rattle.transport.specs.Securing.{secured}
-use Rattle.transport.specs.Segment.{accessOctet, controlOctet, fullOctets, segmentFront}
+use Rattle.transport.specs.Segment.{messageOctets, accessOctet, controlOctet, fullOctets, segmentFront}
 use Rattle.memory.specs.declared.outgoing.Outgoing.{Outgoing}
 use Rattle.memory.specs.declared.pair.Pair.{Pair}
 use Rattle.memory.specs.declared.session.Terms.{Terms}
@@ -80,7 +80,7 @@ pub record Keeps (o : Outgoing) (src : ℕ) (auth : Pair) (terms : Terms) (ttl :
   pub terms-is : o .terms ≡ terms
   pub ttl-is : o .ttl ≡ ttl
   pub unheard : o .heard ≡ 0
-  pub octets-are : length octets ≤ 384 → take (o .len) (o .bytes) ≡ octets
+  pub octets-are : length octets ≤ messageOctets → take (o .len) (o .bytes) ≡ octets
 
 -- SegN is one less than the chunks of 12
 pub keeps-access :
@@ -97,7 +97,7 @@ pub keeps-access :
     }) (ttlOf (q .ttl)) m)
 unfolding outgoingOf lastSegment
 keeps-access e q k payload =
-    record { src-is = refl; auth-is = refl; terms-is = refl; ttl-is = refl; unheard = refl; octets-are = take-padded 384 (secured (k .key) e payload) }
+    record { src-is = refl; auth-is = refl; terms-is = refl; ttl-is = refl; unheard = refl; octets-are = take-padded messageOctets (secured (k .key) e payload) }
 
 -- or of 8
 pub keeps-control :
@@ -113,7 +113,7 @@ pub keeps-control :
     }) (ttlOf (q .ttl)) parameters
 unfolding control.outgoingOf lastSegment
 keeps-control r q opcode parameters =
-    record { src-is = refl; auth-is = refl; terms-is = refl; ttl-is = refl; unheard = refl; octets-are = take-padded 384 parameters }
+    record { src-is = refl; auth-is = refl; terms-is = refl; ttl-is = refl; unheard = refl; octets-are = take-padded messageOctets parameters }
 
 -- ---- the second nonce: what is stamped on the first PDU
 pub envelope-is :

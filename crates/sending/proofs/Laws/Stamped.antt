@@ -13,7 +13,7 @@ use native.Mathlib.Omega.{arith}
 use Rattle.network.specs.declared.header.Header.{Header}
 use Rattle.network.proofs.IvIndexLaws.{sent-near}
 use Rattle.node.specs.declared.addresses.Node.{Node}
-use Rattle.node.specs.Addresses.{isLocal}
+use Rattle.node.specs.Addresses.{elementPlaces, isLocal}
 use Rattle.node.specs.Index.{SameFixed}
 use Rattle.node.specs.Made.{WellMade}
 use Rattle.node.proofs.AddressesLaws.{local-within, local-bounds}
@@ -33,7 +33,7 @@ stamps r element h = record { from-element = refl; with-next = refl; key-stays =
 
 -- ---- an element's address
 module _ (node : Node) (made : WellMade node) where
-  module _ (element : ℕ) (there : element < min (node .elements) 8) where
+  module _ (element : ℕ) (there : element < min (node .elements) elementPlaces) where
     address-is : addressOf node element ≡ node .first + element
     unfolding addressOf
     address-is = let l = made .last-most in omega arith

@@ -21,7 +21,7 @@ use Rattle.network.specs.declared.header.Header.{Header}
 use Rattle.network.specs.declared.sealing.Answer as sealing-answer
 use Rattle.network.specs.declared.sealing.Answer.the-variants as sealed
 use Rattle.network.specs.Candidates.{keyAt}
-use Rattle.network.specs.Pdu.{pduOf}
+use Rattle.network.specs.Pdu.{pduOctets, pduOf}
 use Rattle.network.specs.Sealing.{sealable, sealing}
 use Rattle.memory.specs.declared.outgoing.Outgoing.{Outgoing}
 use Rattle.memory.specs.Outgoing.{noOutgoing}
@@ -65,7 +65,7 @@ pduBy r element h = pduOf (keyAt (r .node .materials) (h .key)) (stamped r eleme
 pub record Sends (r : Receiver) (element : ℕ) (h : Header) (buf : List ℕ) : Type 0 where
   pub seq-left : nextSeq r element ≤ 0xFFFFFF
   pub key-there : h .key < 4
-  pub wide : 29 ≤ length buf
+  pub wide : pduOctets ≤ length buf
   pub can : sealable (keyAt (r .node .materials) (h .key)) (stamped r element h) ≡ true
 
 module _ (r : Receiver) (element : ℕ) (h : Header) (buf : List ℕ) where
@@ -79,7 +79,7 @@ module _ (r : Receiver) (element : ℕ) (h : Header) (buf : List ℕ) where
   module _ (s : Sends r element h buf) where
     pub sealing-is : sealing key (stamped r element h) buf ≡ lent (sealed.Sealed (length pdu)) (onto pdu buf)
     unfolding sealing
-    sealing-is = rw (le-ltb (length buf) 29 (s .wide), s .can) refl
+    sealing-is = rw (le-ltb (length buf) pduOctets (s .wide), s .can) refl
 
     transmitted-is : transmitted r element h buf ≡ lent (record { answer = Sent (length pdu); receiver = used r element }) (onto pdu buf)
     unfolding transmitted sentAs withNext
@@ -98,10 +98,10 @@ module _ (r : Receiver) (element : ℕ) (h : Header) (buf : List ℕ) where
       let Q : Lent sealing-answer.Answer → Type 0 = λ s. P (lent (sentAs (s .answer) r element) (s .buffer)) in
       by-choice P (ltb 0xFFFFFF (nextSeq r element)) (λ _. none)
       (λ t. by-choice P (ltb (h .key) 4)
-      (λ u. by-choice Q (ltb (length buf) 29) (λ _. unsealed)
+      (λ u. by-choice Q (ltb (length buf) pduOctets) (λ _. unsealed)
       (λ v. by-choice Q (sealable key (stamped r element h))
       (λ c. sent
-      (record { seq-left = ltb-false 0xFFFFFF (nextSeq r element) t; key-there = ltb-true (h .key) 4 u; wide = ltb-false (length buf) 29 v; can = c }))
+      (record { seq-left = ltb-false 0xFFFFFF (nextSeq r element) t; key-there = ltb-true (h .key) 4 u; wide = ltb-false (length buf) pduOctets v; can = c }))
       (λ _. unsealed)))
       (λ _. unsealed))
 

@@ -7,6 +7,7 @@ use native.Mathlib.Omega.{arith}
 use borrow.Author.Needs.{needs}
 use lib.ListN.{length, take, length-take}
 use lib.Seq.{getD-take}
+use Rattle.node.specs.Addresses.{elementPlaces}
 use Rattle.text.specs.Written.{putting}
 use Rattle.text.proofs.WrittenLaws.{put-then}
 use Rattle.answers.specs.Answer.{named}
@@ -30,14 +31,14 @@ loop-holds c =
     let begun = c .before .before .before .before .before in
     let a = begun .before .before .args in
     let eight : length (a .t1) ≡ 8 = begun .before .before .good .0 .1 .0 .1 in
-    let many = length-take (min (a .elements) 8) (a .t1) in
+    let many = length-take (min (a .elements) elementPlaces) (a .t1) in
     (begun .count .ensures, eight, so-none _ _ _ (omega (arith, begun .count .ensures)) (c .before .before .put .ensures))
 
 loop-again : tie.Need-loop-again Inv-loop μ-loop
 loop-again c =
     let l = c .before .before .before .before .before .before .loop in
     let a = c .before .before .before .before .before .before .before .before .before .before .before .before .before .before .args in
-    let here = getD-take (min (a .elements) 8) (a .t1) (l .i) 0 (omega arith) in
+    let here = getD-take (min (a .elements) elementPlaces) (a .t1) (l .i) 0 (omega arith) in
     let text = ap (λ (x : ℕ). putting (each (l .i) x) (l .out) (l .to)) (sym here) in
     (l .inv .0, l .inv .1, so-more 0 (omega arith) (l .inv .2) (c .before .before .put2 .ensures ∙ text))
 

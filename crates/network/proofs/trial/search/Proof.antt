@@ -8,12 +8,13 @@ use borrow.Author.Tests.{leb-true, leb-false}
 use Rattle.network.proofs.CandidatesLaws.{Searching, no-key-yet, key-passed, key-tried, key-opens, no-key-opens}
 use Rattle.network.proofs.trial.search.Statement.{statement}
 use Rattle.network.proofs.trial.search.Tie as tie
+use Rattle.network.specs.Candidates.{networkKeyPlaces}
 
 abbrev Inv-loop : tie.InvT-loop
 Inv-loop count nid iv pdu held i₀ trials₀ i trials = Searching held count nid iv pdu i trials × (trials ≤ i)
 
 abbrev μ-loop : tie.MeasureT-loop
-μ-loop count nid iv pdu held i₀ trials₀ i trials = 4 - i
+μ-loop count nid iv pdu held i₀ trials₀ i trials = networkKeyPlaces - i
 
 loop-holds : tie.Need-loop-holds Inv-loop μ-loop
 loop-holds c =
@@ -24,7 +25,7 @@ loop-again : tie.Need-loop-again Inv-loop μ-loop
 loop-again c =
     let s = c .before .before .before .before .before in
     let a = s .before .before .args in
-    let h : s .loop .i < min (a .count) 4 = omega (arith, leb-false) in
+    let h : s .loop .i < min (a .count) networkKeyPlaces = omega (arith, leb-false) in
     ⊎-elim
     (λ w. rw (w .3) (key-tried (a .t1) (a .count) (a .nid) (a .iv) (a .pdu .now) (s .loop .inv .0) h (w .0 .taken) (w .1 .ensures) (w .2 .left), omega arith))
     (λ w. rw (w .1) (key-passed (a .t1) (a .count) (a .nid) (a .iv) (a .pdu .now) (s .loop .inv .0) h (w .0 .left), omega arith))
@@ -34,7 +35,7 @@ returns : tie.Need-returns Inv-loop μ-loop
 returns c =
     let s = c .before .before in
     let a = s .before .before .args in
-    let h : min (a .count) 4 ≤ s .loop .i = ⊎-elim (λ w. omega arith) (λ w. omega (arith, leb-true)) (c .before .if1 .came) in
+    let h : min (a .count) networkKeyPlaces ≤ s .loop .i = ⊎-elim (λ w. omega arith) (λ w. omega (arith, leb-true)) (c .before .if1 .came) in
     rw (c .none .ensures) (no-key-opens (a .t1) (a .count) (a .nid) (a .iv) (a .pdu .now) (s .loop .inv .0) h)
 
 returns-2 : tie.Need-returns-2 Inv-loop μ-loop

@@ -10,6 +10,7 @@ use Rattle.node.specs.Setup.{groupKind, isGroup, groupsValid}
 use Rattle.node.proofs.EveryLaws.{EachBefore, every-start, every-on, every-fails, every-end}
 use Rattle.node.proofs.setup.groups_valid.Statement.{statement}
 use Rattle.node.proofs.setup.groups_valid.Tie as tie
+use Rattle.node.specs.Addresses.{groupPlaces}
 
 abbrev Inv-loop : tie.InvT-loop
 Inv-loop s groups i₀ i = (length groups ≡ 8) × EachBefore isGroup groups i
@@ -31,7 +32,7 @@ returns-2 c =
     let s = c .before .before .before .before .before .before .before .before .before .args .s in
     let g = c .before .group in
     let k = g .ensures ∙ ap groupKind (c .before .before .kind .ensures) in
-    rw (le-leb (s .listened) 8 (omega arith))
+    rw (le-leb (s .listened) groupPlaces (omega arith))
     (every-fails (l .1) (s .listened) 0 (omega arith) (omega arith) (sym k ∙ not-true (g .result) (c .if3 .taken)))
 
 loop-again : tie.Need-loop-again Inv-loop μ-loop
@@ -45,7 +46,7 @@ returns-3 : tie.Need-returns-3 Inv-loop μ-loop
 unfolding groupsValid
 returns-3 c =
     let s = c .before .before .before .before .before .before .args .s in
-    rw (le-leb (s .listened) 8 (omega arith)) (every-end (c .before .before .loop .inv .1) (s .listened) (omega arith))
+    rw (le-leb (s .listened) groupPlaces (omega arith)) (every-end (c .before .before .loop .inv .1) (s .listened) (omega arith))
 
 pub groups-valid-spec : {M : Type 1} → statement M
 groups-valid-spec =

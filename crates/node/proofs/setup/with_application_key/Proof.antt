@@ -6,6 +6,7 @@ use borrow.Author.Needs.{needs}
 use lib.ListN.{length}
 use lib.Seq.{set-out}
 use Rattle.common.proofs.Lists.{length-mapped}
+use Rattle.transport.specs.Securing.{applicationKeyPlaces}
 use Rattle.node.specs.declared.setup.BoundKey.{BoundKey}
 use Rattle.node.proofs.setup.with_application_key.Statement.{statement}
 use Rattle.node.proofs.setup.with_application_key.Tie as tie
@@ -16,7 +17,7 @@ returns c = rw (c .before .counted .ensures)
 returns-2 : tie.Need-returns-2
 returns-2 c =
     let s = c .before .before .args .s in
-    let long : length (s .appkeys) ≡ 4 = search (needs, length-mapped) in
+    let long : length (s .appkeys) ≡ applicationKeyPlaces = search (needs, length-mapped) in
     let k : BoundKey = record { key = c .before .before .args .key; network = c .before .before .args .network } in
     rw (c .before .counted .ensures, set-out (s .appkeys) (s .applications) k (omega arith))
 

@@ -4,12 +4,13 @@ use borrow.Author.Needs.{needs}
 use native.Mathlib.Omega.{arith}
 use lib.ListN.{length}
 use mathlib.Core.Path.{_≡_}
+use Rattle.transport.specs.Segment.{messageOctets}
 use Rattle.sending.proofs.SegmentLaws.{pdu-length}
 use Rattle.sending.proofs.segment.segment_len.Statement.{statement}
 use Rattle.sending.proofs.segment.segment_len.Tie as tie
 
 add-result : tie.Need-add-result
-add-result c = let l : length (c .before .before .before .args .o .bytes) ≡ 384 = search needs in omega arith
+add-result c = let l : length (c .before .before .before .args .o .bytes) ≡ messageOctets = search needs in omega arith
 
 pub segment-len-spec : {M : Type 1} → statement M
 segment-len-spec =

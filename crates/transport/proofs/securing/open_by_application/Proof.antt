@@ -9,7 +9,7 @@ use borrow.Author.Tests.{leb-true, leb-false}
 use lib.ListN.{length}
 use Rattle.common.specs.Lent.{lent}
 use Rattle.transport.specs.declared.securing.Opened.the-variants.{NotOpened}
-use Rattle.transport.specs.Securing.{applicationKeyAt}
+use Rattle.transport.specs.Securing.{applicationKeyPlaces, applicationKeyAt}
 use Rattle.transport.proofs.SecuringLaws.{Searching, no-key-yet, key-passed, key-tried, key-opens, no-key-opens, opened-on, opened-kept, opened-as-long}
 use Rattle.transport.proofs.securing.open_by_application.Statement.{statement}
 use Rattle.transport.proofs.securing.open_by_application.Tie as tie
@@ -19,7 +19,7 @@ Inv-loop count e sealed out₀ keys len i₀ trials₀ out i trials =
     Searching keys count e sealed out₀ i trials × (trials ≤ i) × (out ≡ out₀)
 
 abbrev μ-loop : tie.MeasureT-loop
-μ-loop count e sealed out₀ keys len i₀ trials₀ out i trials = 4 - i
+μ-loop count e sealed out₀ keys len i₀ trials₀ out i trials = applicationKeyPlaces - i
 
 loop-holds : tie.Need-loop-holds Inv-loop μ-loop
 loop-holds c =
@@ -30,7 +30,7 @@ loop-again : tie.Need-loop-again Inv-loop μ-loop
 loop-again c =
     let s = c .before .before .before .before .before in
     let a = s .before .before .before .before .args in
-    let h : s .loop .i < min (a .count) 4 = omega (arith, leb-false) in
+    let h : s .loop .i < min (a .count) applicationKeyPlaces = omega (arith, leb-false) in
     let key = applicationKeyAt (a .t1) (s .loop .i) .key in
     let f = c .before .fits2 .ensures in
     ⊎-elim
@@ -53,7 +53,7 @@ returns : tie.Need-returns Inv-loop μ-loop
 returns c =
     let s = c .before in
     let a = s .before .before .before .before .args in
-    let h : min (a .count) 4 ≤ s .loop .i = ⊎-elim (λ w. omega arith) (λ w. omega (arith, leb-true)) (c .if1 .came) in
+    let h : min (a .count) applicationKeyPlaces ≤ s .loop .i = ⊎-elim (λ w. omega arith) (λ w. omega (arith, leb-true)) (c .if1 .came) in
     ap (lent (NotOpened (s .loop .trials))) (s .loop .inv .2) ∙ no-key-opens (a .t1) (a .count) (a .e) (a .sealed .now) (a .out .now) (s .loop .inv .0) h
 
 same-length-2 : tie.Need-same-length-2 Inv-loop μ-loop
