@@ -11,6 +11,7 @@ use Rattle.common.specs.Lent.{Lent}
 use Rattle.common.specs.Lists.{padded}
 use Rattle.node.specs.declared.setup.Setup.{Setup}
 use Rattle.node.specs.Setup.{withNetworkKey, withApplicationKey, withDeviceKey, withElements, withGroup, withIndex}
+use Rattle.node.specs.Addresses.{elementPlaces}
 use Rattle.text.specs.declared.number.Number.{Number}
 use Rattle.text.specs.declared.number.Number.the-variants as number
 use Rattle.text.specs.declared.number.Short.{Short}
@@ -48,13 +49,13 @@ areNumbers (text ∷ texts) = isNumber (numberOf text) && areNumbers texts
 
 -- a text is no number
 abbrev pub noSequences : Sequences
-noSequences = record { fits = false; count = 0; next = replicate 8 0 }
+noSequences = record { fits = false; count = 0; next = replicate elementPlaces 0 }
 
 -- each element's next SEQ: how many there are, counted up to nine, and the first eight with zeros behind them
 unfoldable pub sequencesOf : List (List ℕ) → Sequences
 sequencesOf texts =
     if areNumbers texts then
-    record { fits = true; count = min (length texts) 9; next = padded 8 (map (λ text. valueOf (numberOf text)) texts) } else
+    record { fits = true; count = min (length texts) 9; next = padded elementPlaces (map (λ text. valueOf (numberOf text)) texts) } else
     noSequences
 
 -- every field fits

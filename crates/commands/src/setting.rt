@@ -125,7 +125,7 @@ fn with_next(
     ensures { λ r. ⌜ r ≡ set next place seq ⌝ }
 {
     let mut after = next;
-    if place < 8 {
+    if place < node::addresses::ELEMENTS {
         after[place] = seq;
     }
     after
@@ -135,7 +135,7 @@ fn with_next(
 fn read_sequences(line: &[u8]) -> Sequences
     ensures { λ r. ⌜ r ≡ sequencesOf (drop 1 (fields (now (line .entry)))) ⌝ }
 {
-    let mut next = [0u32; 8];
+    let mut next = [0u32; node::addresses::ELEMENTS];
     let mut count: usize = 0;
     let mut at = text::until(line, 0, b' ');
     while at < line.len() {
@@ -192,7 +192,7 @@ fn with_group(s: Setup, address: u16) -> Setup
     let n = s.listened;
     let mut after = s;
     after.listened = setup::counted(n, 8);
-    if n < 8 {
+    if n < node::addresses::GROUPS {
         after.groups[n] = address;
         return after;
     }

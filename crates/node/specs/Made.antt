@@ -46,7 +46,7 @@ pub record WellMade (node : Node) : Type 0 where
 
 -- each element's next SEQ: with 0x1000000 none is left
 pub record NextWell (elements : ℕ) (next : List ℕ) : Type 0 where
-  pub places : length next ≡ 8
+  pub places : length next ≡ elementPlaces
   pub most : (i : ℕ) → i < elements → getD next i 0 ≤ 0x1000000
 
 -- what setup makes is well made

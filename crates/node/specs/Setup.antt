@@ -45,9 +45,9 @@ nothing =
       device = replicate 16 0;
       first = 0;
       elements = 0;
-      next = replicate 8 0;
+      next = replicate elementPlaces 0;
       listened = 0;
-      groups = replicate 8 0;
+      groups = replicate groupPlaces 0;
       iv = 0;
       flag = false;
       relay = false;
@@ -239,7 +239,7 @@ noNode =
       first = 0;
       elements = 0;
       listened = 0;
-      groups = replicate 8 0;
+      groups = replicate groupPlaces 0;
       iv = 0;
       flag = false;
       relay = false;
@@ -249,4 +249,4 @@ noNode =
 unfoldable pub making : Setup → Made
 making s =
     if valid s then record { ok = true; node = nodeOf s; next = nextOf s } else
-    record { ok = false; node = noNode; next = replicate 8 0 }
+    record { ok = false; node = noNode; next = replicate elementPlaces 0 }

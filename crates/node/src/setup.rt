@@ -53,12 +53,12 @@ pub fn nothing() -> Setup
 {
     Setup {
         networks: 0,
-        netkeys: [Key { octets: [0u8; 16] }; 4],
+        netkeys: [Key { octets: [0u8; 16] }; network::opening::KEYS],
         applications: 0,
         appkeys: [BoundKey {
             key: [0u8; 16],
             network: 0,
-        }; 4],
+        }; transport::securing::KEYS],
         device: [0u8; 16],
         first: 0x0000,
         elements: 0,
@@ -85,7 +85,7 @@ pub fn with_network_key(s: Setup, octets: [u8; 16]) -> Setup
     let n = s.networks;
     let mut after = s;
     after.networks = counted(n, 4);
-    if n < 4 {
+    if n < network::opening::KEYS {
         after.netkeys[n] = Key { octets };
         return after;
     }
@@ -99,7 +99,7 @@ pub fn with_application_key(s: Setup, network: usize, key: [u8; 16]) -> Setup
     let n = s.applications;
     let mut after = s;
     after.applications = counted(n, 4);
-    if n < 4 {
+    if n < transport::securing::KEYS {
         after.appkeys[n] = BoundKey { key, network };
         return after;
     }
@@ -226,7 +226,7 @@ fn is_valid(s: Setup) -> bool
 }
 
 fn network_key_at(s: Setup, i: usize) -> Key
-    requires { ⌜ i < 4 ⌝ }
+    requires { ⌜ i < networkKeyPlaces ⌝ }
     ensures { λ r. ⌜ r ≡ networkKeyAt s i ⌝ }
 {
     let netkeys = s.netkeys;
@@ -237,7 +237,7 @@ fn network_key_at(s: Setup, i: usize) -> Key
 }
 
 fn material_at(s: Setup, i: usize) -> NetworkKeys
-    requires { ⌜ i < 4 ⌝ }
+    requires { ⌜ i < networkKeyPlaces ⌝ }
     ensures { λ r. ⌜ r ≡ materialAt s i ⌝ }
 {
     let netkeys = s.netkeys;
@@ -254,7 +254,7 @@ fn material_at(s: Setup, i: usize) -> NetworkKeys
 }
 
 fn application_key_at(s: Setup, i: usize) -> ApplicationKey
-    requires { ⌜ i < 4 ⌝ }
+    requires { ⌜ i < applicationKeyPlaces ⌝ }
     ensures { λ r. ⌜ r ≡ boundKeyAt s i ⌝ }
 {
     let appkeys = s.appkeys;
@@ -275,7 +275,7 @@ fn application_key_at(s: Setup, i: usize) -> ApplicationKey
 }
 
 fn next_at(s: Setup, i: usize) -> u32
-    requires { ⌜ i < 8 ⌝ }
+    requires { ⌜ i < elementPlaces ⌝ }
     ensures { λ r. ⌜ r ≡ nextAt s i ⌝ }
 {
     let next = s.next;
@@ -283,7 +283,7 @@ fn next_at(s: Setup, i: usize) -> u32
 }
 
 fn group_at(s: Setup, i: usize) -> u16
-    requires { ⌜ i < 8 ⌝ }
+    requires { ⌜ i < groupPlaces ⌝ }
     ensures { λ r. ⌜ r ≡ groupAt s i ⌝ }
 {
     let groups = s.groups;
@@ -376,10 +376,10 @@ fn zero_node() -> Node
     };
     Node {
         networks: 0,
-        netkeys: [key; 4],
+        netkeys: [key; network::opening::KEYS],
         materials: [material; network::opening::KEYS],
         applications: 0,
-        appkeys: [application_key; 4],
+        appkeys: [application_key; transport::securing::KEYS],
         device: [0u8; 16],
         first: 0,
         elements: 0,

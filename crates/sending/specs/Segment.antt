@@ -68,7 +68,7 @@ starting r element o buf =
 
 -- the number of the element that has an address; 8 where none has
 unfoldable pub elementOf : Node → ℕ → ℕ
-elementOf node address = if isLocal node address then address - node .first else 8
+elementOf node address = if isLocal node address then address - node .first else elementPlaces
 
 -- a message is kept, the segment is one of it and not yet heard, and the SEQ is at most 8,191 after that of segment 0
 unfoldable pub segmentAllowed : Receiver → ℕ → ℕ → Bool

@@ -12,7 +12,7 @@ use Rattle.common.specs.Lent.{Lent, lent}
 use Rattle.network.specs.declared.header.Header.{Header}
 use Rattle.network.specs.declared.sealing.Answer.{Answer}
 use Rattle.network.specs.declared.sealing.Answer.the-variants.{Sealed, OutsideRules, ShortBuffer}
-use Rattle.network.specs.Candidates.{keyAt}
+use Rattle.network.specs.Candidates.{networkKeyPlaces, keyAt}
 use Rattle.network.specs.IvIndex.{ivIndexSent}
 use Rattle.network.specs.Sealing.{sealing}
 use Rattle.node.specs.declared.addresses.Node.{Node}
@@ -67,5 +67,5 @@ unfoldable pub transmitted : Receiver → ℕ → Header → List ℕ → Lent T
 transmitted r element h buf =
     let s = sealing (keyAt (r .node .materials) (h .key)) (stamped r element h) buf in
     if ltb 0xFFFFFF (nextSeq r element) then lent (noTransmission NoSeqLeft r) buf else
-    if ltb (h .key) 4 then lent (sentAs (s .answer) r element) (s .buffer) else
+    if ltb (h .key) networkKeyPlaces then lent (sentAs (s .answer) r element) (s .buffer) else
     lent (noTransmission Unsealed r) buf

@@ -36,7 +36,7 @@ fn key_used(node: Node, key: MessageKey) -> KeyUsed
     let device = node.device;
     match key {
         MessageKey::Application(i) => {
-            if i < 4 {
+            if i < transport::securing::KEYS {
                 let s = appkeys[i];
                 let octets = s.key;
                 return KeyUsed {
@@ -66,7 +66,7 @@ fn key_allowed(node: Node, q: Request, key: MessageKey) -> bool
     let appkeys = node.appkeys;
     match key {
         MessageKey::Application(i) => {
-            if 4 <= i {
+            if transport::securing::KEYS <= i {
                 return false;
             }
             if node.applications <= i {

@@ -104,7 +104,7 @@ pub fn send(r: Receiver, network: usize, src: u16, out: &mut [u8]) -> Spoken
     if out.len() < network::header::PDU {
         return super::answer::refuse(r, Refusal::ShortBuffer);
     }
-    if 4 <= network {
+    if network::opening::KEYS <= network {
         return super::answer::refuse(r, Refusal::OutsideRules);
     }
     if node.networks <= network {

@@ -55,13 +55,13 @@ fn sendable(kind: AddressKind) -> bool
 pub fn is_allowed(node: Node, q: Request) -> bool
     ensures { λ r. ⌜ r ≡ requestAllowed node q ⌝ }
 {
-    if 8 <= q.element {
+    if node::addresses::ELEMENTS <= q.element {
         return false;
     }
     if node.elements <= q.element {
         return false;
     }
-    if 4 <= q.network {
+    if network::opening::KEYS <= q.network {
         return false;
     }
     if node.networks <= q.network {

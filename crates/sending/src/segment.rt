@@ -149,7 +149,7 @@ pub(crate) fn element_of(node: Node, address: u16) -> usize
     if node::addresses::is_local(node, address) {
         return (address - node.first) as usize;
     }
-    8
+    node::addresses::ELEMENTS
 }
 
 // Whether an element's next SEQ is at most 8,191 after a message's first.

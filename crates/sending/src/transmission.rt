@@ -77,7 +77,7 @@ pub(crate) fn transmit(r: Receiver, element: usize, h: Header, out: &mut [u8]) -
             receiver: r,
         };
     }
-    if 4 <= place {
+    if network::opening::KEYS <= place {
         return Transmitted {
             answer: Transmission::Unsealed,
             receiver: r,
