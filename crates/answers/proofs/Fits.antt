@@ -9,7 +9,6 @@ use lib.Dec.{eqb}
 use lib.ListN.{length, take, length-append, length-take, length-drop}
 use lib.Seq.{take-all}
 use Rattle.common.proofs.Tests.{by-choice}
-use Rattle.modes.specs.Ccm.{longest}
 use Rattle.network.specs.Pdu.{pduOctets}
 use Rattle.memory.specs.declared.cache.Cache.{Cache}
 use Rattle.memory.specs.declared.outgoing.Effect.{Effect}

@@ -214,16 +214,10 @@ fn session(line: &[u8]) -> Line
 fn room(line: &[u8]) -> Line
     ensures { λ r. ⌜ r ≡ roomOf (now (line .entry)) ⌝ }
 {
-    let Number::Value(forward) = number::read_up_to(
-        transport::securing::MESSAGE,
-        field::nth(line, 1),
-    ) else {
+    let Number::Value(forward) = number::read_up_to(384, field::nth(line, 1)) else {
         return Line::Unread;
     };
-    let Number::Value(message) = number::read_up_to(
-        transport::securing::MESSAGE,
-        field::last(line, 2),
-    ) else {
+    let Number::Value(message) = number::read_up_to(384, field::last(line, 2)) else {
         return Line::Unread;
     };
     Line::Room(Room {
