@@ -16,7 +16,6 @@ use mathlib.Core.Path.{_≡_, refl, sym, ap, _∙_, subst}
 use Prim.Native.Nat.{ℕ, _≤_, _<_}
 use native.Mathlib.Omega.{arith}
 use borrow.Author.Tests.{ne-eqb}
-use lib.Dec.{eqb}
 use lib.ListN.{length, length-replicate, getD-replicate}
 use lib.Seq.{ext-getD}
 use Rattle.common.specs.Bits.{hasBit, allBits}

@@ -18,7 +18,7 @@ use Rattle.memory.specs.declared.session.Session.{Session}
 use Rattle.memory.specs.declared.session.Terms.{Terms}
 use Rattle.memory.specs.Decision.{joining, opening, decision}
 use Rattle.memory.specs.Pair.{samePair}
-use Rattle.memory.specs.Replay.{noEntry, lookUp, stale, hasRoom, isLast}
+use Rattle.memory.specs.Replay.{lookUp, stale, hasRoom, isLast}
 use Rattle.memory.specs.Session.{sessionSlots, sessionAt, segmentKey, sessionPlace, freePlace, sameBit, sameTerms}
 
 -- ---- what is equal to itself

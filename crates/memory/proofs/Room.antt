@@ -2,14 +2,14 @@
 -- replay entries are never used up by fewer sources than there are entries. Assumes nothing.
 --   Owned                   every key of a list is one of n owners'
 --   place-free, slot-free   the two uses
-use mathlib.Core.Bool.{true, false, true≢false}
+use mathlib.Core.Bool.{false}
 use mathlib.Core.List.{List}
 use mathlib.Core.Path.{_≡_, sym, ap, _∙_, subst}
 use Prim.Native.Nat.{ℕ, suc, _≤_, _<_}
 use native.Mathlib.Omega.{arith}
 use borrow.Author.Tests.{eqb-true, eqb-false, ltb-true, ltb-false}
 use lib.Dec.{eqb, ltb}
-use lib.ListN.{length, getD, set}
+use lib.ListN.{length, set}
 use lib.Seq.{getD-set-same, getD-set-other}
 use Rattle.common.specs.Choice.{if_then_else_}
 use Rattle.common.proofs.Tests.{by-test}

@@ -4,7 +4,6 @@
 --   fresh-admits    it admits every whole message
 use mathlib.Core.Bool.{false}
 use mathlib.Core.Path.{_≡_, refl, sym}
-use Prim.Native.Nat.{ℕ}
 use Rattle.network.specs.declared.header.Header.{Header}
 use Rattle.node.specs.declared.setup.Setup.{Setup}
 use Rattle.node.specs.Setup.{making}

@@ -1,6 +1,5 @@
 -- `memory::cache::same` meets its contract: each return is one rule of `sameSeen`.
 -- Assumes nothing.
-use borrow.Author.Needs.{needs}
 use Rattle.memory.proofs.CacheLaws.{same-rules}
 use Rattle.memory.proofs.cache.same.Statement.{statement}
 use Rattle.memory.proofs.cache.same.Tie as tie

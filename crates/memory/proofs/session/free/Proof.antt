@@ -3,7 +3,6 @@
 use Prim.Native.Nat.{_-_}
 use borrow.Author.Needs.{needs}
 use borrow.Author.Tests.{eq-eqb, ne-eqb}
-use lib.Dec.{eqb}
 use Rattle.common.proofs.Search.{Seeking, seek-start, seek-here, seek-on, seek-past}
 use Rattle.memory.specs.Session.{sessionSlots, isFree, freePlace}
 use Rattle.memory.proofs.session.free.Statement.{statement}
