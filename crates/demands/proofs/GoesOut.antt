@@ -18,7 +18,7 @@ use Rattle.common.proofs.BitLaws.{has-none}
 use Rattle.common.proofs.Tests.{by-test}
 use Rattle.network.specs.declared.header.Header.{Header}
 use Rattle.network.specs.Address.{isUnicast}
-use Rattle.network.specs.Candidates.{keyAt}
+use Rattle.network.specs.Candidates.{networkKeyPlaces, keyAt}
 use Rattle.network.specs.Sealing.{mostTransport, sealable}
 use Rattle.network.proofs.AddressLaws.{unicast-some, addresses-allowed}
 use Rattle.network.proofs.Sealed.{sealable-where}
@@ -66,7 +66,7 @@ abbrev All : List ℕ → Outcome → Type 0
 All buf o = Each (λ x. x .made ≡ true) (o ∷ run (o .receiver) (restAs (o .answer) buf))
 
 -- ---- a transmission that sealing does not refuse is sent
-module _ (r : Receiver) (element : ℕ) (h : Header) (buf : List ℕ) (left-seq : nextSeq r element ≤ 0xFFFFFF) (key : h .key < 4) (wide : pduOctets ≤ length buf)
+module _ (r : Receiver) (element : ℕ) (h : Header) (buf : List ℕ) (left-seq : nextSeq r element ≤ 0xFFFFFF) (key : h .key < networkKeyPlaces) (wide : pduOctets ≤ length buf)
     (can : sealable (keyAt (r .node .materials) (h .key)) (stamped r element h) ≡ true) where
   sends : Sends r element h buf
   sends = record { seq-left = left-seq; key-there = key; wide = wide; can = can }
@@ -105,7 +105,7 @@ module _ (sender : Receiver) (setup : Setup) (q : Request) (words : Words) (buf 
   nid-fits : keyAt (node .materials) (q .network) .nid ≤ 127
   nid-fits = let n = held sender node (b .shared) q words a in rw (well .derived (q .network) (omega arith)) (nid-low _)
 
-  key-low : q .network < 4
+  key-low : q .network < networkKeyPlaces
   key-low = let n = held sender node (b .shared) q words a in omega arith
 
   -- ---- whole
@@ -163,8 +163,8 @@ module _ (sender : Receiver) (setup : Setup) (q : Request) (words : Words) (buf 
         subst (λ (x : NetworkKeys). sealable x (stamped r (q .element) (segmentHeader o n)) ≡ true) (sym k)
         (subst (λ (x : Header). sealable (keyAt (node .materials) (q .network)) x ≡ true) (sym e) can)
 
-    segment-key : (n : ℕ) → segmentHeader o n .key < 4
-    segment-key n = subst (λ (k : ℕ). k < 4) (sym (key-said sender node (b .shared) q s o keeping sender (q .element) n refl)) key-low
+    segment-key : (n : ℕ) → segmentHeader o n .key < networkKeyPlaces
+    segment-key n = subst (λ (k : ℕ). k < networkKeyPlaces) (sym (key-said sender node (b .shared) q s o keeping sender (q .element) n refl)) key-low
 
     start-made : madeBy (starting sender (q .element) o buf .answer .answer) ≡ true
     start-made =

@@ -92,7 +92,7 @@ module _ (node : Node) (made : WellMade node) (speeches : List Speech) (few : le
         let slot = sessionPlace (r .sessions) (speakerKey speeches k) in
         let spoken = ne-eqb (speakerOf speeches k) 0 (unicast-some (speakerOf speeches k) (speak k hk .from-unicast)) in
         let z : isFree (sessionAt (r .sessions) slot) ≡ false = ap isFree held ∙ spoken in
-        let g : Gathering (sessionOf node (speechAt speeches k) (filled k) len bytes) = subst Gathering held (sc .good .gathering slot own z) in
+        let g : Gathering (sessionOf node (speechAt speeches k) (filled k) len bytes) = subst Gathering held (sc .good .sessions-kept .each slot own .gathers z) in
         all-of-bits (lastOf node (speechAt speeches k)) (filled k) (last-low node (speechAt speeches k) (speak k hk)) (g .filled-within) all
 
     record Over : Type 0 where
@@ -113,7 +113,7 @@ module _ (node : Node) (made : WellMade node) (speeches : List Speech) (few : le
       (out : (k : ℕ) → k < length speeches → sessionSlots ≤ sessionPlace (r .sessions) (speakerKey speeches k)) where
     slot-zero : (i : ℕ) → i < sessionSlots → sessionAt (r .sessions) i ≡ noSession
     slot-zero i h =
-        sc .good .free-zero i h
+        sc .good .sessions-kept .each i h .free-zero
         (by-test (isFree (sessionAt (r .sessions) i)) (λ t. t)
         (λ t.
         let o = sc .sessions-owned .owned i h t in
@@ -124,7 +124,7 @@ module _ (node : Node) (made : WellMade node) (speeches : List Speech) (few : le
 
     no-sessions : r .sessions ≡ noSessions
     no-sessions =
-        let long = sc .good .session-places in
+        let long = sc .good .sessions-kept .places in
         ext-getD past (r .sessions) noSessions (long ∙ sym (length-replicate sessionSlots noSession))
         (λ i h. let w : i < sessionSlots = omega arith in slot-zero i w ∙ sym (getD-replicate sessionSlots i noSession past w))
 

@@ -56,10 +56,7 @@ module _ (r : Receiver) (g : Good r) where
         next-well = next-raised (r .node .elements) (r .next) element (g .next-well) h;
         cache-places = g .cache-places;
         replay-kept = g .replay-kept;
-        session-places = g .session-places;
-        one-session = g .one-session;
-        free-zero = g .free-zero;
-        gathering = g .gathering;
+        sessions-kept = g .sessions-kept;
       }
 
 -- a call leaves a good receiver

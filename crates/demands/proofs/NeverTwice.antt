@@ -128,7 +128,7 @@ speaks r (Hear pdu fwd msg) = silent r 0 0 [] _ refl (fixed-heard r fwd msg _ .n
 speaks r (GiveUp src) = silent r 0 0 [] _ refl (given-next r src)
 speaks r (SendAccess q key szmic payload buf) =
     let e = q .element in
-    let low : accessAllowed r q key szmic (length payload) ≡ true → e < 8 = λ a. element-low r q (access-allows r q key szmic (length payload) a .asks) in
+    let low : accessAllowed r q key szmic (length payload) ≡ true → e < elementPlaces = λ a. element-low r q (access-allows r q key szmic (length payload) a .asks) in
     let iv = sendingIv (r .node) in
     let k = keyed (r .node) key in
     let under = ap (λ (v : Envelope). v .iv) (envelope-is r q k szmic) in
@@ -137,7 +137,7 @@ speaks r (SendAccess q key szmic payload buf) =
     (λ a _. started r e iv buf (low a) _ (ap (λ (p : Pair). p .iv) (keeps-access (envelopeOf r q k szmic) q k payload .auth-is) ∙ under))
 speaks r (SendControl q opcode parameters buf) =
     let e = q .element in
-    let low : control.controlAllowed r q opcode (length parameters) ≡ true → e < 8 = λ a. element-low r q (control-allows r q opcode (length parameters) a .asks) in
+    let low : control.controlAllowed r q opcode (length parameters) ≡ true → e < elementPlaces = λ a. element-low r q (control-allows r q opcode (length parameters) a .asks) in
     let iv = sendingIv (r .node) in
     walk-control r buf (Speaking r e iv buf) (refused r e iv buf) q opcode parameters
     (λ a _. said r e iv buf (low a) _ (ap (λ (h : Header). h .iv) (whole-control r e iv q opcode parameters)))

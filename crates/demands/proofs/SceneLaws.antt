@@ -87,4 +87,4 @@ module _ (node : Node) (speeches : List Speech) (spent : Spent) (r : Receiver) (
   pub session-room :
       (k : ℕ) → k < length speeches → sessionSlots ≤ sessionPlace (r .sessions) (speakerKey speeches k) → freePlace (r .sessions) < sessionSlots
   session-room k h out =
-      session-free (length speeches) (speakerKey speeches) (r .sessions) (s .sessions-owned) (s .good .session-places) (s .good .one-session) k h out few
+      session-free (length speeches) (speakerKey speeches) (r .sessions) (s .sessions-owned) (s .good .sessions-kept .places) (s .good .sessions-kept .apart) k h out few

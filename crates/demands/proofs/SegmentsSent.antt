@@ -61,7 +61,7 @@ module _ (sender : Receiver) (made-node : WellMade (sender .node)) (node : Node)
     pub out-is : r .out ≡ o
     pub fixed-is : SameFixed (r .node) (sender .node)
     pub next-is : nextSeq r element ≡ first + n
-    pub places : length (r .next) ≡ 8
+    pub places : length (r .next) ≡ elementPlaces
 
   pub keeps-next : (r : Receiver) (n : ℕ) → Keeps r n → Keeps (used r element) (suc n)
   keeps-next r n k =

@@ -113,7 +113,7 @@ module _ (node : Node) (made : WellMade node) (s : Speech) (w : Speakable node s
       session = sessionOf node s filled len bytes
 
       long : length (r .sessions) ≡ sessionSlots
-      long = g .session-places
+      long = g .sessions-kept .places
 
       some : filled ≡ 0 → ⊥
       some e = true≢false (sym (has-with-own bits i low) ∙ ap (λ (x : ℕ). hasBit x i) e ∙ has-none i)
@@ -203,10 +203,10 @@ module _ (node : Node) (made : WellMade node) (s : Speech) (w : Speakable node s
           (j : ℕ) → j < sessionSlots → sessionKey (sessionAt (r .sessions) j) ≡ keyOf s → sessionPlace (r .sessions) (keyOf s) < sessionSlots
           → j ≡ sessionPlace (r .sessions) (keyOf s)
       own-only j hj e own =
-          let long = g .session-places in
+          let long = g .sessions-kept .places in
           let there = session-key (r .sessions) (keyOf s) (omega arith) in
           let used : noKey (sessionKey (sessionAt (r .sessions) j)) ≡ false = rw (ap (λ (a : SessionKey). a .src) e) (ne-eqb (s .src) 0 spoken) in
-          g .one-session j (sessionPlace (r .sessions) (keyOf s)) hj own used (e ∙ sym there)
+          g .sessions-kept .apart j (sessionPlace (r .sessions) (keyOf s)) hj own used (e ∙ sym there)
 
       joined :
           (len : ℕ) (bytes : List ℕ) → hasBit bits i ≡ false → Unheard node s (r .replay) → sessionPlace (r .sessions) (keyOf s) < sessionSlots
@@ -229,7 +229,7 @@ module _ (node : Node) (made : WellMade node) (s : Speech) (w : Speakable node s
       opened zero unheard out =
           let slot = freePlace (r .sessions) in
           let within = free out in
-          let long = g .session-places in
+          let long = g .sessions-kept .places in
           let e = placed-open r h msg (segmentAt node s i) (unheard .other) room (unheard .newer) out within in
           let holds = subst (λ (b : ℕ). Holds node s b 0 (replicate messageOctets 0)) (sym zero) (holds-begun node s) in
           let more = holds-more node s w bits 0 (replicate messageOctets 0) holds i there seq ttl in

@@ -3,7 +3,7 @@
 use mathlib.Core.Bool.{true, false}
 use mathlib.Core.Logic.{_⊎_, inl, inr}
 use mathlib.Core.Path.{_≡_, refl, sym, ap, ap₂, _∙_}
-use Prim.Native.Nat.{ℕ, _%_, _<_}
+use Prim.Native.Nat.{ℕ, _%_}
 use native.Mathlib.Omega.{arith}
 use borrow.Author.Tests.{eq-eqb, ne-eqb, eqb-true, eqb-false, lt-ltb, ltb-true}
 use lib.Dec.{eqb, ltb}
@@ -48,19 +48,7 @@ module _ (c : Cache) (h : Header) where
   unfolding remembered
   length-remembered = length-set (c .entries) (c .next % cacheEntries) (seenOf h)
 
-  pub next-remembered : remembered c h .next < cacheEntries
-  unfolding remembered
-  next-remembered = omega arith
-
   module _ (long : length (c .entries) ≡ cacheEntries) where
-    pub seen-remembered : seen (remembered c h) h ≡ true
-    unfolding seen remembered
-    seen-remembered =
-        let at = c .next % cacheEntries in
-        let l = set (c .entries) at (seenOf h) in
-        let upto = place-upto entriesKeyed noSeen l (seenOf h) at (getD-set-same (c .entries) at (seenOf h) noSeen (omega arith)) in
-        lt-ltb (place entriesKeyed noSeen l (seenOf h)) cacheEntries (omega arith)
-
     -- what is seen with one entry more is the new one, or was seen before
     pub seen-or-new : (k : Header) → seen (remembered c h) k ≡ true → (seen c k ≡ true) ⊎ (seenOf k ≡ seenOf h)
     unfolding seen remembered

@@ -11,5 +11,4 @@ pub mod Stored
 pub mod Within
 pub mod Decided
 pub mod Keyed
-pub mod Pigeonhole
 pub mod Room

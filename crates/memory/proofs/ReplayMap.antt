@@ -101,39 +101,13 @@ module _ (l : List Entry) (e : Entry) where
         let w = new-within l (e .src) room in
         rw (place-inserted, inserted-is l e) (getD-set-same l (newPlace l (e .src)) e noEntry (omega arith))
 
-    pub hasRoom-inserted : hasRoom (inserted l e) (e .src) ≡ true
-    unfolding hasRoom
-    hasRoom-inserted = rw (place-inserted, lt-ltb (newPlace l (e .src)) replayEntries (new-within l (e .src) room))
-
 -- a pair that the entry is not as new as is the greater
 raised-new : (e : Entry) (pair : Pair) → stale e pair ≡ false → raised e pair ≡ pair
 unfolding raised stale greater
 raised-new e pair old = by-test (eqb (e .src) 0) (λ t. rw t refl) (λ t. by-test (newer pair (e .pair)) (λ u. rw (t, u) refl) (λ u. absurd (true≢false (rw (t, u) at old))))
 
--- ---- after a whole message was accepted, and after a segmented one was handed up
-module _ (l : List Entry) (src : ℕ) (pair : Pair) where
-  pub length-accepted : length (accepted l src pair) ≡ length l
-  unfolding accepted
-  length-accepted = length-inserted l _
-
-  pub lookUp-accepted-other : (a : ℕ) → (a ≡ src → ⊥) → (a ≡ 0 → ⊥) → lookUp (accepted l src pair) a ≡ lookUp l a
-  unfolding accepted
-  lookUp-accepted-other = lookUp-inserted-other l _
-
-  module _ (long : length l ≡ replayEntries) (room : hasRoom l src ≡ true) where
-    pub lookUp-accepted-own : lookUp (accepted l src pair) src ≡ record { src = src; pair = raised (lookUp l src) pair; last = lookUp l src .last }
-    unfolding accepted
-    lookUp-accepted-own = lookUp-inserted-own l _ long room
-
-    pub hasRoom-accepted : hasRoom (accepted l src pair) src ≡ true
-    unfolding accepted
-    hasRoom-accepted = hasRoom-inserted l (record { src = src; pair = raised (lookUp l src) pair; last = lookUp l src .last }) long room
-
+-- ---- after a segmented message was handed up
 module _ (l : List Entry) (src : ℕ) (auth : Pair) (segN dst : ℕ) where
-  pub length-handedUp : length (handedUp l src auth segN dst) ≡ length l
-  unfolding handedUp
-  length-handedUp = length-inserted l _
-
   pub lookUp-handedUp-other : (a : ℕ) → (a ≡ src → ⊥) → (a ≡ 0 → ⊥) → lookUp (handedUp l src auth segN dst) a ≡ lookUp l a
   unfolding handedUp
   lookUp-handedUp-other = lookUp-inserted-other l _
@@ -151,11 +125,6 @@ module _ (l : List Entry) (src : ℕ) (auth : Pair) (segN dst : ℕ) where
         → lookUp (handedUp l src auth segN dst) src ≡ record { src = src; pair = auth; last = record { auth = auth; segn = segN; dst = dst } }
     lookUp-handedUp-new old =
         lookUp-handedUp-own ∙ ap (λ (p : Pair). record { src = src; pair = p; last = record { auth = auth; segn = segN; dst = dst } }) (raised-new (lookUp l src) auth old)
-
-    pub hasRoom-handedUp : hasRoom (handedUp l src auth segN dst) src ≡ true
-    unfolding handedUp
-    hasRoom-handedUp =
-        hasRoom-inserted l (record { src = src; pair = raised (lookUp l src) auth; last = record { auth = auth; segn = segN; dst = dst } }) long room
 
 -- ---- the list stays as it is kept
 pub kept-none : ReplayKept noEntries

@@ -42,16 +42,8 @@ heard-parity current ivi i e =
     let n = eqb-false current 0 z in
     omega arith))
 
--- so the other bit does not pick it
-pub heard-other : (current ivi i : ℕ) → (i % 2 ≡ ivi % 2 → ⊥) → ivIndexHeard current ivi ≡ Index i → ⊥
-heard-other current ivi i n e = n (heard-parity current ivi i e)
-
 -- the one that sending uses is the current one or the one before, where there is one
 pub sent-near : (current : ℕ) (flag : Bool) → (flag ≡ true → 0 < current) → (ivIndexSent current flag ≡ current) ⊎ (ivIndexSent current flag + 1 ≡ current)
 unfolding ivIndexSent
 sent-near current true h = let p = h refl in inr (omega arith)
 sent-near current false h = inl refl
-
--- a receiver with the same IV Index gives back the one that sending uses, whatever the flags are
-pub heard-own : (current : ℕ) (flag : Bool) → (flag ≡ true → 0 < current) → ivIndexHeard current (ivIndexSent current flag % 2) ≡ Index (ivIndexSent current flag)
-heard-own current flag h = heard-of-index current (ivIndexSent current flag) (sent-near current flag h)

@@ -2,7 +2,6 @@
 pub mod OctetsLaws
 pub mod AddressLaws
 pub mod IvIndexLaws
-pub mod NonceLaws
 pub mod Examples
 pub mod TrialLaws
 pub mod CandidatesLaws

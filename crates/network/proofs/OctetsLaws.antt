@@ -1,10 +1,10 @@
 -- Octets and the number that they give determine each other. From the back, an octet more is a multiple of 256 and a remainder; from
 -- the front, the octets that were passed are those of the number gathered so far.
 -- Assumes nothing.
-use mathlib.Core.List.{List, [], _∷_, _++_, append-assoc, append-nil}
+use mathlib.Core.List.{List, [], _∷_, _++_}
 use mathlib.Core.Path.{_≡_, refl, sym, ap, _∙_}
 use Prim.Native.Nat.{ℕ, zero, suc, _+_, _*_, _/_, _%_, _^_, _<_}
-use native.Mathlib.Nat.{add-zero, zero-add, one-mul, mul-one, mul-assoc, mod-eq-of-lt, mod-one, pow-suc, pow-succ', one-le-pow}
+use native.Mathlib.Nat.{one-mul, mul-one, mul-assoc, mod-eq-of-lt, mod-one, pow-suc, pow-succ', one-le-pow}
 use native.Mathlib.Omega.{arith}
 use lib.Arith.{digits-lt, mod-mul}
 use lib.ListN.{length, length-append}
@@ -43,22 +43,6 @@ number-octets-mod (suc n) x =
 -- so x itself, where it is below
 pub number-octets : (n x : ℕ) → x < 256 ^ n → number (octets n x) ≡ x
 number-octets n x h = number-octets-mod n x ∙ mod-eq-of-lt h
-
--- octets behind the k of acc
-octets-numberFrom : (k acc : ℕ) (l : List ℕ) → Octets l → octets (length l + k) (numberFrom acc l) ≡ octets k acc ++ l
-unfolding octets numberFrom
-octets-numberFrom k acc [] p = rw (zero-add k, append-nil)
-octets-numberFrom k acc (x ∷ l) p =
-    let h = p 0 in
-    let quotient : (acc * 256 + x) / 256 ≡ acc = omega arith in
-    let rest : (acc * 256 + x) % 256 ≡ x = omega arith in
-    let s : suc (length l) + k ≡ length l + suc k = omega arith in
-    rw (s, octets-numberFrom (suc k) (acc * 256 + x) l (λ i. p (suc i)), quotient, rest, append-assoc)
-
--- n octets are those of the number that they give
-pub octets-number : (n : ℕ) (l : List ℕ) → length l ≡ n → Octets l → octets n (number l) ≡ l
-unfolding number octets
-octets-number n l e p = rw (← e) (ap (λ (m : ℕ). octets m (number l)) (sym (add-zero (length l))) ∙ octets-numberFrom 0 0 l p)
 
 -- octets behind a number below b
 numberFrom-lt : (b acc : ℕ) (l : List ℕ) → Octets l → acc < b → numberFrom acc l < b * 256 ^ length l

@@ -21,7 +21,7 @@ module _ (node : Node) (a : ℕ) where
 
   module _ (h : node .first ≤ a) where
     -- at a place below 8 there is an element or there is none
-    pub local-near : a - node .first < 8 → ltb (a - node .first) (node .elements) ≡ isLocal node a
+    pub local-near : a - node .first < elementPlaces → ltb (a - node .first) (node .elements) ≡ isLocal node a
     unfolding isLocal
     local-near p =
         let end = node .first + min (node .elements) elementPlaces in
@@ -30,7 +30,7 @@ module _ (node : Node) (a : ℕ) where
         (λ t. simp (t, le-leb (node .first) a h, le-ltb a end (omega (arith, ltb-false (a - node .first) (node .elements) t))))
 
     -- past 8 places there is none
-    pub local-far : 8 ≤ a - node .first → false ≡ isLocal node a
+    pub local-far : elementPlaces ≤ a - node .first → false ≡ isLocal node a
     unfolding isLocal
     local-far p = simp (le-leb (node .first) a h, le-ltb a (node .first + min (node .elements) elementPlaces) (omega arith))
 

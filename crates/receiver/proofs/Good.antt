@@ -47,10 +47,12 @@ good-fresh-of node next w n =
       next-well = n;
       cache-places = length-replicate cacheEntries noSeen;
       replay-kept = kept-none;
-      session-places = length-replicate sessionSlots noSession;
-      one-session = λ i j hi hj z e. absurd (true≢false (sym (none i hi) ∙ z));
-      free-zero = λ i h z. session i h;
-      gathering = λ i h z. absurd (true≢false (sym (none i h) ∙ z));
+      sessions-kept =
+          record {
+            places = length-replicate sessionSlots noSession;
+            apart = λ i j hi hj z e. absurd (true≢false (sym (none i hi) ∙ z));
+            each = λ i h. record { free-zero = λ z. session i h; gathers = λ z. absurd (true≢false (sym (none i h) ∙ z)) };
+          };
     }
 
 pub good-fresh : GoodFresh
@@ -78,12 +80,12 @@ module _ (q : Receiver) (g : Good q) (h : Header) (c : Clear h) where
       ⊎-elim
       (λ j.
       let i = j .0 .within in
-      let l = g .session-places in
+      let l = g .sessions-kept .places in
       let key = segmentKey (h .src) seg in
       let e : sessionKey (sessionAt (q .sessions) slot) ≡ key = rw (j .0 .own) (session-key (q .sessions) key (omega (arith, j .0 .own))) in
       let used : isFree (sessionAt (q .sessions) slot) ≡ false = ap noKey e ∙ sent in
       let n = same-last (sessionAt (q .sessions) slot .terms) (seg .terms) (j .0 .same) in
-      subst (Sits seg) (sym (j .1)) (record { gathers = g .gathering slot i used; key-is = e; used = used; within = omega arith }))
+      subst (Sits seg) (sym (j .1)) (record { gathers = g .sessions-kept .each slot i .gathers used; key-is = e; used = used; within = omega arith }))
       (λ j. subst (Sits seg) (sym (j .1)) (record { gathers = gathering-begun (h .src) seg (k .segN-fits); key-is = refl; used = sent; within = o }))
       (k .stands)
 

@@ -28,7 +28,7 @@ use Rattle.memory.proofs.SessionSlots.{apart-freed, apart-opened}
 use Rattle.memory.proofs.Within.{Opens}
 use Rattle.receiver.specs.declared.answer.Taken.{Taken}
 use Rattle.receiver.specs.declared.state.Receiver.{Receiver}
-use Rattle.receiver.specs.Good.{Gathering, Good}
+use Rattle.receiver.specs.Good.{Gathering, Held, SessionsKept, Good}
 use Rattle.receiver.specs.Segmented.{upgraded}
 use Rattle.receiver.specs.State.{withCache, withReplay, withSession, withOutgoing}
 use Rattle.receiver.specs.Whole.{pairOf, admitted}
@@ -38,20 +38,8 @@ use Rattle.receiver.proofs.Laws.Heard.{caching}
 abbrev pub Left : Lent Taken → Type 0
 Left t = Good (t .answer .receiver)
 
--- ---- the parts
--- a session: zeros, or one that gathers
-pub record Held (s : Session) : Type 0 where
-  pub free : isFree s ≡ true → s ≡ noSession
-  pub gathers : isFree s ≡ false → Gathering s
-
--- the sessions: all slots, each key at most once
-pub record SessionsGood (l : List Session) : Type 0 where
-  pub places : length l ≡ sessionSlots
-  pub apart : SessionsApart l
-  pub each : (i : ℕ) → i < sessionSlots → Held (sessionAt l i)
-
 -- a session is put into a slot
-held-set : (l : List Session) → SessionsGood l → (slot : ℕ) (s : Session) → Held s → (i : ℕ) → i < sessionSlots → Held (sessionAt (set l slot s) i)
+held-set : (l : List Session) → SessionsKept l → (slot : ℕ) (s : Session) → Held s → (i : ℕ) → i < sessionSlots → Held (sessionAt (set l slot s) i)
 held-set l g slot s hs i h =
     let long = g .places in
     by-test (eqb i slot)
@@ -62,50 +50,28 @@ held-set l g slot s hs i h =
 
 -- ---- the state with its parts changed
 module _ (r : Receiver) (g : Good r) where
-  pub sessions-good : SessionsGood (r .sessions)
-  sessions-good =
-      record {
-        places = g .session-places;
-        apart = g .one-session;
-        each = λ i h. record { free = g .free-zero i h; gathers = g .gathering i h };
-      }
-
   changed :
-      (cache : Cache) → length (cache .entries) ≡ cacheEntries → (replay : List Entry) → ReplayKept replay → (sessions : List Session) → SessionsGood sessions
+      (cache : Cache) → length (cache .entries) ≡ cacheEntries → (replay : List Entry) → ReplayKept replay → (sessions : List Session) → SessionsKept sessions
       → (out : Outgoing) → Good (record { node = r .node; next = r .next; cache = cache; replay = replay; sessions = sessions; out = out })
   changed cache ec replay er sessions es out =
-      record {
-        node-made = g .node-made;
-        next-well = g .next-well;
-        cache-places = ec;
-        replay-kept = er;
-        session-places = es .places;
-        one-session = es .apart;
-        free-zero = λ i h. es .each i h .free;
-        gathering = λ i h. es .each i h .gathers;
-      }
+      record { node-made = g .node-made; next-well = g .next-well; cache-places = ec; replay-kept = er; sessions-kept = es }
 
   pub good-cache : (c : Cache) → length (c .entries) ≡ cacheEntries → Good (withCache r c)
-  good-cache c e = changed c e (r .replay) (g .replay-kept) (r .sessions) sessions-good (r .out)
+  good-cache c e = changed c e (r .replay) (g .replay-kept) (r .sessions) (g .sessions-kept) (r .out)
 
   pub good-caching : (h : Header) → Good (caching r h)
   good-caching h = good-cache (caching r h .cache) (length-remembered (r .cache) h ∙ g .cache-places)
 
   pub good-outgoing : (out : Outgoing) → Good (withOutgoing r out)
-  good-outgoing out = changed (r .cache) (g .cache-places) (r .replay) (g .replay-kept) (r .sessions) sessions-good out
+  good-outgoing out = changed (r .cache) (g .cache-places) (r .replay) (g .replay-kept) (r .sessions) (g .sessions-kept) out
 
   pub good-replay : (l : List Entry) → ReplayKept l → Good (withReplay r l)
-  good-replay l k = changed (r .cache) (g .cache-places) l k (r .sessions) sessions-good (r .out)
+  good-replay l k = changed (r .cache) (g .cache-places) l k (r .sessions) (g .sessions-kept) (r .out)
 
   pub good-session : (slot : ℕ) (s : Session) → SessionsApart (set (r .sessions) slot s) → Held s → Good (withSession r slot s)
   good-session slot s a h =
       changed (r .cache) (g .cache-places) (r .replay) (g .replay-kept) (set (r .sessions) slot s)
-      (record {
-        places = length-set (r .sessions) slot s ∙ g .session-places;
-        apart = a;
-        each = held-set (r .sessions) sessions-good slot s h;
-      })
-      (r .out)
+      (record { places = length-set (r .sessions) slot s ∙ g .sessions-kept .places; apart = a; each = held-set (r .sessions) (g .sessions-kept) slot s h }) (r .out)
 
   -- ---- a message was accepted, or handed up
   pub good-admitted : (h : Header) → Good (admitted r h)
@@ -119,11 +85,11 @@ module _ (r : Receiver) (g : Good r) where
   -- ---- a slot is zeroed, or holds a session that gathers
   pub good-freed : (slot : ℕ) → Good (withSession r slot noSession)
   good-freed slot =
-      good-session slot noSession (apart-freed (r .sessions) (g .session-places) (g .one-session) slot)
-      (record { free = λ z. refl; gathers = λ z. absurd (true≢false z) })
+      good-session slot noSession (apart-freed (r .sessions) (g .sessions-kept .places) (g .sessions-kept .apart) slot)
+      (record { free-zero = λ z. refl; gathers = λ z. absurd (true≢false z) })
 
   pub good-opened :
       (slot : ℕ) (s : Session) → Opens (r .sessions) (sessionKey s) slot → isFree s ≡ false → Gathering s → Good (withSession r slot s)
   good-opened slot s o z k =
-      good-session slot s (apart-opened (r .sessions) (g .session-places) (g .one-session) slot s (o .own))
-      (record { free = λ e. absurd (true≢false (sym e ∙ z)); gathers = λ e. k })
+      good-session slot s (apart-opened (r .sessions) (g .sessions-kept .places) (g .sessions-kept .apart) slot s (o .own))
+      (record { free-zero = λ e. absurd (true≢false (sym e ∙ z)); gathers = λ e. k })

@@ -31,6 +31,17 @@ pub record Gathering (s : Session) : Type 0 where
   pub octets-places : length (s .bytes) ≡ messageOctets
   pub length-most : s .len ≤ messageOctets
 
+-- a slot: zeroed where it is free, else its session gathers a message
+pub record Held (s : Session) : Type 0 where
+  pub free-zero : isFree s ≡ true → s ≡ noSession
+  pub gathers : isFree s ≡ false → Gathering s
+
+-- the sessions: 8 slots, and a source has at most one
+pub record SessionsKept (l : List Session) : Type 0 where
+  pub places : length l ≡ sessionSlots
+  pub apart : SessionsApart l
+  pub each : (i : ℕ) → i < sessionSlots → Held (sessionAt l i)
+
 pub record Good (r : Receiver) : Type 0 where
   -- keys, addresses and IV Index are as setup allows
   pub node-made : WellMade (r .node)
@@ -40,14 +51,7 @@ pub record Good (r : Receiver) : Type 0 where
   pub cache-places : length (r .cache .entries) ≡ cacheEntries
   -- replay list: 32 entries, of a source at most one
   pub replay-kept : ReplayKept (r .replay)
-  -- sessions: 8
-  pub session-places : length (r .sessions) ≡ sessionSlots
-  -- a source has at most one
-  pub one-session : SessionsApart (r .sessions)
-  -- a freed session slot is zeroed
-  pub free-zero : (i : ℕ) → i < sessionSlots → isFree (sessionAt (r .sessions) i) ≡ true → sessionAt (r .sessions) i ≡ noSession
-  -- each other one gathers a message
-  pub gathering : (i : ℕ) → i < sessionSlots → isFree (sessionAt (r .sessions) i) ≡ false → Gathering (sessionAt (r .sessions) i)
+  pub sessions-kept : SessionsKept (r .sessions)
 
 -- true after setup
 abbrev pub GoodFresh : Type 0

@@ -42,10 +42,10 @@ use Rattle.sending.specs.Transmission.{transmitted}
 module _ (node : Node) (key : MessageKey) where
   module _ (i : ℕ) (k : key ≡ Application i) where
     pub used-application :
-        i < 4 → record { akf = true; aid = applicationKeyAt (node .appkeys) i .aid; key = applicationKeyAt (node .appkeys) i .key } ≡ keyed node key
+        i < applicationKeyPlaces → record { akf = true; aid = applicationKeyAt (node .appkeys) i .aid; key = applicationKeyAt (node .appkeys) i .key } ≡ keyed node key
     used-application h = rw (k, lt-ltb i applicationKeyPlaces h)
 
-    pub used-past : 4 ≤ i → record { akf = true; aid = 0; key = replicate 16 0 } ≡ keyed node key
+    pub used-past : applicationKeyPlaces ≤ i → record { akf = true; aid = 0; key = replicate 16 0 } ≡ keyed node key
     used-past h = rw (k, le-ltb i applicationKeyPlaces h)
 
   pub used-device : key ≡ Device → record { akf = false; aid = 0; key = node .device } ≡ keyed node key
@@ -53,10 +53,10 @@ module _ (node : Node) (key : MessageKey) where
 
   module _ (q : Request) where
     module _ (i : ℕ) (k : key ≡ Application i) where
-      pub key-past : 4 ≤ i → false ≡ keyAllowed node q key
+      pub key-past : applicationKeyPlaces ≤ i → false ≡ keyAllowed node q key
       key-past h = rw (k, le-ltb i (min (node .applications) applicationKeyPlaces) (omega arith))
 
-      module _ (h : i < 4) where
+      module _ (h : i < applicationKeyPlaces) where
         pub key-absent : node .applications ≤ i → false ≡ keyAllowed node q key
         key-absent n = rw (k, le-ltb i (min (node .applications) applicationKeyPlaces) (omega arith))
 
@@ -182,10 +182,6 @@ module _ (ctl : Bool) (len : ℕ) where
   cast-twelve h t = let m : len ≤ messageOctets = rw t at h in omega arith
 
 pub ruleset segments-rules = (segments-none, segments-eight, segments-twelve)
-
--- an octet, and octets behind it, in sixteen zeros
-pub octets-behind : (first : ℕ) (l : List ℕ) → length l ≤ 15 → first ∷ onto l (replicate 15 0) ≡ padded 16 (first ∷ l)
-octets-behind first l h = ap (λ (z : List ℕ). first ∷ z) (onto-zeros 15 l h)
 
 -- what securing leaves where there is room
 secured-onto :

@@ -78,11 +78,11 @@ module _ (r : Receiver) (network src : ℕ) (buf : List ℕ) (s : Spoken) where
   ack-short h es = rw (lt-ltb (length buf) pduOctets h, es)
 
   module _ (h : pduOctets ≤ length buf) where
-    pub ack-past : 4 ≤ network → s ≡ refusedAt r refusal.OutsideRules → lent s buf ≡ acknowledging r network src buf
+    pub ack-past : networkKeyPlaces ≤ network → s ≡ refusedAt r refusal.OutsideRules → lent s buf ≡ acknowledging r network src buf
     unfolding acknowledging
     ack-past g es = rw (le-ltb (length buf) pduOctets h, le-ltb network (min (r .node .networks) networkKeyPlaces) (omega arith), es)
 
-    module _ (g : network < 4) where
+    module _ (g : network < networkKeyPlaces) where
       pub ack-absent : r .node .networks ≤ network → s ≡ refusedAt r refusal.OutsideRules → lent s buf ≡ acknowledging r network src buf
       unfolding acknowledging
       ack-absent k es = rw (le-ltb (length buf) pduOctets h, le-ltb network (min (r .node .networks) networkKeyPlaces) (omega arith), es)
@@ -96,7 +96,7 @@ module _ (r : Receiver) (network src : ℕ) (buf : List ℕ) (s : Spoken) where
         ack-not-unicast t es = rw (le-ltb (length buf) pduOctets h, lt-ltb network (min (r .node .networks) networkKeyPlaces) here, ← ec, ← eu, not-true u t, es)
 
         module _ (tu : not u ≡ false) (element : ℕ) (el : element ≡ elementOf (r .node) (c .dst)) where
-          pub ack-no-element : 8 ≤ element → s ≡ refusedAt r refusal.OutsideRules → lent s buf ≡ acknowledging r network src buf
+          pub ack-no-element : elementPlaces ≤ element → s ≡ refusedAt r refusal.OutsideRules → lent s buf ≡ acknowledging r network src buf
           unfolding acknowledging
           ack-no-element m es =
               rw (le-ltb (length buf) pduOctets h, lt-ltb network (min (r .node .networks) networkKeyPlaces) here, ← ec, ← eu, not-false u tu, ← el, le-ltb element elementPlaces m, es)

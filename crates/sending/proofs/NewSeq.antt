@@ -15,7 +15,7 @@ use Rattle.common.proofs.Tests.{by-test, by-choice}
 use Rattle.network.specs.declared.header.Header.{Header}
 use Rattle.network.specs.declared.sealing.Answer as sealing-answer
 use Rattle.network.specs.declared.sealing.Answer.the-variants as sealed
-use Rattle.network.specs.Candidates.{keyAt}
+use Rattle.network.specs.Candidates.{networkKeyPlaces, keyAt}
 use Rattle.network.specs.Sealing.{sealing}
 use Rattle.receiver.specs.declared.state.Receiver.{Receiver}
 use Rattle.sending.specs.declared.transmission.Transmission.{Transmission}
@@ -40,7 +40,7 @@ sides r element h buf =
     let P : Lent Transmitted → Type 0 = λ t. Sides r element (t .answer) in
     let s = sealing (keyAt (r .node .materials) (h .key)) (stamped r element h) buf in
     by-choice P (ltb 0xFFFFFF (nextSeq r element)) (λ t. inr (refl, refl))
-    (λ t. by-choice P (ltb (h .key) 4) (λ u. sides-sealed (s .answer) r element) (λ u. inr (refl, refl)))
+    (λ t. by-choice P (ltb (h .key) networkKeyPlaces) (λ u. sides-sealed (s .answer) r element) (λ u. inr (refl, refl)))
 
 -- ---- what is written is the element's own
 next-own : (r : Receiver) (element : ℕ) → element < length (r .next) → nextSeq (withNext r element) element ≡ nextSeq r element + 1
@@ -118,7 +118,7 @@ module _ (r : Receiver) (element : ℕ) (h : Header) (buf : List ℕ) (len : ℕ
   made-by =
       by-choice Made (ltb 0xFFFFFF (nextSeq r element)) (λ t e. absurd (false≢true (ap isSent e)))
       (λ t.
-      by-choice Made (ltb (h .key) 4)
+      by-choice Made (ltb (h .key) networkKeyPlaces)
       (λ u e. (
         ltb-false 0xFFFFFF (nextSeq r element) t,
         ap (λ (a : sealing-answer.Answer). lent a (sealing-made .buffer)) (sealed-of (sealing-made .answer) r element len e),

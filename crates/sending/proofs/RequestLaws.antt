@@ -21,7 +21,7 @@ pub ttl-named : (t : Ttl) (n : ℕ) → t ≡ Named n → (n ≡ 1 → ⊥) → 
 ttl-named t n k h = rw (k, ne-eqb n 1 h)
 
 module _ (node : Node) (q : Request) where
-  pub request-element-high : 8 ≤ q .element → false ≡ requestAllowed node q
+  pub request-element-high : elementPlaces ≤ q .element → false ≡ requestAllowed node q
   unfolding requestAllowed
   request-element-high h = simp (le-ltb (q .element) (min (node .elements) elementPlaces) (omega arith))
 
@@ -31,12 +31,12 @@ module _ (node : Node) (q : Request) where
     request-no-element h = simp (le-ltb (q .element) (min (node .elements) elementPlaces) (omega arith))
 
     module _ (f : q .element < node .elements) where
-      pub request-network-high : 4 ≤ q .network → false ≡ requestAllowed node q
+      pub request-network-high : networkKeyPlaces ≤ q .network → false ≡ requestAllowed node q
       unfolding requestAllowed
       request-network-high h =
           simp (lt-ltb (q .element) (min (node .elements) elementPlaces) (omega arith), le-ltb (q .network) (min (node .networks) networkKeyPlaces) (omega arith))
 
-      module _ (g : q .network < 4) where
+      module _ (g : q .network < networkKeyPlaces) where
         pub request-no-network : node .networks ≤ q .network → false ≡ requestAllowed node q
         unfolding requestAllowed
         request-no-network h =

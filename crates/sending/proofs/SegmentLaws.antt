@@ -192,7 +192,7 @@ module _ (node : Node) (a : ℕ) (b : Bool) (e : b ≡ isLocal node a) where
   unfolding elementOf
   element-here t = rw (← e, t)
 
-  pub element-none : b ≡ false → 8 ≡ elementOf node a
+  pub element-none : b ≡ false → elementPlaces ≡ elementOf node a
   unfolding elementOf
   element-none t = rw (← e, t)
 
@@ -240,7 +240,7 @@ module _ (r : Receiver) (n : ℕ) (buf : List ℕ) where
   send-short h s es = rw (lt-ltb (length buf) pduOctets h, es)
 
   module _ (h : pduOctets ≤ length buf) (element : ℕ) (ee : element ≡ elementOf (r .node) (r .out .src)) where
-    pub send-no-element : 8 ≤ element → (s : Spoken) → s ≡ refusedAt r refusal.OutsideRules → lent s buf ≡ sendingSegment r n buf
+    pub send-no-element : elementPlaces ≤ element → (s : Spoken) → s ≡ refusedAt r refusal.OutsideRules → lent s buf ≡ sendingSegment r n buf
     unfolding sendingSegment
     send-no-element k s es = rw (le-ltb (length buf) pduOctets h, ← ee, le-ltb element elementPlaces k, es)
 

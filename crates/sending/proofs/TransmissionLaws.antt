@@ -8,7 +8,7 @@ use Rattle.common.specs.Lent.{lent}
 use Rattle.network.specs.declared.header.Header.{Header}
 use Rattle.network.specs.declared.sealing.Answer as sealing-answer
 use Rattle.network.specs.declared.sealing.Answer.the-variants as sealed
-use Rattle.network.specs.Candidates.{keyAt}
+use Rattle.network.specs.Candidates.{networkKeyPlaces, keyAt}
 use Rattle.network.specs.Sealing.{sealing}
 use Rattle.memory.specs.declared.outgoing.Outgoing.{Outgoing}
 use Rattle.memory.specs.Outgoing.{noOutgoing}
@@ -31,25 +31,25 @@ module _ (r : Receiver) (element : ℕ) (h : Header) (buf : List ℕ) where
   transmit-no-seq n = rw (lt-ltb 0xFFFFFF (nextSeq r element) n)
 
   module _ (n : nextSeq r element ≤ 0xFFFFFF) where
-    pub transmit-no-key : 4 ≤ h .key → lent (noTransmission Unsealed r) buf ≡ transmitted r element h buf
+    pub transmit-no-key : networkKeyPlaces ≤ h .key → lent (noTransmission Unsealed r) buf ≡ transmitted r element h buf
     unfolding transmitted
-    transmit-no-key k = rw (le-ltb 0xFFFFFF (nextSeq r element) n, le-ltb (h .key) 4 k)
+    transmit-no-key k = rw (le-ltb 0xFFFFFF (nextSeq r element) n, le-ltb (h .key) networkKeyPlaces k)
 
-    module _ (k : h .key < 4) (s : Header) (es : s ≡ stamped r element h) (a : sealing-answer.Answer) (left : List ℕ)
+    module _ (k : h .key < networkKeyPlaces) (s : Header) (es : s ≡ stamped r element h) (a : sealing-answer.Answer) (left : List ℕ)
         (ea : lent a left ≡ sealing (keyAt (r .node .materials) (h .key)) s buf) where
       pub transmit-sent :
           (len : ℕ) → a ≡ sealed.Sealed len → (q : Receiver) → q ≡ withNext r element
           → lent (record { answer = Sent len; receiver = q }) left ≡ transmitted r element h buf
       unfolding transmitted sentAs
-      transmit-sent len c q eq = rw (le-ltb 0xFFFFFF (nextSeq r element) n, lt-ltb (h .key) 4 k, ← es, ← ea, c, eq)
+      transmit-sent len c q eq = rw (le-ltb 0xFFFFFF (nextSeq r element) n, lt-ltb (h .key) networkKeyPlaces k, ← es, ← ea, c, eq)
 
       pub transmit-outside : a ≡ sealed.OutsideRules → lent (noTransmission Unsealed r) left ≡ transmitted r element h buf
       unfolding transmitted sentAs
-      transmit-outside c = rw (le-ltb 0xFFFFFF (nextSeq r element) n, lt-ltb (h .key) 4 k, ← es, ← ea, c)
+      transmit-outside c = rw (le-ltb 0xFFFFFF (nextSeq r element) n, lt-ltb (h .key) networkKeyPlaces k, ← es, ← ea, c)
 
       pub transmit-short : a ≡ sealed.ShortBuffer → lent (noTransmission Unsealed r) left ≡ transmitted r element h buf
       unfolding transmitted sentAs
-      transmit-short c = rw (le-ltb 0xFFFFFF (nextSeq r element) n, lt-ltb (h .key) 4 k, ← es, ← ea, c)
+      transmit-short c = rw (le-ltb 0xFFFFFF (nextSeq r element) n, lt-ltb (h .key) networkKeyPlaces k, ← es, ← ea, c)
 
 pub ruleset transmit-rules = (transmit-no-seq, transmit-no-key, transmit-sent, transmit-outside, transmit-short)
 

@@ -45,7 +45,7 @@ module _ (node : Node) (made : WellMade node) where
     unfolding elementOf
     element-back = let a = address-is in rw address-local (omega arith)
 
-  pub element-low : (a : ℕ) → isLocal node a ≡ true → elementOf node a < 8
+  pub element-low : (a : ℕ) → isLocal node a ≡ true → elementOf node a < elementPlaces
   unfolding elementOf
   element-low a t = let b = local-bounds node a t .1 in let f = local-bounds node a t .0 in rw t (omega arith)
 

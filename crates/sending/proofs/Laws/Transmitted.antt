@@ -20,7 +20,7 @@ use Rattle.keys.specs.declared.NetworkKeys.{NetworkKeys}
 use Rattle.network.specs.declared.header.Header.{Header}
 use Rattle.network.specs.declared.sealing.Answer as sealing-answer
 use Rattle.network.specs.declared.sealing.Answer.the-variants as sealed
-use Rattle.network.specs.Candidates.{keyAt}
+use Rattle.network.specs.Candidates.{networkKeyPlaces, keyAt}
 use Rattle.network.specs.Pdu.{pduOctets, pduOf}
 use Rattle.network.specs.Sealing.{sealable, sealing}
 use Rattle.memory.specs.declared.outgoing.Outgoing.{Outgoing}
@@ -64,7 +64,7 @@ pduBy r element h = pduOf (keyAt (r .node .materials) (h .key)) (stamped r eleme
 -- an SEQ is left, the key has a place, the buffer is long enough, and the PDU can be sealed
 pub record Sends (r : Receiver) (element : ℕ) (h : Header) (buf : List ℕ) : Type 0 where
   pub seq-left : nextSeq r element ≤ 0xFFFFFF
-  pub key-there : h .key < 4
+  pub key-there : h .key < networkKeyPlaces
   pub wide : pduOctets ≤ length buf
   pub can : sealable (keyAt (r .node .materials) (h .key)) (stamped r element h) ≡ true
 
@@ -83,7 +83,7 @@ module _ (r : Receiver) (element : ℕ) (h : Header) (buf : List ℕ) where
 
     transmitted-is : transmitted r element h buf ≡ lent (record { answer = Sent (length pdu); receiver = used r element }) (onto pdu buf)
     unfolding transmitted sentAs withNext
-    transmitted-is = rw (le-ltb 0xFFFFFF (nextSeq r element) (s .seq-left), lt-ltb (h .key) 4 (s .key-there), sealing-is) refl
+    transmitted-is = rw (le-ltb 0xFFFFFF (nextSeq r element) (s .seq-left), lt-ltb (h .key) networkKeyPlaces (s .key-there), sealing-is) refl
 
     pub saying-is : saying r element h buf ≡ lent (record { answer = answer.Sent (length pdu); receiver = used r element }) (onto pdu buf)
     unfolding spoken
@@ -97,11 +97,11 @@ module _ (r : Receiver) (element : ℕ) (h : Header) (buf : List ℕ) where
   by-transmitted P none unsealed sent =
       let Q : Lent sealing-answer.Answer → Type 0 = λ s. P (lent (sentAs (s .answer) r element) (s .buffer)) in
       by-choice P (ltb 0xFFFFFF (nextSeq r element)) (λ _. none)
-      (λ t. by-choice P (ltb (h .key) 4)
+      (λ t. by-choice P (ltb (h .key) networkKeyPlaces)
       (λ u. by-choice Q (ltb (length buf) pduOctets) (λ _. unsealed)
       (λ v. by-choice Q (sealable key (stamped r element h))
       (λ c. sent
-      (record { seq-left = ltb-false 0xFFFFFF (nextSeq r element) t; key-there = ltb-true (h .key) 4 u; wide = ltb-false (length buf) pduOctets v; can = c }))
+      (record { seq-left = ltb-false 0xFFFFFF (nextSeq r element) t; key-there = ltb-true (h .key) networkKeyPlaces u; wide = ltb-false (length buf) pduOctets v; can = c }))
       (λ _. unsealed)))
       (λ _. unsealed))
 

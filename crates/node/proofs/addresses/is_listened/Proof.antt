@@ -8,15 +8,15 @@ use borrow.Author.Tests.{lt-ltb, le-ltb, ltb-true, ltb-false, eq-eqb, ne-eqb}
 use lib.Dec.{eqb}
 use lib.ListN.{length}
 use Rattle.common.proofs.Search.{NoneBefore, first-start, first-on, first-below, first-not-below}
-use Rattle.node.specs.Addresses.{listens}
+use Rattle.node.specs.Addresses.{groupPlaces, listens}
 use Rattle.node.proofs.addresses.is_listened.Statement.{statement}
 use Rattle.node.proofs.addresses.is_listened.Tie as tie
 
 abbrev Inv-loop : tie.InvT-loop
-Inv-loop node address groups i₀ i = (length groups ≡ 8) × NoneBefore (λ g. eqb g address) groups i
+Inv-loop node address groups i₀ i = (length groups ≡ groupPlaces) × NoneBefore (λ g. eqb g address) groups i
 
 abbrev μ-loop : tie.MeasureT-loop
-μ-loop node address groups i₀ i = 8 - i
+μ-loop node address groups i₀ i = groupPlaces - i
 
 loop-holds : tie.Need-loop-holds Inv-loop μ-loop
 loop-holds c = let a = c .before .args in (search needs, first-start (λ g. eqb g (a .address)) (a .node .groups))

@@ -13,14 +13,14 @@ use Rattle.node.proofs.setup.groups_valid.Tie as tie
 use Rattle.node.specs.Addresses.{groupPlaces}
 
 abbrev Inv-loop : tie.InvT-loop
-Inv-loop s groups i₀ i = (length groups ≡ 8) × EachBefore isGroup groups i
+Inv-loop s groups i₀ i = (length groups ≡ groupPlaces) × EachBefore isGroup groups i
 
 abbrev μ-loop : tie.MeasureT-loop
 μ-loop s groups i₀ i = s .listened - i
 
 returns : tie.Need-returns Inv-loop μ-loop
 unfolding groupsValid
-returns c = simp (lt-leb _ 8 (c .if1 .taken))
+returns c = simp (lt-leb _ groupPlaces (c .if1 .taken))
 
 loop-holds : tie.Need-loop-holds Inv-loop μ-loop
 loop-holds c = (search needs, every-start)

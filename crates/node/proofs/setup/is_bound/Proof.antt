@@ -8,6 +8,7 @@ use borrow.Author.Tests.{lt-ltb, le-ltb}
 use lib.Dec.{ltb}
 use lib.ListN.{length}
 use Rattle.common.proofs.Lists.{length-mapped}
+use Rattle.transport.specs.Securing.{applicationKeyPlaces}
 use Rattle.node.specs.declared.setup.BoundKey.{BoundKey}
 use Rattle.node.specs.Setup.{boundWithin}
 use Rattle.node.proofs.EveryLaws.{EachBefore, every-start, every-on, every-fails, every-end}
@@ -15,7 +16,7 @@ use Rattle.node.proofs.setup.is_bound.Statement.{statement}
 use Rattle.node.proofs.setup.is_bound.Tie as tie
 
 abbrev Inv-loop : tie.InvT-loop
-Inv-loop s keys i₀ i = (length keys ≡ 4) × EachBefore (λ (b : BoundKey). ltb (b .network) (s .networks)) keys i
+Inv-loop s keys i₀ i = (length keys ≡ applicationKeyPlaces) × EachBefore (λ (b : BoundKey). ltb (b .network) (s .networks)) keys i
 
 abbrev μ-loop : tie.MeasureT-loop
 μ-loop s keys i₀ i = s .applications - i

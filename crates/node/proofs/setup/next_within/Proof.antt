@@ -11,9 +11,10 @@ use Rattle.node.specs.Setup.{nextWithin}
 use Rattle.node.proofs.EveryLaws.{EachBefore, every-start, every-on, every-fails, every-end}
 use Rattle.node.proofs.setup.next_within.Statement.{statement}
 use Rattle.node.proofs.setup.next_within.Tie as tie
+use Rattle.node.specs.Addresses.{elementPlaces}
 
 abbrev Inv-loop : tie.InvT-loop
-Inv-loop s next i₀ i = (length next ≡ 8) × EachBefore (λ q. leb q 0x1000000) next i
+Inv-loop s next i₀ i = (length next ≡ elementPlaces) × EachBefore (λ q. leb q 0x1000000) next i
 
 abbrev μ-loop : tie.MeasureT-loop
 μ-loop s next i₀ i = s .elements - i
