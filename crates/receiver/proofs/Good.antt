@@ -8,6 +8,7 @@ use Prim.Native.Nat.{ℕ, _≤_, _<_}
 use native.Mathlib.Omega.{arith}
 use borrow.Author.Tests.{ne-eqb}
 use lib.ListN.{length-replicate, getD-replicate}
+use Rattle.common.specs.Paper.{numberOf}
 use Rattle.common.proofs.Tests.{by-test}
 use Rattle.network.specs.declared.header.Header.{Header}
 use Rattle.network.specs.declared.opening.Answer.{Answer}
@@ -23,6 +24,7 @@ use Rattle.node.specs.declared.addresses.Node.{Node}
 use Rattle.node.specs.Made.{WellMade, NextWell}
 use Rattle.node.specs.Setup.{making}
 use Rattle.node.proofs.SetupLaws.{makes-well}
+use Rattle.receiver.specs.declared.fresh.Answer as fresh-answer
 use Rattle.receiver.specs.declared.give_up.GivenUp.{GivenUp}
 use Rattle.receiver.specs.declared.state.Receiver.{Receiver}
 use Rattle.receiver.specs.Fresh.{paper, fresh, settingUp}
@@ -61,7 +63,7 @@ good-fresh s e =
     let m = making s in
     by-test (m .ok)
     (λ t. let w = makes-well s t in good-fresh-of (m .node) (m .next) (w .0) (w .1))
-    (λ t. let f : _≡_ {A = ℕ} 14 0 = ap paper (rw t at e) in absurd (omega arith))
+    (λ t. let f : _≡_ {A = ℕ} 14 0 = ap (λ (a : fresh-answer.Answer). numberOf (paper a)) (rw t at e) in absurd (omega arith))
 
 -- ---- hearing
 module _ (q : Receiver) (g : Good q) (h : Header) (c : Clear h) where

@@ -15,6 +15,7 @@ use native.Mathlib.Omega.{arith}
 use lib.ListN.{length, drop}
 use Rattle.common.specs.Choice.{if_then_else_}
 use Rattle.common.specs.Lent.{Lent, lent}
+use Rattle.common.specs.Paper.{numberOf}
 use Rattle.common.proofs.Tests.{by-choice}
 use Rattle.network.specs.declared.header.Header.{Header}
 use Rattle.network.specs.declared.opening.Answer.the-variants as network
@@ -101,7 +102,7 @@ module _ (q : Receiver) (h : Header) (msg : List ℕ) (room : messageOctets ≤ 
   -- ---- a message is opened, or no key opens it
   module _ (t : Opened → Taken) (opens : (key : MessageKey) (trials len : ℕ) (left : List ℕ) → P (lent (t (Message key trials len)) left))
       (none : (trials : ℕ) → P (lent (t (NotOpened trials)) msg)) where
-    by-opened : (o : Opened) (left : List ℕ) → (0 < paper o → left ≡ msg) → (o ≡ ShortBuffer → ⊥) → P (lent (t o) left)
+    by-opened : (o : Opened) (left : List ℕ) → (0 < numberOf (paper o) → left ≡ msg) → (o ≡ ShortBuffer → ⊥) → P (lent (t o) left)
     by-opened (Message key trials len) left e n = opens key trials len left
     by-opened (NotOpened trials) left e n = subst (λ (b : List ℕ). P (lent (t (NotOpened trials)) b)) (sym (e (omega arith))) (none trials)
     by-opened ShortBuffer left e n = absurd (n refl)
