@@ -68,6 +68,16 @@ module _ (c : Cache) (h : Header) where
         let upto = place-upto entriesKeyed noSeen (c .entries) (seenOf k) j old in
         inl (lt-ltb (place entriesKeyed noSeen (c .entries) (seenOf k)) cacheEntries (omega arith)))
 
+    -- the new one is seen
+    pub seen-new : (k : Header) → seenOf k ≡ seenOf h → seen (remembered c h) k ≡ true
+    unfolding seen remembered
+    seen-new k e =
+        let p = c .next % cacheEntries in
+        let l = set (c .entries) p (seenOf h) in
+        let here : getD l p noSeen ≡ seenOf k = getD-set-same (c .entries) p (seenOf h) noSeen (omega arith) ∙ sym e in
+        let upto = place-upto entriesKeyed noSeen l (seenOf k) p here in
+        lt-ltb (place entriesKeyed noSeen l (seenOf k)) cacheEntries (omega arith)
+
 -- an empty one has seen nothing of a source
 pub seen-none : (h : Header) → (h .src ≡ 0 → ⊥) → seen noCache h ≡ false
 unfolding seen

@@ -3,6 +3,7 @@
 --   headerSent                            the header of a transport PDU, as an element sends it
 --   whole-access, whole-control           a message that goes in one PDU is sent so
 --   segment-out                           and so is each segment of the message that is kept
+--   segment-unheard                       whatever of it is heard
 --   Keeps, keeps-access, keeps-control    what is kept of a message in segments
 --   envelope-is                           what the second nonce rests on
 use mathlib.Core.Bool.{Bool, true, false}
@@ -20,6 +21,7 @@ use Rattle.transport.specs.Segment.{messageOctets, accessOctet, controlOctet, f
 use Rattle.memory.specs.declared.outgoing.Outgoing.{Outgoing}
 use Rattle.memory.specs.declared.pair.Pair.{Pair}
 use Rattle.memory.specs.declared.session.Terms.{Terms}
+use Rattle.memory.specs.Outgoing.{withHeard}
 use Rattle.receiver.specs.declared.state.Receiver.{Receiver}
 use Rattle.sending.specs.declared.access.KeyUsed.{KeyUsed}
 use Rattle.sending.specs.declared.request.Request.{Request}
@@ -71,6 +73,11 @@ module _ (r : Receiver) (element : ℕ) where
       (segmentFront (t .first) (t .szmic) (o .auth .seq % 8192) segO (t .segn) ++ chunk (fullOctets (t .ctl)) (take (o .len) (o .bytes)) segO))
   unfolding stamped segmentHeader segmentPdu outgoingChunk
   segment-out o segO = refl
+
+-- what is heard of a message is no part of its segments
+pub segment-unheard : (o : Outgoing) (heard segO : ℕ) → segmentHeader (withHeard o heard) segO ≡ segmentHeader o segO
+unfolding segmentHeader segmentPdu outgoingChunk
+segment-unheard o heard segO = refl
 
 -- ---- as it is kept
 -- whose it is, its SeqAuth, what its segments have in common, its TTL, its octets; nothing of it is acknowledged yet
