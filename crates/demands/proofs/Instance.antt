@@ -7,7 +7,7 @@ use mathlib.Core.Bool.{true, false, _||_}
 use mathlib.Core.List.{List, [], _∷_}
 use mathlib.Core.Logic.{inl, inr}
 use mathlib.Core.Path.{_≡_, refl, sym}
-use Prim.Native.Nat.{ℕ, zero, suc, _+_, _-_, _≤_, _<_}
+use Prim.Native.Nat.{ℕ, zero, suc, _+_, _≤_, _<_}
 use native.Mathlib.Omega.{arith}
 use borrow.Author.Tests.{eq-eqb}
 use lib.Dec.{eqb}
@@ -21,6 +21,7 @@ use Rattle.network.specs.Pdu.{pduOctets}
 use Rattle.transport.specs.declared.securing.MessageKey.the-variants.{Application}
 use Rattle.transport.specs.LeadsBack.{SegmentOf}
 use Rattle.transport.specs.Securing.{applicationKeyAt}
+use Rattle.transport.specs.Segment.{messageOctets}
 use Rattle.transport.proofs.SecureOpen.{secured-length}
 use Rattle.node.specs.Addresses.{isLocal, forNode}
 use Rattle.node.specs.Setup.{boundWithin, keysValid, nextWithin, elementsValid, groupsValid, indexValid, valid, networkKeyAt, materialAt, boundKeyAt, nextAt, nodeOf, nextOf, making}
@@ -34,10 +35,12 @@ use Rattle.sending.specs.Request.{requestAllowed}
 use Rattle.sending.specs.Transmission.{nextSeq}
 use Rattle.demands.specs.Interleaved as scene
 use Rattle.demands.specs.Interleaved.{Event, Segment, Foreign, Ask, start, Each, Spent, speechAt, Sent, Comes, Arrives, AllCome}
-use Rattle.demands.specs.ReadBack.{pdus, saidBy, Shared, OwnKeyFirst, Between, accepted}
+use Rattle.demands.specs.ReadBack.{goesWhole, saidBy, Piece, madeOf, Shared, OwnKeyFirst, Between, accepted, pduCount, restOf}
 use Rattle.demands.specs.Refusal.{noKeyOpens}
 use Rattle.demands.specs.Speech.{Access, keyOf, envelopeOf, octetsOf, lastOf, headerOf, Speakable}
-use Rattle.demands.proofs.GoesOut.{goes-out}
+use Rattle.demands.proofs.Begun.{last-most}
+use Rattle.demands.proofs.GoesOut.{shared-itself, goes-out}
+use Rattle.demands.proofs.InOrder.{in-order}
 use Rattle.demands.proofs.SpeechCut.{cut-is}
 
 pub ready : settingUp shed .answer ≡ Ready
@@ -243,9 +246,22 @@ request-accepted : accepted (start bench) toShed report ≡ true
 unfolding settingUp making valid keysValid boundWithin elementsValid nextWithin groupsValid indexValid first kindOf nodeOf boundKeyAt accessAllowed requestAllowed sizeAllowed isWhole
 request-accepted = refl
 
-numbers-left : nextSeq (start bench) 0 + 31 ≤ 0xFFFFFF
+-- the report goes in segments
+in-segments : goesWhole report ≡ false
+unfolding isWhole
+in-segments = refl
+
+none-sent : nextSeq (start bench) 0 ≡ 0
 unfolding settingUp making valid keysValid boundWithin elementsValid nextWithin groupsValid indexValid first kindOf nextOf nextAt
-numbers-left = omega arith
+none-sent = refl
+
+numbers-left : nextSeq (start bench) 0 + pduCount (start bench .node) (saidBy (start bench) toShed report) ≤ 0x1000000
+numbers-left =
+    let good = between .good in
+    let own = start bench .node in
+    let few = last-most (start bench) good own (shared-itself own) toShed report request-accepted in-segments (good .node-made) in
+    let none = none-sent in
+    rw in-segments (omega arith)
 
 each-of-all : {A : Type 0} (P : A → Type 0) → ((x : A) → P x) → (l : List A) → Each P l
 each-of-all P f [] = tt {0}
@@ -253,8 +269,10 @@ each-of-all P f (x ∷ l) = (f x, each-of-all P f l)
 
 pub sending-met : SendingMet
 sending-met =
-    record {
-      between = between;
-      sent = goes-out (start bench) shed toShed report (replicate pduOctets 0) between request-accepted (omega arith) numbers-left;
-      own-key-first = each-of-all (OwnKeyFirst node (saidBy (start bench) toShed report)) (λ pdu j h. absurd (omega arith)) (pdus (start bench) toShed report (replicate pduOctets 0));
-    }
+    let buf : List ℕ = replicate pduOctets 0 in
+    let sent = goes-out (start bench) toShed report buf (between .good) request-accepted (omega arith) numbers-left in
+    let none-before : (p : Piece) → OwnKeyFirst node (saidBy (start bench) toShed report) (p .pdu) = λ p j h. absurd (omega arith) in
+    in-order (start bench) shed toShed report buf buf (replicate messageOctets 0) between sent
+    (each-of-all (λ (p : Piece). OwnKeyFirst node (saidBy (start bench) toShed report) (p .pdu)) none-before
+    (madeOf (start bench) toShed report buf (restOf (start bench) toShed report buf)))
+    (omega arith) (omega arith)

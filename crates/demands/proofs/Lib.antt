@@ -21,10 +21,15 @@ pub mod SentLaws
 pub mod WholeHeard
 pub mod WholeSent
 pub mod SaidLaws
-pub mod SegmentsSent
+pub mod Still
+pub mod Pieces
+pub mod Begun
+pub mod ReadOnce
 pub mod SegmentsHeard
+pub mod WholeRead
 pub mod ReadBack
 pub mod GoesOut
+pub mod InOrder
 pub mod Instance
 pub mod Forwarding
 pub mod ForwardingMet

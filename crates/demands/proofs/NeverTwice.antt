@@ -152,6 +152,10 @@ speaks r (Acknowledge net src buf) =
     walk-acknowledge r buf (Speaking r e iv buf) (refused r e iv buf) net src (λ low. said r e iv buf low _ (acknowledged-under r e iv net src _))
 speaks r Stop = silent r 0 0 [] _ refl (stopped-next r)
 
+-- no next SEQ falls
+pub next-rises : (r : Receiver) (c : Call) (any : ℕ) → nextSeq r any ≤ nextSeq (step r c .receiver) any
+next-rises r c = speaks r c .rises
+
 pub carries : Carried
 carries r c m =
     let t = speaks r c .takes m in

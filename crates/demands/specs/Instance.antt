@@ -2,7 +2,7 @@
 --   shed                the receiver's setup: one network key, one application key, one element
 --   boxes, traffic      two boxes' messages, their segments interleaved, with repeats, a PDU that no key opens and a request to acknowledge
 --   SceneMet            all premises of demand 3 hold of it
---   SendingMet          all premises of demand 2 hold of a box's report to the shed
+--   SendingMet          all premises of demand 2 hold of a box's report to the shed, sent in full and heard in order
 --   ForwardingMet       all premises of `Forwards` hold of a PDU that one box sends another past the shed, and it is forwarded
 use mathlib.Core.Bool.{true, false}
 use mathlib.Core.List.{List, [], _∷_}
@@ -24,7 +24,7 @@ use Rattle.sending.specs.declared.request.Request.{Request}
 use Rattle.sending.specs.declared.request.Ttl.the-variants.{Unnamed}
 use Rattle.demands.specs.Forwarding.{Passes}
 use Rattle.demands.specs.Interleaved.{Event, Segment, Foreign, Ask, Arrival, start, nodeOf, Scene, AllCome}
-use Rattle.demands.specs.ReadBack.{Sending}
+use Rattle.demands.specs.ReadBack.{ToldInOrder}
 use Rattle.demands.specs.Speech.{Words, Access, Control, Speech}
 
 abbrev pub networkKey : List ℕ
@@ -90,7 +90,7 @@ abbrev pub report : Words
 report = Access (Application 0) true (replicate 20 0x5a)
 
 abbrev pub SendingMet : Type 0
-SendingMet = Sending (start bench) shed toShed report (replicate pduOctets 0)
+SendingMet = ToldInOrder (start bench) shed toShed report (replicate pduOctets 0) (replicate pduOctets 0) (replicate messageOctets 0)
 
 -- ---- forwarding
 -- one box sends another a control message of three parameters, TTL 5; the shed, whose relay is on, hears it
