@@ -33,17 +33,17 @@ use Rattle.sending.specs.Transmission.{nextSeq}
 use Rattle.sending.proofs.Laws.Allowed.{Asked, ttl-low, sendable-allowed}
 use Rattle.sending.proofs.Laws.Stamped.{address-local}
 use Rattle.demands.specs.Call.{Call, SendSegment, Outcome, leftSaid, step}
-use Rattle.demands.specs.ReadBack.{sayCall, goesWhole, saidBy, pduMade, Piece, pieces, segNAs, Shared}
+use Rattle.demands.specs.ReadBack.{sayCall, goesWhole, saidBy, pduMade, Piece, pieces, segNAs, Shared, accepted}
 use Rattle.demands.specs.Speech.{Words, Speech, isControl, lastOf, headerOf}
 use Rattle.demands.proofs.Invariant.{good-step}
 use Rattle.demands.proofs.Pieces.{Of, Laws, Holds, can-told, pdu-told, pieces-told, segment-goes}
 use Rattle.demands.proofs.SaidLaws.{request-of, fits-of, held, Kept, kept}
-use Rattle.demands.proofs.SentLaws.{StartedBy, allowedAs, keptAs, sendingAs, step-is}
+use Rattle.demands.proofs.SentLaws.{StartedBy, keptAs, sendingAs, step-is}
 use Rattle.demands.proofs.SpeechCut.{Cut, cut-fits, cut-low}
 use Rattle.demands.proofs.SpeechSegment.{cut-sealable}
 
 module _ (sender : Receiver) (good : Good sender) (node : Node) (shared : Shared (sender .node) node) (q : Request) (words : Words)
-    (a : allowedAs sender q words ≡ true) where
+    (a : accepted sender q words ≡ true) where
   abbrev s : Speech
   s = saidBy sender q words
 

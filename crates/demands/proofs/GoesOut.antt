@@ -45,12 +45,12 @@ use Rattle.sending.proofs.Laws.Stamped.{stamps}
 use Rattle.sending.proofs.Laws.Transmitted.{saying, Sends, saying-is, starting-is}
 use Rattle.demands.specs.Call.{Call, SendSegment, Outcome, madeBy, leftSaid, step, run, after}
 use Rattle.demands.specs.Interleaved.{Each}
-use Rattle.demands.specs.ReadBack.{goesWhole, saidBy, segNAs, Shared, restAs, accepted, pduCount, GoesOut, StaysKept, SegmentGoes}
+use Rattle.demands.specs.ReadBack.{sayCall, goesWhole, saidBy, segNAs, Shared, restAs, accepted, pduCount, GoesOut, StaysKept, SegmentGoes}
 use Rattle.demands.specs.Speech.{Words, Access, Control, Speech, keyOf, envelopeOf, akfOf, aidOf, octetsOf, lastOf}
 use Rattle.demands.proofs.Begun.{there, ttl-fits, from-unicast, keeping, segn-is, HoldsIt, last-most, can-begun, goes-begun, raised-begun, out-begun, holds-begun, keeps-begun, last-begun}
 use Rattle.demands.proofs.Pieces.{header-is, key-number, key-is, leaves-out, raised, holds-more, holds-behind, kept-behind}
 use Rattle.demands.proofs.SaidLaws.{access-stamped, control-stamped, request-of}
-use Rattle.demands.proofs.SentLaws.{allowedAs, headerAs, keptAs, sendingAs, said-by, StartedBy, started-by, Way, Whole, Begun, way, step-is}
+use Rattle.demands.proofs.SentLaws.{headerAs, keptAs, sendingAs, said-by, StartedBy, started-by, Way, Whole, Begun, way, step-is}
 use Rattle.demands.proofs.SpeechCut.{cut-is}
 use Rattle.demands.proofs.WholeSent.{wholeHeader}
 
@@ -64,7 +64,7 @@ shared-itself node =
     record { networks-same = refl; materials-same = refl; applications-same = refl; appkeys-same = refl; device-same = refl; iv-same = refl }
 
 -- ---- a request that is allowed
-module _ (sender : Receiver) (good : Good sender) (q : Request) (words : Words) (buf : List ℕ) (a : allowedAs sender q words ≡ true) (wide : pduOctets ≤ length buf) where
+module _ (sender : Receiver) (good : Good sender) (q : Request) (words : Words) (buf : List ℕ) (a : accepted sender q words ≡ true) (wide : pduOctets ≤ length buf) where
   abbrev node : Node
   node = sender .node
 
@@ -251,3 +251,18 @@ segment-goes-out sender q words buf l n room good sent w kept last unheard wide 
     let e = step-is sender q words buf in
     let made = subst (λ (x : Outcome). x .made ≡ true) e sent in
     subst (Goes sender good q words buf l n room w wide) (sym e) (goes-way sender good q words buf l n room w wide (way sender q words buf made)) kept last unheard near left-seq
+
+-- ---- SegN, as the call that began a message answers it
+last-way :
+    (sender : Receiver) (good : Good sender) (q : Request) (words : Words) (buf : List ℕ) → goesWhole words ≡ false → Way sender q words (sendingAs sender q words buf)
+    → segNAs (leftSaid (sendingAs sender q words buf) .answer) ≡ lastOf (sender .node) (saidBy sender q words)
+last-way sender good q words buf w (Whole a v g) = absurd (true≢false (sym v ∙ w))
+last-way sender good q words buf w (Begun a v g) = last-begun sender good (sender .node) (shared-itself (sender .node)) q words a buf g
+
+pub last-answered :
+    (sender : Receiver) (q : Request) (words : Words) (buf : List ℕ) → Good sender → step sender (sayCall q words buf) .made ≡ true → goesWhole words ≡ false
+    → segNAs (step sender (sayCall q words buf) .answer) ≡ lastOf (sender .node) (saidBy sender q words)
+last-answered sender q words buf good sent w =
+    let e = step-is sender q words buf in
+    let By : Outcome → Type 0 = λ x. segNAs (x .answer) ≡ lastOf (sender .node) (saidBy sender q words) in
+    subst By (sym e) (last-way sender good q words buf w (way sender q words buf (subst (λ (x : Outcome). x .made ≡ true) e sent)))

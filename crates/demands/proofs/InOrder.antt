@@ -17,9 +17,9 @@ use Rattle.node.specs.declared.setup.Setup.{Setup}
 use Rattle.receiver.specs.declared.state.Receiver.{Receiver}
 use Rattle.sending.specs.declared.answer.Spoken.{Spoken}
 use Rattle.sending.specs.declared.request.Request.{Request}
-use Rattle.demands.specs.Call.{Outcome, leftSaid, run}
+use Rattle.demands.specs.Call.{Outcome, leftSaid, step, run}
 use Rattle.demands.specs.Interleaved.{nodeOf, Each}
-use Rattle.demands.specs.ReadBack.{saidBy, pduMade, Piece, piecesAs, madeOf, segNAs, Made, pieceAt, brings, OwnKeyFirst, Between, Hears, restAs, restOf, inOrder, InOrder}
+use Rattle.demands.specs.ReadBack.{sayCall, saidBy, pduMade, Piece, piecesAs, madeOf, segNAs, Made, pieceAt, brings, OwnKeyFirst, Between, Hears, restAs, outcomes, restOf, inOrder, InOrder}
 use Rattle.demands.specs.Speech.{Words, Speech}
 use Rattle.demands.proofs.Begun.{there, keeping, holds-begun, keeps-begun}
 use Rattle.demands.proofs.Pieces.{Row, row-more, row-made}
@@ -98,11 +98,18 @@ module _ (sender : Receiver) (setup : Setup) (q : Request) (words : Words) (buf 
       (rw (g .says) at e) in
       rw (g .says) (row-more _ _ 0 _ refl row)
 
+  -- places 0 to SegN
+  pub row-full :
+      Each (λ o. o .made ≡ true) (outcomes sender q words buf)
+      → Row (madeOf sender q words buf (restOf sender q words buf)) 0 (suc (segNAs (step sender (sayCall q words buf) .answer)))
+  row-full sent =
+      let e = step-is sender q words buf in
+      let made = subst (λ (x : Outcome). x .made ≡ true) e (sent .0) in
+      subst RowBy (sym e) (row-way (way sender q words buf made)) (sent .1)
+
 pub in-order : InOrder
 in-order sender setup q words buf fwd msg b sent own wide big =
-    let e = step-is sender q words buf in
-    let made = subst (λ (x : Outcome). x .made ≡ true) e (sent .0) in
-    let row = subst (RowBy sender setup q words buf b) (sym e) (row-way sender setup q words buf b (way sender q words buf made)) (sent .1) in
+    let row = row-full sender setup q words buf b sent in
     let node = nodeOf setup in
     let s = saidBy sender q words in
     let ps = madeOf sender q words buf (restOf sender q words buf) in

@@ -33,13 +33,13 @@ use Rattle.sending.proofs.Laws.Allowed.{whole-short}
 use Rattle.sending.proofs.Laws.Stamped.{stamps}
 use Rattle.demands.specs.Call.{Call, Said, Outcome, leftSaid}
 use Rattle.demands.specs.Interleaved.{nodeOf, Each}
-use Rattle.demands.specs.ReadBack.{goesWhole, saidBy, pduMade, Piece, pieces, piecesAs, segNAs, Hearing, Between, Hears, ReadInFull, ReadBack}
+use Rattle.demands.specs.ReadBack.{goesWhole, saidBy, pduMade, Piece, pieces, piecesAs, segNAs, Hearing, Between, Hears, ReadInFull, ReadBack, accepted}
 use Rattle.demands.specs.Speech.{Words, Access, Control, Speech, keyOf, akfOf, aidOf, envelopeOf, octetsOf, lastOf, Speakable}
 use Rattle.demands.proofs.Begun.{ttl-fits, from-unicast, laws-begun, last-begun}
 use Rattle.demands.proofs.ReadOnce.{read-once}
 use Rattle.demands.proofs.SaidLaws.{access-read, opcode-range, words-of, near, held, access-stamped, control-stamped}
 use Rattle.demands.proofs.SegmentsHeard.{each-read, each-within}
-use Rattle.demands.proofs.SentLaws.{SaidBy, StartedBy, allowedAs, headerAs, keptAs, sendingAs, Way, Whole, Begun, way, step-is}
+use Rattle.demands.proofs.SentLaws.{SaidBy, StartedBy, headerAs, keptAs, sendingAs, Way, Whole, Begun, way, step-is}
 use Rattle.demands.proofs.SpeechCut.{cut-is, last-low}
 use Rattle.demands.proofs.WholeRead.{Sendable, each-whole, whole-within}
 use Rattle.demands.proofs.WholeSent.{wholeHeader, Passes, Heard, formed, access-whole, control-whole}
@@ -72,7 +72,7 @@ module _ (sender : Receiver) (setup : Setup) (q : Request) (words : Words) (buf 
   ReadAs x = Read (madeAs x) (segNAs (x .answer))
 
   -- ---- in segments
-  module _ (a : allowedAs sender q words ≡ true) (w : goesWhole words ≡ false) (g : StartedBy sender (q .element) (keptAs sender q words) said) where
+  module _ (a : accepted sender q words ≡ true) (w : goesWhole words ≡ false) (g : StartedBy sender (q .element) (keptAs sender q words) said) where
     -- the speech is one that the receiver is to read
     speaks : Speakable node s
     speaks =
@@ -103,7 +103,7 @@ module _ (sender : Receiver) (setup : Setup) (q : Request) (words : Words) (buf 
         subst (λ (x : List Piece). Read x (segNAs (leftSaid said .answer))) (sym these) (subst (Read ps) (sym last) read-these)
 
   -- ---- whole
-  module _ (a : allowedAs sender q words ≡ true) (g : SaidBy sender (q .element) (headerAs sender q words) said) (ctl : Bool) (octet : ℕ) (body : List ℕ)
+  module _ (a : accepted sender q words ≡ true) (g : SaidBy sender (q .element) (headerAs sender q words) said) (ctl : Bool) (octet : ℕ) (body : List ℕ)
       (short : length (octet ∷ body) ≤ 16) (shape : stamped sender (q .element) (headerAs sender q words) ≡ wholeHeader s ctl ttl (octet ∷ body))
       (hands-up : (ready : settingUp setup .answer ≡ Ready) (t : ℕ) (fwd msg : List ℕ)
       → (let h = wholeHeader s ctl t (octet ∷ body) in Passes setup s h fwd msg → Heard setup ready s t fwd msg h)) where
@@ -150,7 +150,7 @@ module _ (sender : Receiver) (setup : Setup) (q : Request) (words : Words) (buf 
 -- ---- by the words
 module _ (sender : Receiver) (setup : Setup) (q : Request) (buf : List ℕ) (l : List Call) where
   read-whole :
-      (words : Words) (b : Between sender setup q words) → allowedAs sender q words ≡ true → goesWhole words ≡ true
+      (words : Words) (b : Between sender setup q words) → accepted sender q words ≡ true → goesWhole words ≡ true
       → SaidBy sender (q .element) (headerAs sender q words) (sendingAs sender q words buf)
       → ReadAs sender setup q words buf b l (leftSaid (sendingAs sender q words buf))
   read-whole (Access key true payload) b a w g = absurd (true≢false (whole-short true (length payload) w .0))

@@ -3,7 +3,7 @@
 --   Transmits      a header was sealed, with the element's next SEQ
 --   Way            whole, or begun
 --   way            each call that made a PDU went one of these ways
-use mathlib.Core.Bool.{Bool, true, false, false≢true}
+use mathlib.Core.Bool.{true, false, false≢true}
 use mathlib.Core.List.{List}
 use mathlib.Core.Path.{_≡_, refl}
 use Prim.Native.Nat.{ℕ}
@@ -28,7 +28,7 @@ use Rattle.sending.specs.Transmission.{sendingIv, stamped}
 use Rattle.sending.proofs.Laws.Calls.{accessHeader, walk-access, walk-control}
 use Rattle.sending.proofs.Laws.Transmitted.{used, saying, pduBy, Sends, by-saying, by-starting}
 use Rattle.demands.specs.Call.{madeBy, leftSaid, step}
-use Rattle.demands.specs.ReadBack.{sayCall, goesWhole}
+use Rattle.demands.specs.ReadBack.{sayCall, goesWhole, accepted}
 use Rattle.demands.specs.Speech.{Words, Access, Control}
 
 -- ---- a transmission
@@ -66,10 +66,6 @@ module _ (r : Receiver) (element : ℕ) (buf : List ℕ) where
 
 -- ---- the two ways
 module _ (r : Receiver) (q : Request) where
-  abbrev pub allowedAs : Words → Bool
-  allowedAs (Access key szmic payload) = access.accessAllowed r q key szmic (length payload)
-  allowedAs (Control code parameters) = control.controlAllowed r q code (length parameters)
-
   abbrev pub headerAs : Words → Header
   headerAs (Access key szmic payload) = accessHeader r q key szmic payload
   headerAs (Control code parameters) = control.wholeHeader (sendingIv (r .node)) q code parameters
@@ -83,8 +79,8 @@ module _ (r : Receiver) (q : Request) where
   sendingAs (Control code parameters) buf = control.sendingControl r q code parameters buf
 
   pub data Way (words : Words) (s : Lent Spoken) : Type 0 where
-    Whole : allowedAs words ≡ true → goesWhole words ≡ true → SaidBy r (q .element) (headerAs words) s → Way words s
-    Begun : allowedAs words ≡ true → goesWhole words ≡ false → StartedBy r (q .element) (keptAs words) s → Way words s
+    Whole : accepted r q words ≡ true → goesWhole words ≡ true → SaidBy r (q .element) (headerAs words) s → Way words s
+    Begun : accepted r q words ≡ true → goesWhole words ≡ false → StartedBy r (q .element) (keptAs words) s → Way words s
 
   pub way : (words : Words) (buf : List ℕ) → madeBy (sendingAs words buf .answer .answer) ≡ true → Way words (sendingAs words buf)
   way (Access key szmic payload) buf =

@@ -2,12 +2,12 @@
 --   shed                the receiver's setup: one network key, one application key, one element
 --   boxes, traffic      two boxes' messages, their segments interleaved, with repeats, a PDU that no key opens and a request to acknowledge
 --   SceneMet            all premises of demand 3 hold of it
---   SendingMet          all premises of demand 2 hold of a box's report to the shed, sent in full and heard in order
+--   SendingMet          all premises of demand 2 hold of a box's report to the shed, sent in full and heard out of order, with a repeat, a relay's copies and a PDU that no key opens
 --   ForwardingMet       all premises of `Forwards` hold of a PDU that one box sends another past the shed, and it is forwarded
 use mathlib.Core.Bool.{true, false}
 use mathlib.Core.List.{List, [], _∷_}
 use mathlib.Core.Path.{_≡_}
-use Prim.Native.Nat.{ℕ}
+use Prim.Native.Nat.{ℕ, _≤_}
 use lib.ListN.{replicate}
 use Rattle.common.specs.Lists.{padded, Octets}
 use Rattle.network.specs.declared.header.Header.{Header}
@@ -22,9 +22,10 @@ use Rattle.node.specs.Setup.{nothing, withNetworkKey, withApplicationKey, withD
 use Rattle.receiver.specs.Good.{Good}
 use Rattle.sending.specs.declared.request.Request.{Request}
 use Rattle.sending.specs.declared.request.Ttl.the-variants.{Unnamed}
+use Rattle.demands.specs.Call.{step}
 use Rattle.demands.specs.Forwarding.{Passes}
 use Rattle.demands.specs.Interleaved.{Event, Segment, Foreign, Ask, Arrival, start, nodeOf, Scene, AllCome}
-use Rattle.demands.specs.ReadBack.{ToldInOrder}
+use Rattle.demands.specs.ReadBack.{sayCall, madeOf, segNAs, Incoming, Made, Relayed, Unopened, Hearing, brings, Telling, restOf}
 use Rattle.demands.specs.Speech.{Words, Access, Control, Speech}
 
 abbrev pub networkKey : List ℕ
@@ -89,8 +90,22 @@ toShed = record { element = 0; dst = 0x0001; ttl = Unnamed; network = 0 }
 abbrev pub report : Words
 report = Access (Application 0) true (replicate 20 0x5a)
 
+abbrev pub lentPdu : List ℕ
+lentPdu = replicate pduOctets 0
+
+-- the shed hears its last segment first, a PDU that no key opens, segment 0 from a relay, the last once more, and segment 1
+abbrev pub hearing : Incoming → Hearing
+hearing w = record { what = w; forward = lentPdu; message = replicate messageOctets 0 }
+
+abbrev pub overheard : List Hearing
+overheard = hearing (Made 2) ∷ hearing (Unopened (0x68 ∷ [])) ∷ hearing (Relayed 0 6) ∷ hearing (Relayed 2 5) ∷ hearing (Made 1) ∷ []
+
 abbrev pub SendingMet : Type 0
-SendingMet = ToldInOrder (start bench) shed toShed report (replicate pduOctets 0) (replicate pduOctets 0) (replicate messageOctets 0)
+SendingMet =
+    (let calls = restOf (start bench) toShed report lentPdu in
+    Telling (start bench) shed toShed report lentPdu calls overheard
+    -- and each segment comes
+    × ((i : ℕ) → i ≤ segNAs (step (start bench) (sayCall toShed report lentPdu) .answer) → brings (madeOf (start bench) toShed report lentPdu calls) i overheard ≡ true))
 
 -- ---- forwarding
 -- one box sends another a control message of three parameters, TTL 5; the shed, whose relay is on, hears it
