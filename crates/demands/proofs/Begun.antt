@@ -33,7 +33,8 @@ use Rattle.sending.specs.Transmission.{nextSeq}
 use Rattle.sending.proofs.Laws.Allowed.{Asked, ttl-low, sendable-allowed}
 use Rattle.sending.proofs.Laws.Stamped.{address-local}
 use Rattle.demands.specs.Call.{Call, SendSegment, Outcome, leftSaid, step}
-use Rattle.demands.specs.ReadBack.{sayCall, goesWhole, saidBy, pduMade, Piece, pieces, segNAs, Shared, accepted}
+use Rattle.demands.specs.GoesOut.{accepted}
+use Rattle.demands.specs.ReadBack.{sayCall, goesWhole, saidBy, pduMade, Piece, pieces, segNAs, Shared}
 use Rattle.demands.specs.Speech.{Words, Speech, isControl, lastOf, headerOf}
 use Rattle.demands.proofs.Invariant.{good-step}
 use Rattle.demands.proofs.Pieces.{Of, Laws, Holds, can-told, pdu-told, pieces-told, segment-goes}

@@ -44,8 +44,9 @@ use Rattle.sending.proofs.Laws.Calls.{access-whole, access-begun, control-whole
 use Rattle.sending.proofs.Laws.Stamped.{stamps}
 use Rattle.sending.proofs.Laws.Transmitted.{saying, Sends, saying-is, starting-is}
 use Rattle.demands.specs.Call.{Call, SendSegment, Outcome, madeBy, leftSaid, step, run, after}
+use Rattle.demands.specs.GoesOut.{restAs, accepted, pduCount, GoesOut, StaysKept, SegmentGoes}
 use Rattle.demands.specs.Interleaved.{Each}
-use Rattle.demands.specs.ReadBack.{sayCall, goesWhole, saidBy, segNAs, Shared, restAs, accepted, pduCount, GoesOut, StaysKept, SegmentGoes}
+use Rattle.demands.specs.ReadBack.{sayCall, goesWhole, saidBy, segNAs, Shared}
 use Rattle.demands.specs.Speech.{Words, Access, Control, Speech, keyOf, envelopeOf, akfOf, aidOf, octetsOf, lastOf}
 use Rattle.demands.proofs.Begun.{there, ttl-fits, from-unicast, keeping, segn-is, HoldsIt, last-most, can-begun, goes-begun, raised-begun, out-begun, holds-begun, keeps-begun, last-begun}
 use Rattle.demands.proofs.Pieces.{header-is, key-number, key-is, leaves-out, raised, holds-more, holds-behind, kept-behind}

@@ -18,8 +18,10 @@ use Rattle.receiver.specs.declared.state.Receiver.{Receiver}
 use Rattle.sending.specs.declared.answer.Spoken.{Spoken}
 use Rattle.sending.specs.declared.request.Request.{Request}
 use Rattle.demands.specs.Call.{Outcome, leftSaid, step, run}
+use Rattle.demands.specs.GoesOut.{restAs, outcomes, restOf}
+use Rattle.demands.specs.InOrder.{inOrder, InOrder}
 use Rattle.demands.specs.Interleaved.{nodeOf, Each}
-use Rattle.demands.specs.ReadBack.{sayCall, saidBy, pduMade, Piece, piecesAs, madeOf, segNAs, Made, pieceAt, brings, OwnKeyFirst, Between, Hears, restAs, outcomes, restOf, inOrder, InOrder}
+use Rattle.demands.specs.ReadBack.{sayCall, saidBy, pduMade, Piece, piecesAs, madeOf, segNAs, Made, pieceAt, brings, OwnKeyFirst, Between, Hears}
 use Rattle.demands.specs.Speech.{Words, Speech}
 use Rattle.demands.proofs.Begun.{there, keeping, holds-begun, keeps-begun}
 use Rattle.demands.proofs.Pieces.{Row, row-more, row-made}

@@ -26,15 +26,16 @@ use Rattle.node.specs.Setup.{boundWithin, keysValid, nextWithin, elementsValid,
 use Rattle.node.specs.declared.addresses.Node.{Node}
 use Rattle.receiver.specs.declared.fresh.Answer.the-variants.{Ready}
 use Rattle.receiver.specs.Fresh.{settingUp}
-use Rattle.demands.specs.Instance.{shed, humidity, temperature, boxes, arrival, traffic, SceneMet, bench, toShed, report, lentPdu, hearing, overheard, SendingMet}
+use Rattle.demands.specs.Call.{step}
 use Rattle.receiver.proofs.Good.{good-fresh}
 use Rattle.sending.specs.Access.{isWhole, sizeAllowed, accessAllowed}
 use Rattle.sending.specs.Request.{requestAllowed}
 use Rattle.sending.specs.Transmission.{nextSeq}
-use Rattle.demands.specs.Call.{step}
+use Rattle.demands.specs.GoesOut.{outcomes, accepted, pduCount, restOf}
+use Rattle.demands.specs.Instance.{shed, humidity, temperature, boxes, arrival, traffic, SceneMet, bench, toShed, report, lentPdu, hearing, overheard, SendingMet}
 use Rattle.demands.specs.Interleaved as scene
 use Rattle.demands.specs.Interleaved.{Event, Segment, Foreign, Ask, start, Each, Spent, speechAt, Sent, Comes, Arrives, AllCome}
-use Rattle.demands.specs.ReadBack.{sayCall, goesWhole, saidBy, Piece, madeOf, segNAs, Incoming, Made, Relayed, Unopened, brings, Shared, Between, OneOf, ComesAs, Hears, outcomes, accepted, pduCount, restOf}
+use Rattle.demands.specs.ReadBack.{sayCall, goesWhole, saidBy, Piece, madeOf, segNAs, Incoming, Made, Relayed, Unopened, brings, Shared, Between, OneOf, ComesAs, Hears}
 use Rattle.demands.specs.Refusal.{noKeyOpens}
 use Rattle.demands.specs.Speech.{Access, Speech, keyOf, envelopeOf, octetsOf, lastOf, headerOf, Speakable}
 use Rattle.demands.proofs.Begun.{last-most}

@@ -41,8 +41,9 @@ use Rattle.sending.proofs.Laws.Calls.{walk-segment, segment-sent}
 use Rattle.sending.proofs.Laws.Stamped.{element-back, address-fixed, element-fixed}
 use Rattle.sending.proofs.Laws.Transmitted.{Sends, used-own, saying, saying-is}
 use Rattle.demands.specs.Call.{Call, Hear, GiveUp, SendAccess, SendControl, SendSegment, Acknowledge, Stop, madeBy, step, run, after}
+use Rattle.demands.specs.GoesOut.{StaysKept}
 use Rattle.demands.specs.Interleaved.{Each}
-use Rattle.demands.specs.ReadBack.{Shared, pduMade, Piece, piece, pieces, pieceAt, StaysKept}
+use Rattle.demands.specs.ReadBack.{Shared, pduMade, Piece, piece, pieces, pieceAt}
 use Rattle.demands.specs.Speech.{Speech, lastOf, headerOf, segmentPdu}
 use Rattle.demands.proofs.Invariant.{good-step}
 use Rattle.demands.proofs.NeverTwice.{next-rises}

@@ -32,8 +32,9 @@ use Rattle.sending.specs.Transmission.{stamped}
 use Rattle.sending.proofs.Laws.Allowed.{whole-short}
 use Rattle.sending.proofs.Laws.Stamped.{stamps}
 use Rattle.demands.specs.Call.{Call, Said, Outcome, leftSaid}
+use Rattle.demands.specs.GoesOut.{accepted}
 use Rattle.demands.specs.Interleaved.{nodeOf, Each}
-use Rattle.demands.specs.ReadBack.{goesWhole, saidBy, pduMade, Piece, pieces, piecesAs, segNAs, Hearing, Between, Hears, ReadInFull, ReadBack, accepted}
+use Rattle.demands.specs.ReadBack.{goesWhole, saidBy, pduMade, Piece, pieces, piecesAs, segNAs, Hearing, Between, Hears, ReadInFull, ReadBack}
 use Rattle.demands.specs.Speech.{Words, Access, Control, Speech, keyOf, akfOf, aidOf, envelopeOf, octetsOf, lastOf, Speakable}
 use Rattle.demands.proofs.Begun.{ttl-fits, from-unicast, laws-begun, last-begun}
 use Rattle.demands.proofs.ReadOnce.{read-once}

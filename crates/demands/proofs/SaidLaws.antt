@@ -37,7 +37,8 @@ use Rattle.sending.specs.Transmission.{sendingIv, addressOf, nextSeq, stamped}
 use Rattle.sending.proofs.Laws.Allowed.{Asked, AccessAllowed, access-allows, application-there, ControlAllowed, control-allows}
 use Rattle.sending.proofs.Laws.Shapes.{whole-access, whole-control, segment-out, keeps-access, keeps-control, envelope-is}
 use Rattle.sending.proofs.Laws.Stamped.{stamps, sending-near}
-use Rattle.demands.specs.ReadBack.{goesWhole, saidBy, Shared, OwnMessageFirst, accepted}
+use Rattle.demands.specs.GoesOut.{accepted}
+use Rattle.demands.specs.ReadBack.{goesWhole, saidBy, Shared, OwnMessageFirst}
 use Rattle.demands.specs.Speech.{Words, Access, Control, Speech, keyOf, aidOf, akfOf, envelopeOf, octetsOf, lastOf, segmentOf, headerOf, Fits, WordsRead}
 use Rattle.demands.proofs.SentLaws.{headerAs, keptAs}
 use Rattle.demands.proofs.SpeechCut.{WordsFit}

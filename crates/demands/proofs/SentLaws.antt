@@ -28,7 +28,8 @@ use Rattle.sending.specs.Transmission.{sendingIv, stamped}
 use Rattle.sending.proofs.Laws.Calls.{accessHeader, walk-access, walk-control}
 use Rattle.sending.proofs.Laws.Transmitted.{used, saying, pduBy, Sends, by-saying, by-starting}
 use Rattle.demands.specs.Call.{madeBy, leftSaid, step}
-use Rattle.demands.specs.ReadBack.{sayCall, goesWhole, accepted}
+use Rattle.demands.specs.GoesOut.{accepted}
+use Rattle.demands.specs.ReadBack.{sayCall, goesWhole}
 use Rattle.demands.specs.Speech.{Words, Access, Control}
 
 -- ---- a transmission

@@ -24,8 +24,9 @@ use Rattle.sending.specs.declared.request.Request.{Request}
 use Rattle.sending.specs.declared.request.Ttl.the-variants.{Unnamed}
 use Rattle.demands.specs.Call.{step}
 use Rattle.demands.specs.Forwarding.{Passes}
+use Rattle.demands.specs.GoesOut.{restOf}
 use Rattle.demands.specs.Interleaved.{Event, Segment, Foreign, Ask, Arrival, start, nodeOf, Scene, AllCome}
-use Rattle.demands.specs.ReadBack.{sayCall, madeOf, segNAs, Incoming, Made, Relayed, Unopened, Hearing, brings, Telling, restOf}
+use Rattle.demands.specs.ReadBack.{sayCall, madeOf, segNAs, Incoming, Made, Relayed, Unopened, Hearing, brings, Telling}
 use Rattle.demands.specs.Speech.{Words, Access, Control, Speech}
 
 abbrev pub networkKey : List ℕ

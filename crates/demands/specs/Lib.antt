@@ -7,6 +7,8 @@ pub mod NeverTwice
 pub mod Speech
 pub mod Interleaved
 pub mod ReadBack
+pub mod GoesOut
+pub mod InOrder
 pub mod Forwarding
 pub mod Instance
 pub mod Invariant

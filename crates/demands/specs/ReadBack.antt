@@ -6,18 +6,14 @@
 --   Hearing, hearCall             what the fresh receiver hears
 --   Shared, Between, Telling      the premises
 --   ReadBack                      the promise: what each hearing hands up, stores and counts, and that the message is handed up once
---   GoesOut                       a request that is accepted is sent in full
---   InOrder                       that schedule, heard in order, is one that `ReadBack` speaks of
---   SegmentGoes                   behind any calls that leave the message kept, each segment of it that is not heard yet can be made
 use mathlib.Core.Bool.{Bool, true, false, _||_}
 use mathlib.Core.List.{List, [], _∷_, _++_, map}
 use mathlib.Core.Path.{_≡_}
-use Prim.Native.Nat.{ℕ, suc, _+_, _≤_, _<_}
+use Prim.Native.Nat.{ℕ, _≤_, _<_}
 use lib.Dec.{eqb, leb}
 use lib.ListN.{length, getD, take}
 use Rattle.common.specs.Bits.{hasBit, withBit}
 use Rattle.common.specs.Choice.{if_then_else_}
-use Rattle.common.specs.Lists.{tabFrom}
 use Rattle.network.specs.declared.header.Header.{Header}
 use Rattle.network.specs.Candidates.{keyAt, opens}
 use Rattle.network.specs.Opening.{opening}
@@ -37,13 +33,12 @@ use Rattle.receiver.specs.Fresh.{settingUp}
 use Rattle.receiver.specs.Good.{Good}
 use Rattle.sending.specs.declared.answer.Answer.the-variants.{Sent, Started, Refused}
 use Rattle.sending.specs.declared.request.Request.{Request}
-use Rattle.sending.specs.Access.{isWhole, accessAllowed}
-use Rattle.sending.specs.Control.{controlAllowed}
+use Rattle.sending.specs.Access.{isWhole}
 use Rattle.sending.specs.Transmission.{sendingIv, addressOf, nextSeq}
-use Rattle.demands.specs.Call.{Call, Hear, GiveUp, SendAccess, SendControl, SendSegment, Acknowledge, Stop, Answer, Heard, Said, Ended, Outcome, step, run, after}
+use Rattle.demands.specs.Call.{Call, Hear, GiveUp, SendAccess, SendControl, SendSegment, Acknowledge, Stop, Answer, Heard, Said, Ended, Outcome, step, run}
 use Rattle.demands.specs.Interleaved.{start, nodeOf, isLastMissing, Each, handed, isStored}
 use Rattle.demands.specs.Refusal.{noKeyOpens}
-use Rattle.demands.specs.Speech.{Words, Access, Control, Speech, envelopeOf, octetsOf, lastOf, Handed, handUp, networkPlace, applicationPlace}
+use Rattle.demands.specs.Speech.{Words, Access, Control, Speech, envelopeOf, octetsOf, Handed, handUp, networkPlace, applicationPlace}
 
 -- ---- the sender
 -- the call that sends a message
@@ -269,76 +264,3 @@ ReadBack =
     (sender : Receiver) (setup : Setup) (q : Request) (words : Words) (buf : List ℕ) (l : List Call) (heard : List Hearing)
     → Telling sender setup q words buf l heard
     → ReadInFull setup (saidBy sender q words) (madeOf sender q words buf l) (segNAs (step sender (sayCall q words buf) .answer)) heard
-
--- ---- what sending accepts goes out in full
--- a message that was begun with segment 0 has segments 1 to SegN besides
-abbrev pub restAs : Answer → List ℕ → List Call
-restAs (Said (Sent len)) buf = []
-restAs (Said (Started len segN)) buf = tabFrom (λ n. SendSegment n buf) 1 segN
-restAs (Said (Refused n)) buf = []
-restAs (Heard a) buf = []
-restAs (Ended a) buf = []
-
-abbrev pub sentInFull : Receiver → Request → Words → List ℕ → List Call
-sentInFull sender q words buf = let c = sayCall q words buf in c ∷ restAs (step sender c .answer) buf
-
-abbrev pub outcomes : Receiver → Request → Words → List ℕ → List Outcome
-outcomes sender q words buf = run sender (sentInFull sender q words buf)
-
--- the request is within the rules
-abbrev pub accepted : Receiver → Request → Words → Bool
-accepted sender q (Access key szmic payload) = accessAllowed sender q key szmic (length payload)
-accepted sender q (Control opcode parameters) = controlAllowed sender q opcode (length parameters)
-
--- how many PDUs a message has: one, or one for each segment
-abbrev pub pduCount : Node → Speech → ℕ
-pduCount node s = if goesWhole (s .words) then 1 else lastOf node s + 1
-
--- with a buffer that is not refused 16, and a sequence number for each PDU
-abbrev pub GoesOut : Type 0
-GoesOut =
-    (sender : Receiver) (q : Request) (words : Words) (buf : List ℕ)
-    → Good sender → accepted sender q words ≡ true → pduOctets ≤ length buf
-    → nextSeq sender (q .element) + pduCount (sender .node) (saidBy sender q words) ≤ 0x1000000
-    → Each (λ o. o .made ≡ true) (outcomes sender q words buf)
-
--- ---- sent in full and heard in order: one of the schedules that `ReadBack` speaks of
--- places 0 to n, each once
-abbrev pub inOrder : ℕ → (fwd msg : List ℕ) → List Hearing
-inOrder n fwd msg = tabFrom (λ i. record { what = Made i; forward = fwd; message = msg }) 0 (suc n)
-
--- the calls behind the first
-abbrev pub restOf : Receiver → Request → Words → List ℕ → List Call
-restOf sender q words buf = restAs (step sender (sayCall q words buf) .answer) buf
-
--- the premises of `ReadBack` are met, and each segment comes
-pub record ToldInOrder (sender : Receiver) (setup : Setup) (q : Request) (words : Words) (buf fwd msg : List ℕ) : Type 0 where
-  pub telling :
-      Telling sender setup q words buf (restOf sender q words buf) (inOrder (segNAs (step sender (sayCall q words buf) .answer)) fwd msg)
-  pub each-comes :
-      (let segN = segNAs (step sender (sayCall q words buf) .answer) in
-      (i : ℕ) → i ≤ segN → brings (madeOf sender q words buf (restOf sender q words buf)) i (inOrder segN fwd msg) ≡ true)
-
-abbrev pub InOrder : Type 0
-InOrder =
-    (sender : Receiver) (setup : Setup) (q : Request) (words : Words) (buf fwd msg : List ℕ)
-    → Between sender setup q words → Each (λ o. o .made ≡ true) (outcomes sender q words buf)
-    → Each (λ p. OwnKeyFirst (nodeOf setup) (saidBy sender q words) (p .pdu)) (madeOf sender q words buf (restOf sender q words buf))
-    → pduOctets ≤ length fwd → messageOctets ≤ length msg
-    → ToldInOrder sender setup q words buf fwd msg
-
--- ---- any segment goes out while the message is kept
-abbrev pub StaysKept : Receiver → List Call → Type 0
-StaysKept r [] = r .out .src ≡ 0 → ⊥
-StaysKept r (c ∷ l) = (r .out .src ≡ 0 → ⊥) × StaysKept (step r c .receiver) l
-
--- one that is not heard yet, with a SEQ of 24 bits, at most 8,191 after that of segment 0
-abbrev pub SegmentGoes : Type 0
-SegmentGoes =
-    (sender : Receiver) (q : Request) (words : Words) (buf : List ℕ) (l : List Call) (n : ℕ) (room : List ℕ)
-    → Good sender
-    → (let o = step sender (sayCall q words buf) in
-    let r = after (o .receiver) l in
-    o .made ≡ true → goesWhole words ≡ false → StaysKept (o .receiver) l → n ≤ segNAs (o .answer) → hasBit (r .out .heard) n ≡ false → pduOctets ≤ length room
-    → nextSeq r (q .element) ≤ nextSeq sender (q .element) + 8191 → nextSeq r (q .element) ≤ 0xFFFFFF
-    → step r (SendSegment n room) .made ≡ true)
