@@ -70,7 +70,7 @@ has-with x i j low h =
     (λ t. has-with-other x i j (eqb-false j i t) ∙ h)
 
 -- a PDU that no key opens hands up nothing
-pub foreign-none : (r : Receiver) (pdu fwd msg : List ℕ) → noKeyOpens (opening (r .node .materials) (r .node .networks) (r .node .iv) pdu .answer) ≡ true
+foreign-none : (r : Receiver) (pdu fwd msg : List ℕ) → noKeyOpens (opening (r .node .materials) (r .node .networks) (r .node .iv) pdu .answer) ≡ true
     → handed (step r (Hear pdu fwd msg)) ≡ []
 foreign-none r pdu fwd msg t =
     let y = heard-unopened r fwd msg pdu (unopened (opening (r .node .materials) (r .node .networks) (r .node .iv) pdu .answer) t) in

@@ -33,16 +33,16 @@ use Rattle.receiver.specs.declared.answer.Refusal.the-variants.{Cached}
 use Rattle.receiver.specs.declared.fresh.Answer.the-variants.{Ready}
 use Rattle.receiver.specs.declared.state.Receiver.{Receiver}
 use Rattle.receiver.specs.Fresh.{settingUp}
+use Rattle.receiver.specs.Hearing as hear
 use Rattle.receiver.specs.Hearing.{outcome, refusedHeard}
 use Rattle.receiver.proofs.Laws.Fixed.{fixed-heard}
-use Rattle.receiver.proofs.Laws.Heard.{heard-again}
+use Rattle.receiver.proofs.Laws.Heard.{heard-unopened, heard-again}
 use Rattle.demands.specs.Call.{Hear, Outcome, leftHeard, step}
 use Rattle.demands.specs.Interleaved.{start, nodeOf, isLastMissing, Each, handed}
 use Rattle.demands.specs.ReadBack.{Piece, Incoming, Made, Relayed, Unopened, Hearing, pieceAt, withTtl, relayedWith, pduHeard, cameWith, OwnKeyFirst, ComesAs, Hears, Reads, ReadsAs, ReadsEach}
 use Rattle.demands.specs.Refusal.{noKeyOpens}
 use Rattle.demands.specs.Speech.{Speech, networkPlace}
-use Rattle.demands.proofs.ArrivalLaws.{foreign-none}
-use Rattle.demands.proofs.Refusal.{unopened-leaves}
+use Rattle.demands.proofs.Refusal.{unopened, unopened-leaves}
 use Rattle.demands.proofs.ReadOnce.{Within, AllWithin}
 use Rattle.demands.proofs.WholeSent.{wholeHeader, Passes, Heard}
 
@@ -59,6 +59,13 @@ ttl-sealable : (key : NetworkKeys) (h : Header) (t : ℕ) → t ≤ 127 → seal
 ttl-sealable key h t fits can =
     let w = within key h can in
     sealable-where key (withTtl h t) (w .nid-fits) fits (w .seq-fits) (w .allowed) (w .some-transport) (w .most-transport)
+
+-- a PDU that no key opens hands up nothing
+unopened-none : (r : Receiver) (pdu fwd msg : List ℕ) → noKeyOpens (opening (r .node .materials) (r .node .networks) (r .node .iv) pdu .answer) ≡ true
+    → handed (step r (Hear pdu fwd msg)) ≡ []
+unopened-none r pdu fwd msg t =
+    let y = heard-unopened r fwd msg pdu (unopened (opening (r .node .materials) (r .node .networks) (r .node .iv) pdu .answer) t) in
+    ap (λ (o : hear.Outcome). handed (leftHeard o)) (y .1 .leaves)
 
 module _ (setup : Setup) (s : Speech) (ctl : Bool) (body : List ℕ) (ttl : ℕ) (ttl-fits : ttl ≤ 127) where
   abbrev node : Node
@@ -180,7 +187,7 @@ module _ (setup : Setup) (s : Speech) (ctl : Bool) (body : List ℕ) (ttl : ℕ)
         → ReadsEach node s ps 0 r bits l → ReadsOn r bits fwd msg l (Unopened pdu)
     unopened-on r bits fwd msg l pdu same v rest =
         let none : noKeyOpens (opening (r .node .materials) (r .node .networks) (r .node .iv) pdu .answer) ≡ true = rw same v in
-        (foreign-none r pdu fwd msg none, subst (λ (q : Receiver). ReadsEach node s ps 0 q bits l) (sym (unopened-leaves r pdu fwd msg none .receiver-stays)) rest)
+        (unopened-none r pdu fwd msg none, subst (λ (q : Receiver). ReadsEach node s ps 0 q bits l) (sym (unopened-leaves r pdu fwd msg none .receiver-stays)) rest)
 
     -- of the PDU with some TTL it holds of what is heard
     by-copy : (r : Receiver) (bits : ℕ) (fwd msg : List ℕ) (l : List Hearing) (i : ℕ) (pdu : List ℕ) (c : Copy i pdu) → ReadsAll r bits fwd msg l 0 (pduWith (c .with-ttl))

@@ -112,6 +112,7 @@ segNAs (Heard a) = 0
 segNAs (Ended a) = 0
 
 -- ---- the fresh receiver
+-- what it hears
 pub data Incoming : Type 0 where
   -- the PDU at a place, from 0, of those made
   Made : (place : ℕ) → Incoming
@@ -126,6 +127,7 @@ pub record Hearing : Type 0 where
   pub forward : List ℕ
   pub message : List ℕ
 
+-- the PDU at a place of those made
 abbrev pub pieceAt : List Piece → ℕ → Piece
 pieceAt ps i = getD ps i (record { segment = 0; pdu = [] })
 
@@ -134,12 +136,13 @@ abbrev pub withTtl : Header → ℕ → Header
 withTtl h ttl =
     record { key = h .key; iv = h .iv; ctl = h .ctl; ttl = ttl; seq = h .seq; src = h .src; dst = h .dst; len = h .len; transport = h .transport }
 
--- relays open a PDU by the message's network key, and seal it again by the same
+-- relays open a PDU by the message's network key, and seal it again by the same, under the same IV Index
 abbrev pub relayedWith : Node → Speech → List ℕ → ℕ → List ℕ
 relayedWith node s pdu ttl =
     let key = keyAt (node .materials) (s .network) in
     pduOf key (withTtl (tried key (s .network) (s .auth .iv) pdu .header) ttl)
 
+-- the PDU that is heard, and the call that hears it
 abbrev pub pduHeard : Node → Speech → List Piece → Incoming → List ℕ
 pduHeard node s ps (Made i) = pieceAt ps i .pdu
 pduHeard node s ps (Relayed i ttl) = relayedWith node s (pieceAt ps i .pdu) ttl
@@ -149,7 +152,7 @@ abbrev pub hearCall : Node → Speech → List Piece → Hearing → Call
 hearCall node s ps h = Hear (pduHeard node s ps (h .what)) (h .forward) (h .message)
 
 -- ---- which segments have come
--- with these bits before
+-- a bit each, with these before
 abbrev pub cameWith : List Piece → ℕ → Incoming → ℕ
 cameWith ps bits (Made i) = withBit bits (pieceAt ps i .segment)
 cameWith ps bits (Relayed i ttl) = withBit bits (pieceAt ps i .segment)
@@ -199,20 +202,20 @@ pub record Between (sender : Receiver) (setup : Setup) (q : Request) (words : Wo
   pub dst-fits : q .dst < 65536
   pub own-message-first : OwnMessageFirst (nodeOf setup) (saidBy sender q words) words
 
--- the PDU at place i of those made is heard, as it was made or passed on
+-- this PDU, as it was made or passed on, is the one at place i; no network key tried earlier opens it
 pub record OneOf (node : Node) (s : Speech) (ps : List Piece) (i : ℕ) (pdu : List ℕ) : Type 0 where
   pub place-there : i < length ps
   pub own-key-first : OwnKeyFirst node s pdu
 
+-- it is one of those made, its TTL of 7 bits where relays passed it on, or no key opens it
 abbrev pub ComesAs : Node → Speech → List Piece → Incoming → Type 0
 ComesAs node s ps (Made i) = OneOf node s ps i (pieceAt ps i .pdu)
--- TTL has 7 bits
 ComesAs node s ps (Relayed i ttl) = OneOf node s ps i (relayedWith node s (pieceAt ps i .pdu) ttl) × (ttl ≤ 127)
 ComesAs node s ps (Unopened pdu) = noKeyOpens (opening (node .materials) (node .networks) (node .iv) pdu .answer) ≡ true
 
+-- and is heard with buffers that are not refused 16
 pub record Hears (node : Node) (s : Speech) (ps : List Piece) (h : Hearing) : Type 0 where
   pub comes : ComesAs node s ps (h .what)
-  -- the buffers are not refused 16
   pub room-forward : pduOctets ≤ length (h .forward)
   pub room-message : messageOctets ≤ length (h .message)
 
@@ -235,6 +238,7 @@ pub record Reads (node : Node) (s : Speech) (segN bits i : ℕ) (o : Outcome) : 
   pub counts :
       o .tried ≡ record { network = networkPlace node s; application = if isLastMissing bits i segN then applicationPlace node s (s .words) else 0 }
 
+-- what is heard, where these have come; a PDU that no key opens hands up nothing
 abbrev pub ReadsAs : Node → Speech → List Piece → ℕ → ℕ → Incoming → Outcome → Type 0
 ReadsAs node s ps segN bits (Made i) o = Reads node s segN bits (pieceAt ps i .segment) o
 ReadsAs node s ps segN bits (Relayed i ttl) o = Reads node s segN bits (pieceAt ps i .segment) o
@@ -252,6 +256,7 @@ abbrev pub allHanded : List Outcome → List Handed
 allHanded [] = []
 allHanded (o ∷ l) = handed o ++ allHanded l
 
+-- the message is read from these PDUs, heard by a fresh receiver
 pub record ReadInFull (setup : Setup) (s : Speech) (ps : List Piece) (segN : ℕ) (heard : List Hearing) : Type 0 where
   pub each : ReadsEach (nodeOf setup) s ps segN (start setup) 0 heard
   -- once each segment has come the message was handed up, once, and nothing else was
