@@ -24,6 +24,7 @@ pub mod SaidLaws
 pub mod Still
 pub mod Pieces
 pub mod Begun
+pub mod RelayLaws
 pub mod ReadOnce
 pub mod SegmentsHeard
 pub mod WholeRead

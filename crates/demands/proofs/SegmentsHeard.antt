@@ -1,18 +1,15 @@
 -- The PDUs made of a message in segments, heard in any order: a scene of demand 3 with one speaker, whatever TTL a relay left, so each is answered as demand 3 has it. Assumes nothing.
 --   each-read      what each hearing hands up, stores and counts
 --   each-within    none is a segment past SegN
-use mathlib.Core.Bool.{true, false, true≢false}
+use mathlib.Core.Bool.{false, true≢false}
 use mathlib.Core.List.{List, [], _∷_}
-use mathlib.Core.Path.{_≡_, refl, sym, ap, _∙_, subst}
+use mathlib.Core.Path.{_≡_, refl, sym, _∙_, subst}
 use Prim.Native.Nat.{ℕ, zero, suc, _≤_, _<_}
 use native.Mathlib.Omega.{arith}
 use lib.ListN.{length}
-use Rattle.network.specs.declared.trial.Trial.{Trial}
 use Rattle.network.specs.Candidates.{keyAt}
-use Rattle.network.specs.Pdu.{pduOctets, pduOf}
-use Rattle.network.specs.SealOpen.{placed}
-use Rattle.network.specs.Trial.{tried}
-use Rattle.network.proofs.Sealed.{within, tried-sealed}
+use Rattle.network.specs.Pdu.{pduOctets}
+use Rattle.network.proofs.Sealed.{within}
 use Rattle.transport.specs.Segment.{messageOctets}
 use Rattle.node.specs.declared.addresses.Node.{Node}
 use Rattle.node.specs.declared.setup.Setup.{Setup}
@@ -24,11 +21,12 @@ use Rattle.receiver.proofs.Good.{good-fresh}
 use Rattle.demands.specs.Call.{Hear, step}
 use Rattle.demands.specs.Interleaved as scene
 use Rattle.demands.specs.Interleaved.{Event, Segment, Foreign, Spent, start, nodeOf, speechAt, comeWith, Comes, Each}
-use Rattle.demands.specs.ReadBack.{goesWhole, Piece, Incoming, Made, Relayed, Unopened, Hearing, pieceAt, withTtl, relayedWith, pduHeard, hearCall, cameWith, OwnKeyFirst, ComesAs, Hears, Reads, ReadsAs, ReadsEach}
+use Rattle.demands.specs.ReadBack.{goesWhole, Piece, Incoming, Made, Relayed, Unopened, Hearing, pieceAt, relayedWith, pduHeard, hearCall, cameWith, OwnKeyFirst, ComesAs, Hears, Reads, ReadsAs, ReadsEach}
 use Rattle.demands.specs.Speech.{Speech, lastOf, headerOf, segmentPdu, Speakable}
 use Rattle.demands.proofs.ArrivalLaws.{Next, event-next}
 use Rattle.demands.proofs.Pieces.{Law, Laws, numberAt, place-law, spentOn, spent-is}
 use Rattle.demands.proofs.ReadOnce.{Within, AllWithin}
+use Rattle.demands.proofs.RelayLaws.{relayed-sealed}
 use Rattle.demands.proofs.SceneLaws.{Scenery, begins}
 use Rattle.demands.proofs.SpeechSegment.{formed}
 
@@ -66,12 +64,9 @@ module _ (setup : Setup) (ready : settingUp setup .answer ≡ Ready) (s : Speech
     relayed-is : (t : ℕ) → relayedWith node s (pieceAt ps i .pdu) t ≡ segmentPdu node s (segment i) (number i) t
     unfolding headerOf
     relayed-is t =
-        let key = keyAt (node .materials) (s .network) in
         let h = headerOf node s (segment i) (number i) ttl in
         let whole = formed node s speaks (segment i) (law .of .segment-there) (number i) ttl in
-        let back : tried key (s .network) (s .auth .iv) (pieceAt ps i .pdu) ≡ record { ok = true; header = placed (s .network) h } =
-        ap (tried key (s .network) (s .auth .iv)) (law .of .pdu-is) ∙ tried-sealed key (s .network) h (law .of .can) whole in
-        ap (λ (x : Trial). pduOf key (withTtl (x .header) t)) back
+        relayed-sealed node s h (pieceAt ps i .pdu) refl refl (law .of .pdu-is) (law .of .can) whole t
 
     sent-with : (t : ℕ) → t ≤ 127 → OwnKeyFirst node s (segmentPdu node s (segment i) (number i) t) → scene.Sent node one spent 0 (segment i) (number i) t
     unfolding headerOf

@@ -13,16 +13,15 @@ use Rattle.common.proofs.BitLaws.{has-none, with-of-set, with-of-clear, has-wit
 use Rattle.keys.specs.declared.NetworkKeys.{NetworkKeys}
 use Rattle.network.specs.declared.header.Header.{Header}
 use Rattle.network.specs.declared.opening.Answer.the-variants as network
-use Rattle.network.specs.declared.trial.Trial.{Trial}
 use Rattle.network.specs.Candidates.{keyAt}
 use Rattle.network.specs.Opening.{opening}
 use Rattle.network.specs.Pdu.{pduOctets, pduOf}
 use Rattle.network.specs.Sealing.{sealable}
-use Rattle.network.specs.SealOpen.{Formed, Receives, placed}
+use Rattle.network.specs.SealOpen.{Formed, Receives}
 use Rattle.network.specs.Trial.{tried}
 use Rattle.network.proofs.AddressLaws.{unicast-some, allowed-source}
 use Rattle.network.proofs.SealOpen.{open-seal}
-use Rattle.network.proofs.Sealed.{within, sealable-where, tried-sealed}
+use Rattle.network.proofs.Sealed.{within}
 use Rattle.transport.specs.Segment.{messageOctets}
 use Rattle.memory.specs.Cache.{seen}
 use Rattle.node.specs.declared.addresses.Node.{Node}
@@ -39,11 +38,12 @@ use Rattle.receiver.proofs.Laws.Fixed.{fixed-heard}
 use Rattle.receiver.proofs.Laws.Heard.{heard-unopened, heard-again}
 use Rattle.demands.specs.Call.{Hear, Outcome, leftHeard, step}
 use Rattle.demands.specs.Interleaved.{start, nodeOf, isLastMissing, Each, handed}
-use Rattle.demands.specs.ReadBack.{Piece, Incoming, Made, Relayed, Unopened, Hearing, pieceAt, withTtl, relayedWith, pduHeard, cameWith, OwnKeyFirst, ComesAs, Hears, Reads, ReadsAs, ReadsEach}
+use Rattle.demands.specs.ReadBack.{Piece, Incoming, Made, Relayed, Unopened, Hearing, pieceAt, relayedWith, pduHeard, cameWith, OwnKeyFirst, ComesAs, Hears, Reads, ReadsAs, ReadsEach}
 use Rattle.demands.specs.Refusal.{noKeyOpens}
 use Rattle.demands.specs.Speech.{Speech, networkPlace}
 use Rattle.demands.proofs.Refusal.{unopened, unopened-leaves}
 use Rattle.demands.proofs.ReadOnce.{Within, AllWithin}
+use Rattle.demands.proofs.RelayLaws.{ttl-sealable, relayed-sealed}
 use Rattle.demands.proofs.WholeSent.{wholeHeader, Passes, Heard}
 
 -- the only segment is the last that is missing
@@ -53,12 +53,6 @@ only-missing =
     let one : withBit 0 0 < 2 ^ (0 + 1) = rw e (omega arith) in
     let all = all-of-bits 0 (withBit 0 0) (omega arith) one (λ i h. let z : i ≡ 0 = omega arith in rw z (has-with-own 0 0 (omega arith))) in
     rw (has-none 0, eq-eqb (withBit 0 0) (allBits 0) all) refl
-
--- a header that can be sealed can be sealed with another TTL
-ttl-sealable : (key : NetworkKeys) (h : Header) (t : ℕ) → t ≤ 127 → sealable key h ≡ true → sealable key (withTtl h t) ≡ true
-ttl-sealable key h t fits can =
-    let w = within key h can in
-    sealable-where key (withTtl h t) (w .nid-fits) fits (w .seq-fits) (w .allowed) (w .some-transport) (w .most-transport)
 
 -- a PDU that no key opens hands up nothing
 unopened-none : (r : Receiver) (pdu fwd msg : List ℕ) → noKeyOpens (opening (r .node .materials) (r .node .networks) (r .node .iv) pdu .answer) ≡ true
@@ -98,10 +92,7 @@ module _ (setup : Setup) (s : Speech) (ctl : Bool) (body : List ℕ) (ttl : ℕ)
 
     -- passed on, it is the PDU with another TTL
     relayed-is : (t : ℕ) → relayedWith node s (p .pdu) t ≡ pduWith t
-    relayed-is t =
-        let back : tried key (s .network) (s .auth .iv) (p .pdu) ≡ record { ok = true; header = placed (s .network) (header ttl) } =
-        ap (tried key (s .network) (s .auth .iv)) pdu-is ∙ tried-sealed key (s .network) (header ttl) (m .can) (m .formed ttl) in
-        ap (λ (x : Trial). pduOf key (withTtl (x .header) t)) back
+    relayed-is t = relayed-sealed node s (header ttl) (p .pdu) refl refl pdu-is (m .can) (m .formed ttl) t
 
     -- ---- it comes for the first time
     module _ (t : ℕ) (fits : t ≤ 127) (first : OwnKeyFirst node s (pduWith t)) (fwd msg : List ℕ) (wide : pduOctets ≤ length fwd) (big : messageOctets ≤ length msg) where
