@@ -7,6 +7,7 @@ use mathlib.Core.Path.{_≡_, refl, sym, _∙_, subst}
 use Prim.Native.Nat.{ℕ, zero, suc, _≤_, _<_}
 use native.Mathlib.Omega.{arith}
 use lib.ListN.{length}
+use Rattle.common.specs.Bits.{withBit}
 use Rattle.network.specs.Candidates.{keyAt}
 use Rattle.network.specs.Pdu.{pduOctets}
 use Rattle.network.proofs.Sealed.{within}
@@ -18,7 +19,7 @@ use Rattle.receiver.specs.declared.fresh.Answer.the-variants.{Ready}
 use Rattle.receiver.specs.declared.state.Receiver.{Receiver}
 use Rattle.receiver.specs.Fresh.{settingUp}
 use Rattle.receiver.proofs.Good.{good-fresh}
-use Rattle.demands.specs.Call.{Hear, step}
+use Rattle.demands.specs.Call.{Hear, Outcome, step}
 use Rattle.demands.specs.Interleaved as scene
 use Rattle.demands.specs.Interleaved.{Event, Segment, Foreign, Spent, start, nodeOf, speechAt, comeWith, Comes, Each}
 use Rattle.demands.specs.ReadBack.{goesWhole, Piece, Incoming, Made, Relayed, Unopened, Hearing, pieceAt, relayedWith, pduHeard, hearCall, cameWith, OwnKeyFirst, ComesAs, Hears, Reads, ReadsAs, ReadsEach}
@@ -86,10 +87,11 @@ module _ (setup : Setup) (ready : settingUp setup .answer ≡ Ready) (s : Speech
   made : WellMade node
   made = good-fresh setup ready .node-made
 
-  record Steps (r : Receiver) (filled : ℕ → ℕ) (w : Incoming) (pdu fwd msg : List ℕ) : Type 0 where
-    reads : ReadsAs node s ps last (filled 0) w (step r (Hear pdu fwd msg))
+  -- what it is to leave: this of the outcome, and these segments come
+  record Steps (r : Receiver) (Left : Outcome → Type 0) (bits : ℕ) (pdu fwd msg : List ℕ) : Type 0 where
+    reads : Left (step r (Hear pdu fwd msg))
     more : ℕ → ℕ
-    more-is : more 0 ≡ cameWith ps (filled 0) w
+    more-is : more 0 ≡ bits
     scenery : Scenery node one spent (step r (Hear pdu fwd msg) .receiver) more
 
   module _ (r : Receiver) (filled : ℕ → ℕ) (sc : Scenery node one spent r filled) (fwd msg : List ℕ) (wide : pduOctets ≤ length fwd) (big : messageOctets ≤ length msg) where
@@ -97,52 +99,29 @@ module _ (setup : Setup) (ready : settingUp setup .answer ≡ Ready) (s : Speech
     next = event-next node one spent made (omega arith) one-speaks (λ j k hj hk _. omega arith) r filled sc fwd msg wide big
 
     -- a segment, with any TTL
-    module _ (i : ℕ) (there : i < length ps) (t : ℕ) (fits : t ≤ 127) (first : OwnKeyFirst node s (segmentPdu node s (segment i) (number i) t)) where
-      abbrev event : Event
-      event = Segment 0 (segment i) (number i) t
-
-      segment-next : Next node one spent r filled event (Hear (segmentPdu node s (segment i) (number i) t) fwd msg)
-      segment-next = next event (sent-with i there t fits first)
-
-      segment-reads : Reads node s last (filled 0) (segment i) (step r (Hear (segmentPdu node s (segment i) (number i) t) fwd msg))
-      segment-reads =
-          let x = segment-next in
-          record {
-            hands = x .hands;
-            stores = λ new missing. x .stores new (rw new at missing);
-            again = λ w _. absurd (true≢false (sym w ∙ cut));
-            counts = x .counts;
-          }
-
-    made-steps : (i : ℕ) → ComesAs node s ps (Made i) → Steps r filled (Made i) (pduHeard node s ps (Made i)) fwd msg
-    made-steps i v =
-        let there = v .place-there in
-        let e = law i there .of .pdu-is in
-        let first = subst (OwnKeyFirst node s) e (v .own-key-first) in
-        subst (λ (p : List ℕ). Steps r filled (Made i) p fwd msg) (sym e)
+    copy-steps :
+        (i : ℕ) → i < length ps → (t : ℕ) → t ≤ 127 → (pdu : List ℕ) → pdu ≡ segmentPdu node s (segment i) (number i) t → OwnKeyFirst node s pdu
+        → Steps r (Reads node s last (filled 0) (segment i)) (withBit (filled 0) (segment i)) pdu fwd msg
+    copy-steps i there t fits pdu e first =
+        let event = Segment 0 (segment i) (number i) t in
+        let x = next event (sent-with i there t fits (subst (OwnKeyFirst node s) e first)) in
+        subst (λ (p : List ℕ). Steps r (Reads node s last (filled 0) (segment i)) (withBit (filled 0) (segment i)) p fwd msg) (sym e)
         (record {
-          reads = segment-reads i there ttl ttl-fits first;
-          more = λ k. comeWith k (filled k) (event i there ttl ttl-fits first);
+          reads =
+              record {
+                hands = x .hands;
+                stores = λ new missing. x .stores new (rw new at missing);
+                again = λ w _. absurd (true≢false (sym w ∙ cut));
+                counts = x .counts;
+              };
+          more = λ k. comeWith k (filled k) event;
           more-is = refl;
-          scenery = segment-next i there ttl ttl-fits first .scenery;
+          scenery = x .scenery;
         })
 
-    relayed-steps : (i t : ℕ) → ComesAs node s ps (Relayed i t) → Steps r filled (Relayed i t) (pduHeard node s ps (Relayed i t)) fwd msg
-    relayed-steps i t v =
-        let there = v .0 .place-there in
-        let e = relayed-is i there t in
-        let first = subst (OwnKeyFirst node s) e (v .0 .own-key-first) in
-        subst (λ (p : List ℕ). Steps r filled (Relayed i t) p fwd msg) (sym e)
-        (record {
-          reads = segment-reads i there t (v .1) first;
-          more = λ k. comeWith k (filled k) (event i there t (v .1) first);
-          more-is = refl;
-          scenery = segment-next i there t (v .1) first .scenery;
-        })
-
-    hearing-steps : (w : Incoming) → ComesAs node s ps w → Steps r filled w (pduHeard node s ps w) fwd msg
-    hearing-steps (Made i) v = made-steps i v
-    hearing-steps (Relayed i t) v = relayed-steps i t v
+    hearing-steps : (w : Incoming) → ComesAs node s ps w → Steps r (ReadsAs node s ps last (filled 0) w) (cameWith ps (filled 0) w) (pduHeard node s ps w) fwd msg
+    hearing-steps (Made i) v = let there = v .place-there in copy-steps i there ttl ttl-fits _ (law i there .of .pdu-is) (v .own-key-first)
+    hearing-steps (Relayed i t) v = let there = v .0 .place-there in copy-steps i there t (v .1) _ (relayed-is i there t) (v .0 .own-key-first)
     hearing-steps (Unopened pdu) v =
         let x = next (Foreign pdu) v in
         record { reads = x .hands; more = λ k. comeWith k (filled k) (Foreign pdu); more-is = refl; scenery = x .scenery }
