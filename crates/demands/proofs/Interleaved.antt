@@ -8,6 +8,7 @@
 -- they came; the order in turn is one such. A speech that is done stays so: one message each. Assumes nothing.
 --   come-names     the bits name the segments that came
 --   handed-up      1: where a message is handed up
+--   answered       every answer
 --   acknowledges   2: what an acknowledgement names
 --   ends-alike     3: what is left at the end
 use mathlib.Core.Bool.{true, false, false≢true}
@@ -38,9 +39,9 @@ use Rattle.sending.specs.Acknowledge.{chosen}
 use Rattle.sending.proofs.Laws.Calls.{acknowledgement-sent, chosen-session, chosen-last}
 use Rattle.sending.proofs.Laws.Stamped.{element-low}
 use Rattle.demands.specs.Call.{step, run, after}
-use Rattle.demands.specs.Interleaved.{Event, Segment, Foreign, Ask, Arrival, start, nodeOf, speechAt, callOf, calls, comeWith, comeFrom, come, ComeNames, Spent, Arrives, Each, Scene, AllCome, dueAs, behind, HandedUp, Acknowledges, messages, turns, EndsAlike}
+use Rattle.demands.specs.Interleaved.{Event, Segment, Foreign, Ask, Arrival, start, nodeOf, speechAt, callAs, callOf, calls, comeWith, comeFrom, come, ComeNames, Spent, Arrives, Each, Scene, AllCome, dueAs, behind, HandedUp, AnsweredAs, Answered, Acknowledges, messages, turns, EndsAlike}
 use Rattle.demands.specs.Speech.{Speech, lastOf, Speakable, Handed, handUp}
-use Rattle.demands.proofs.ArrivalLaws.{dueOf, Next, event-next}
+use Rattle.demands.proofs.ArrivalLaws.{Next, event-next, dueOf, hands}
 use Rattle.demands.proofs.ComeLaws.{each-first, each-at, each-turn, come-from, come-in-turn}
 use Rattle.demands.proofs.DueLaws.{dueWith, dueBehind, picked-due, once-due}
 use Rattle.demands.proofs.SceneLaws.{speakerOf, speakerKey, Scenery, same-scene, begins}
@@ -77,7 +78,7 @@ module _ (node : Node) (made : WellMade node) (speeches : List Speech) (few : le
     messages-are r filled sc [] e = refl
     messages-are r filled sc (a ∷ l) e =
         let n = arrival-next r filled sc a (e .0) in
-        rw (n .hands, picked-due node speeches k spent hk differ filled (a .event) (e .0 .comes))
+        rw (hands n, picked-due node speeches k spent hk differ filled (a .event) (e .0 .comes))
         (ap (λ (x : List Handed). dueWith node speeches k (filled k) (a .event) ++ x)
         (messages-are (step r (callOf node speeches a) .receiver) (λ j. comeWith j (filled j) (a .event)) (n .scenery) l (e .1)))
 
@@ -167,6 +168,14 @@ module _ (setup : Setup) (speeches : List Speech) where
           (begins setup (c .ready) speeches (c .spent) (c .speakable)) l (c .arrives) in
           m ∙ once-due node speeches k (c .spent) hk (c .speakable) 0 nothing-yet l (c .arrives) (ended .filled-all)
 
+-- the buffers of an event are its call's
+answers-as :
+    (node : Node) (speeches : List Speech) (spent : Spent) (r : Receiver) (filled : ℕ → ℕ) (e : Event) (fwd msg : List ℕ)
+    → Next node speeches spent r filled e (callAs node speeches e fwd msg) → AnsweredAs node speeches filled r e fwd msg (step r (callAs node speeches e fwd msg))
+answers-as node speeches spent r filled (Segment k i seq ttl) fwd msg n = n .answers
+answers-as node speeches spent r filled (Foreign pdu) fwd msg n = n .answers
+answers-as node speeches spent r filled (Ask net src) fwd msg n = n .answers
+
 -- what is due behind a list of arrivals
 arrival-hands :
     (node : Node) (speeches : List Speech) (spent : Spent) (before : List Arrival) (e : Event) {x : List Handed}
@@ -175,16 +184,26 @@ arrival-hands node speeches spent before (Segment k i seq ttl) h = h
 arrival-hands node speeches spent before (Foreign pdu) h = h
 arrival-hands node speeches spent before (Ask net src) h = h
 
+module _ (setup : Setup) (speeches : List Speech) (before : List Arrival) (a : Arrival) (later : List Arrival) (c : Scene setup speeches (before ++ a ∷ later)) where
+  -- what the arrival does behind those before it
+  next : Next (nodeOf setup) speeches (c .spent) (behind setup speeches before) (λ k. come k before) (a .event) (callOf (nodeOf setup) speeches a)
+  next =
+      let node = nodeOf setup in
+      let P = Arrives node speeches (c .spent) in
+      let made = good-fresh setup (c .ready) .node-made in
+      let sc = seen-behind node made speeches (c .eight-at-most) (c .speakable) (c .sources-differ) (c .spent) (start setup) (λ _. 0)
+      (begins setup (c .ready) speeches (c .spent) (c .speakable)) before (each-first P before (a ∷ later) (c .arrives)) in
+      arrival-next node made speeches (c .eight-at-most) (c .speakable) (c .sources-differ) (c .spent) (behind setup speeches before) (λ k. come k before) sc a
+      (each-at P before a later (c .arrives))
+
 pub handed-up : HandedUp
 handed-up setup speeches before a later c =
-    let node = nodeOf setup in
-    let P = Arrives node speeches (c .spent) in
-    let made = good-fresh setup (c .ready) .node-made in
-    let sc = seen-behind node made speeches (c .eight-at-most) (c .speakable) (c .sources-differ) (c .spent) (start setup) (λ _. 0)
-    (begins setup (c .ready) speeches (c .spent) (c .speakable)) before (each-first P before (a ∷ later) (c .arrives)) in
-    arrival-hands (nodeOf setup) speeches (c .spent) before (a .event)
-    (arrival-next node made speeches (c .eight-at-most) (c .speakable) (c .sources-differ) (c .spent) (behind setup speeches before) (λ k. come k before) sc a
-    (each-at P before a later (c .arrives)) .hands)
+    arrival-hands (nodeOf setup) speeches (c .spent) before (a .event) (hands (next setup speeches before a later c))
+
+pub answered : Answered
+answered setup speeches before a later c =
+    answers-as (nodeOf setup) speeches (c .spent) (behind setup speeches before) (λ k. come k before) (a .event) (a .forward) (a .message)
+    (next setup speeches before a later c)
 
 pub acknowledges : Acknowledges
 acknowledges setup speeches before k net buf c hk some unicast key wide =

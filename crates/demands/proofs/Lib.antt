@@ -10,6 +10,7 @@ pub mod SpeechSegment
 pub mod SpeechSession
 pub mod GatherLaws
 pub mod StageLaws
+pub mod AnsweredLaws
 pub mod StepLaws
 pub mod SceneLaws
 pub mod KeptLaws

@@ -24,6 +24,7 @@ use Rattle.demands.specs.Interleaved as scene
 use Rattle.demands.specs.Interleaved.{Segment, speechAt, comeWith, isLastMissing, Spent, handed}
 use Rattle.demands.specs.ReadBack.{lastOnly, storedFirst, countedLast, hearAll}
 use Rattle.demands.specs.Speech.{Speech, lastOf, segmentPdu, Speakable, Handed, handUp, networkPlace}
+use Rattle.demands.proofs.ArrivalLaws as arrival
 use Rattle.demands.proofs.ArrivalLaws.{Next, event-next}
 use Rattle.demands.proofs.SceneLaws.{Scenery}
 use Rattle.demands.proofs.SpeechCut.{last-low}
@@ -103,7 +104,7 @@ module _ (node : Node) (made : WellMade node) (s : Speech) (w : Speakable node s
       let x = next r filled sc n (omega arith) in
       let here : n ≡ lastOf node s = omega arith in
       let l = last-here n (lastOf node s) (omega arith) here in
-      record { hands = rw (x .hands, f, l) refl; stores = tt {0}; counts = rw (x .counts, f, l) refl }
+      record { hands = rw (arrival.hands x, f, l) refl; stores = tt {0}; counts = rw (arrival.counts x, f, l) refl }
   heard-in-order (suc m) n e r filled sc f =
       let low = last-low node s w in
       let x = next r filled sc n (omega arith) in
@@ -111,7 +112,7 @@ module _ (node : Node) (made : WellMade node) (s : Speech) (w : Speakable node s
       (rw f (below-more n (omega arith))) in
       let b = not-last n (lastOf node s) (omega arith) low in
       record {
-        hands = rw (x .hands, f, b) (ap (λ (l : List (List Handed)). [] ∷ l) (y .hands));
-        stores = (x .stores (rw f (below-clear n)) (rw f (another n (omega arith))), y .stores);
-        counts = rw (x .counts, f, b) (ap (λ (l : List Tried). record { network = networkPlace node s; application = 0 } ∷ l) (y .counts));
+        hands = rw (arrival.hands x, f, b) (ap (λ (l : List (List Handed)). [] ∷ l) (y .hands));
+        stores = (arrival.stores x (rw f (below-clear n)) (rw f (another n (omega arith))), y .stores);
+        counts = rw (arrival.counts x, f, b) (ap (λ (l : List Tried). record { network = networkPlace node s; application = 0 } ∷ l) (y .counts));
       }

@@ -6,18 +6,22 @@
 --   isLastMissing          a segment is the last of its speech that was missing
 --   Scene                  the premises
 --   HandedUp               1: where a message is handed up
+--   Answered               every answer to a segment, and to a PDU that no key opens
 --   Acknowledges           2: what an acknowledgement names
 --   EndsAlike              3: what is left at the end
 use mathlib.Core.Bool.{Bool, true, false, _&&_, _||_, not}
 use mathlib.Core.List.{List, [], _∷_, _++_, map}
+use mathlib.Core.Logic.{_⊎_}
 use mathlib.Core.Path.{_≡_}
 use Prim.Native.Nat.{ℕ, zero, suc, _+_, _≤_, _<_}
 use lib.Dec.{eqb}
 use lib.ListN.{length, getD, take}
 use Rattle.common.specs.Bits.{hasBit, withBit, allBits}
 use Rattle.common.specs.Choice.{if_then_else_}
+use Rattle.common.specs.Lists.{onto}
 use Rattle.common.specs.Search.{picked}
 use Rattle.network.specs.Address.{isUnicast}
+use Rattle.network.specs.Opening as opened
 use Rattle.network.specs.Opening.{opening}
 use Rattle.network.specs.SealOpen as network
 use Rattle.network.specs.Pdu.{pduOctets}
@@ -30,13 +34,17 @@ use Rattle.node.specs.declared.setup.Setup.{Setup}
 use Rattle.receiver.specs.declared.fresh.Answer.the-variants.{Ready}
 use Rattle.receiver.specs.declared.answer.Answer as heard-answer
 use Rattle.receiver.specs.declared.answer.Answer.the-variants as answer
+use Rattle.receiver.specs.declared.answer.Refusal.{Refusal}
+use Rattle.receiver.specs.declared.answer.Refusal.the-variants as refusal
 use Rattle.receiver.specs.declared.state.Receiver.{Receiver}
+use Rattle.receiver.specs.Answer.{refusalNumber}
 use Rattle.receiver.specs.Fresh.{settingUp}
+use Rattle.receiver.specs.Hearing.{outcome, refusedHeard}
 use Rattle.sending.specs.Acknowledge.{acknowledging, sayingAcknowledgement}
 use Rattle.sending.specs.Segment.{elementOf}
-use Rattle.demands.specs.Call.{Call, Hear, Acknowledge, Answer, Heard, Said, Ended, Outcome, step, run, after}
+use Rattle.demands.specs.Call.{Call, Hear, Acknowledge, Answer, Heard, Said, Ended, Outcome, leftHeard, step, run, after}
 use Rattle.demands.specs.Refusal.{noKeyOpens}
-use Rattle.demands.specs.Speech.{Control, Speech, lastOf, headerOf, segmentPdu, Speakable, Handed, handUp}
+use Rattle.demands.specs.Speech.{Control, Speech, lastOf, headerOf, segmentPdu, Speakable, Handed, handUp, networkPlace, applicationPlace}
 
 -- ---- a fresh receiver
 abbrev pub start : Setup → Receiver
@@ -198,6 +206,43 @@ HandedUp =
     (setup : Setup) (speeches : List Speech) (before : List Arrival) (a : Arrival) (later : List Arrival)
     → Scene setup speeches (before ++ a ∷ later)
     → handed (step (behind setup speeches before) (callOf (nodeOf setup) speeches a)) ≡ dueAs (nodeOf setup) speeches before (a .event)
+
+-- the answer to segment i of a speech, of which these have come
+pub record SegmentAnswered (node : Node) (s : Speech) (bits i : ℕ) (msg : List ℕ) (o : Outcome) : Type 0 where
+  -- it is new, and another is missing: stored, with a bit for each that has come
+  pub stored :
+      hasBit bits i ≡ false → eqb (withBit bits i) (allBits (lastOf node s)) ≡ false → o .answer ≡ Heard (answer.Stored (s .src) (s .auth) (withBit bits i))
+  -- it is the last that was missing: the message is handed up
+  pub completes : isLastMissing bits i (lastOf node s) ≡ true → o .answer ≡ Heard (handUp s .answer)
+  -- it had come: a repeat, or 5 where the PDU is in the cache
+  pub repeats :
+      hasBit bits i ≡ true
+      → (o .answer ≡ Heard (answer.Repeated (s .src) (s .auth) bits)) ⊎ (o .answer ≡ Heard (answer.Refused refusal.Cached))
+  -- a message handed up fills the first octets of the message buffer, and the rest stays; a stored segment or a repeat writes none of it
+  pub message-is : o .message ≡ (if isLastMissing bits i (lastOf node s) then onto (handUp s .octets) msg else msg)
+  -- its network key is tried at its place, and application keys where the message is handed up
+  pub tried-is :
+      o .tried
+      ≡ record { network = networkPlace node s; application = if isLastMissing bits i (lastOf node s) then applicationPlace node s (s .words) else 0 }
+
+-- the answer to a PDU that no key opens: 1, 2 or 3 as its opening says, with its trials; it leaves everything
+abbrev pub ForeignAnswered : Node → Receiver → (pdu fwd msg : List ℕ) → Outcome → Type 0
+ForeignAnswered node r pdu fwd msg o =
+    let x = opening (node .materials) (node .networks) (node .iv) pdu in
+    (n : Refusal) × (refusalNumber n ≡ opened.paper (x .answer)) × (o ≡ leftHeard (outcome (refusedHeard r n (x .trials)) fwd msg))
+
+-- the answer to an event, where these segments of each speech have come; what is no PDU hands up nothing
+abbrev pub AnsweredAs : Node → List Speech → (ℕ → ℕ) → Receiver → Event → (fwd msg : List ℕ) → Outcome → Type 0
+AnsweredAs node speeches filled r (Segment k i seq ttl) fwd msg o = SegmentAnswered node (speechAt speeches k) (filled k) i msg o
+AnsweredAs node speeches filled r (Foreign pdu) fwd msg o = ForeignAnswered node r pdu fwd msg o
+AnsweredAs node speeches filled r (Ask net src) fwd msg o = handed o ≡ []
+
+abbrev pub Answered : Type 0
+Answered =
+    (setup : Setup) (speeches : List Speech) (before : List Arrival) (a : Arrival) (later : List Arrival)
+    → Scene setup speeches (before ++ a ∷ later)
+    → (let r = behind setup speeches before in
+    AnsweredAs (nodeOf setup) speeches (λ k. come k before) r (a .event) (a .forward) (a .message) (step r (callOf (nodeOf setup) speeches a)))
 
 -- ---- 2: an acknowledgement asked for speech k after its first arrival is the one that names exactly the segments come so far
 abbrev pub Acknowledges : Type 0

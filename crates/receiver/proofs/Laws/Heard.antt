@@ -3,6 +3,7 @@
 --   early            the refusals before the cache: 16, 1 to 5
 --   walk-hearing     what holds of each such refusal, and of what a PDU leaves that passes, holds of the call
 --   heard-unopened   one that does not open is refused so
+--   heard-closed     and as its opening is
 --   heard-again, heard-new   one that opens
 --   heard-forwarded, heard-kept   what it forwards
 use mathlib.Core.Bool.{Bool, true, false, _||_}
@@ -18,6 +19,7 @@ use Rattle.network.specs.declared.header.Header.{Header}
 use Rattle.network.specs.declared.opening.Answer as opening-answer
 use Rattle.network.specs.declared.opening.Answer.the-variants as network
 use Rattle.network.specs.declared.opening.Opening.{Opening}
+use Rattle.network.specs.Opening as opened
 use Rattle.network.specs.Opening.{opening}
 use Rattle.network.specs.Sealing.{sealedLength, forwards, forwarding}
 use Rattle.network.specs.Pdu.{pduOctets}
@@ -77,6 +79,23 @@ module _ (r : Receiver) (fwd msg pdu : List ℕ) where
 
   pub heard-unopened : (o .answer ≡ network.Opened → ⊥) → Early r fwd msg (hearing r pdu fwd msg)
   heard-unopened n = walk-hearing (Early r fwd msg) (λ n trials e. (n, record { is-early = e; tried = trials; leaves = refl })) (λ e _. absurd (n e))
+
+  -- ---- one that does not open: it carries the number of its opening, with its trials
+  abbrev pub RefusedAs : opening-answer.Answer → ℕ → Outcome → Type 0
+  RefusedAs a trials x = (n : Refusal) × (refusalNumber n ≡ opened.paper a) × (x ≡ outcome (refusedHeard r n trials) fwd msg)
+
+  closed-as : (a : opening-answer.Answer) (h : Header) (trials : ℕ) → (a ≡ network.Opened → ⊥) → RefusedAs a trials (openedAs a r h trials fwd msg)
+  unfolding openedAs
+  closed-as network.WrongLength h trials f = (refusal.WrongLength, refl, refl)
+  closed-as network.NoCandidate h trials f = (refusal.NoCandidate, refl, refl)
+  closed-as network.NotAuthentic h trials f = (refusal.NotAuthentic, refl, refl)
+  closed-as network.WrongAddress h trials f = (refusal.WrongAddress, refl, refl)
+  closed-as network.Opened h trials f = absurd (f refl)
+
+  pub heard-closed :
+      pduOctets ≤ length fwd → messageOctets ≤ length msg → (o .answer ≡ network.Opened → ⊥) → RefusedAs (o .answer) (o .trials) (hearing r pdu fwd msg)
+  unfolding hearing
+  heard-closed wide big n = rw (le-ltb (length fwd) pduOctets wide, le-ltb (length msg) messageOctets big) (closed-as (o .answer) (o .header) (o .trials) n)
 
 -- ---- a PDU that opens
 module _ (r : Receiver) (pdu fwd msg : List ℕ) (wide : pduOctets ≤ length fwd) (big : messageOctets ≤ length msg) (h : Header) (trials : ℕ)

@@ -2,6 +2,7 @@
 -- one walk down each call's chain of tests, with the tests that hold at its end. Assumes nothing.
 --   walk-..                        each call
 --   ..-whole, ..-begun, ..-sent    what a call says where its tests pass
+--   acknowledgement-..             an acknowledgement, sent or refused
 --   chosen-..                      what is acknowledged
 use mathlib.Core.Bool.{Bool, true, false}
 use mathlib.Core.List.{List}
@@ -13,7 +14,7 @@ use lib.ListN.{length}
 use Rattle.common.specs.Bits.{allBits}
 use Rattle.common.specs.Choice.{if_then_else_}
 use Rattle.common.specs.Lent.{Lent, lent}
-use Rattle.common.proofs.Tests.{by-choice}
+use Rattle.common.proofs.Tests.{by-test, by-choice}
 use Rattle.network.specs.declared.header.Header.{Header}
 use Rattle.network.specs.Address.{isUnicast}
 use Rattle.network.specs.Pdu.{pduOctets}
@@ -31,7 +32,7 @@ use Rattle.sending.specs.declared.acknowledge.Chosen.{Chosen}
 use Rattle.sending.specs.declared.answer.Spoken.{Spoken}
 use Rattle.sending.specs.declared.request.Request.{Request}
 use Rattle.sending.specs.Access.{keyed, isWhole, accessAllowed, envelopeOf, wholeHeader, outgoingOf, sayingAccess, sendingAccess}
-use Rattle.sending.specs.Acknowledge.{chosen, acknowledgementHeader, sayingAcknowledgement, acknowledging}
+use Rattle.sending.specs.Acknowledge.{noChoice, chosen, acknowledgementHeader, sayingAcknowledgement, acknowledging}
 use Rattle.sending.specs.Answer.{refusedAt}
 use Rattle.sending.specs.Control as control
 use Rattle.sending.specs.Segment.{segmentHeader, starting, elementOf, segmentAllowed, sendingSegment}
@@ -159,7 +160,34 @@ module _ (r : Receiver) (buf : List ℕ) (wide : pduOctets ≤ length buf) where
   acknowledgement-sent net src c e there unicast low =
       rw (e, le-ltb (length buf) pduOctets wide, lt-ltb net (min (r .node .networks) networkKeyPlaces) there, unicast, lt-ltb (elementOf (r .node) (c .dst)) elementPlaces low) refl
 
+  -- ---- an acknowledgement is refused 14: the network key is not there, or what is chosen was not sent to a unicast address
+  pub acknowledgement-no-key :
+      (net src : ℕ) → min (r .node .networks) networkKeyPlaces ≤ net → acknowledging r net src buf ≡ lent (refusedAt r refusal.OutsideRules) buf
+  unfolding acknowledging
+  acknowledgement-no-key net src past = rw (le-ltb (length buf) pduOctets wide, le-ltb net (min (r .node .networks) networkKeyPlaces) past) refl
+
+  pub acknowledgement-not-unicast :
+      (net src : ℕ) (c : Chosen) → chosen (r .replay) (r .sessions) src ≡ c → isUnicast (c .dst) ≡ false
+      → acknowledging r net src buf ≡ lent (refusedAt r refusal.OutsideRules) buf
+  unfolding acknowledging
+  acknowledgement-not-unicast net src c e other =
+      by-test (ltb net (min (r .node .networks) networkKeyPlaces))
+      (λ t. rw (e, le-ltb (length buf) pduOctets wide, t, other) refl)
+      (λ t. rw (le-ltb (length buf) pduOctets wide, t) refl)
+
+-- ---- an acknowledgement is said as any header is
+pub acknowledgement-said :
+    (r : Receiver) (element net src : ℕ) (c : Chosen) (buf : List ℕ)
+    → sayingAcknowledgement r element net src c buf ≡ saying r element (acknowledgementHeader (sendingIv (r .node)) net src c) buf
+unfolding sayingAcknowledgement
+acknowledgement-said r element net src c buf = refl
+
 -- ---- what is acknowledged of a source
+-- no source is 0
+pub chosen-zero : (replay : List Entry) (sessions : List Session) → chosen replay sessions 0 ≡ noChoice
+unfolding chosen
+chosen-zero replay sessions = refl
+
 module _ (replay : List Entry) (sessions : List Session) (src : ℕ) (z : src ≡ 0 → ⊥) where
   abbrev own : ℕ
   own = sessionPlace sessions (record { src = src })
