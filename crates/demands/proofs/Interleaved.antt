@@ -13,6 +13,7 @@
 --   ends-alike     3: what is left at the end
 use mathlib.Core.Bool.{true, false, false≢true}
 use mathlib.Core.List.{List, [], _∷_, _++_}
+use mathlib.Core.Logic.{_⊎_, ⊎-elim}
 use mathlib.Core.Path.{_≡_, refl, sym, ap, _∙_, subst}
 use Prim.Native.Nat.{ℕ, _≤_, _<_}
 use native.Mathlib.Omega.{arith}
@@ -25,8 +26,9 @@ use Rattle.common.proofs.Tests.{by-test}
 use Rattle.network.proofs.AddressLaws.{unicast-some}
 use Rattle.memory.specs.declared.replay.Entry.{Entry}
 use Rattle.memory.specs.declared.session.Session.{Session}
-use Rattle.memory.specs.Replay.{lookUp}
+use Rattle.memory.specs.Replay.{noEntry, lookUp}
 use Rattle.memory.specs.Session.{sessionSlots, noSession, noSessions, sessionAt, sessionPlace, isFree}
+use Rattle.memory.proofs.ReplayMap.{listed-or-none}
 use Rattle.memory.proofs.SessionSlots.{past, place-upto}
 use Rattle.node.specs.declared.addresses.Node.{Node}
 use Rattle.node.specs.declared.setup.Setup.{Setup}
@@ -154,6 +156,10 @@ module _ (setup : Setup) (speeches : List Speech) where
         seen-behind node well speeches (c .eight-at-most) (c .speakable) (c .sources-differ) (c .spent) (start setup) (λ _. 0)
         (begins setup (c .ready) speeches (c .spent) (c .speakable)) l (c .arrives)
 
+    -- a source is a speaker, or it has no entry
+    listed-in : (src : ℕ) → (src ≡ 0 → ⊥) → ((m : ℕ) × (m < length speeches) × (src ≡ speakerOf speeches m)) ⊎ (lookUp (behind setup speeches l .replay) src ≡ noEntry)
+    listed-in = listed-or-none (length speeches) (speakerOf speeches) (behind setup speeches l .replay) (seen .entries-listed)
+
     module _ (all : AllCome setup speeches l) (k : ℕ) (hk : k < length speeches) where
       ended : Over node well speeches (c .eight-at-most) (c .speakable) (c .sources-differ) (c .spent) (behind setup speeches l) (λ k. come k l) seen k hk (λ i. all k i hk)
       ended = over node well speeches (c .eight-at-most) (c .speakable) (c .sources-differ) (c .spent) (behind setup speeches l) (λ k. come k l) seen k hk (λ i. all k i hk)
@@ -242,7 +248,12 @@ ends-alike setup speeches l c all =
           no-sessions (nodeOf setup) (well setup speeches l c) speeches (c .eight-at-most) (c .speakable) (c .sources-differ) (c .spent)
           (behind setup speeches l) (λ k. come k l) sc (λ k hk. ended setup speeches l c all k hk .no-slot);
       entries-are = λ k hk. ended setup speeches l c all k hk .entry-is;
-      entries-alike = λ k hk. ended setup speeches l c all k hk .entry-is ∙ sym (ended setup speeches (turns speeches l) d all-turn k hk .entry-is);
+      entries-none = λ src z other. ⊎-elim (λ m. absurd (other (m .0) (m .1) (m .2))) (λ e. e) (listed-in setup speeches l c src z);
+      entries-alike = λ src z.
+          let both : (m : ℕ) × (m < length speeches) × (src ≡ speakerOf speeches m)
+          → lookUp (behind setup speeches l .replay) src ≡ lookUp (behind setup speeches (turns speeches l) .replay) src =
+          λ m. rw (m .2) (ended setup speeches l c all (m .0) (m .1) .entry-is ∙ sym (ended setup speeches (turns speeches l) d all-turn (m .0) (m .1) .entry-is)) in
+          ⊎-elim both (λ e. ⊎-elim both (λ f. e ∙ sym f) (listed-in setup speeches (turns speeches l) d src z)) (listed-in setup speeches l c src z);
       once = λ k hk. one-message setup speeches l c all k hk;
       once-in-turn = λ k hk. one-message setup speeches (turns speeches l) d all-turn k hk;
     }

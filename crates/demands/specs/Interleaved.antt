@@ -27,7 +27,7 @@ use Rattle.network.specs.SealOpen as network
 use Rattle.network.specs.Pdu.{pduOctets}
 use Rattle.transport.specs.LeadsBack.{SegmentOf}
 use Rattle.transport.specs.Segment.{messageOctets}
-use Rattle.memory.specs.Replay.{lookUp}
+use Rattle.memory.specs.Replay.{noEntry, lookUp}
 use Rattle.memory.specs.Session.{noSessions}
 use Rattle.node.specs.declared.addresses.Node.{Node}
 use Rattle.node.specs.declared.setup.Setup.{Setup}
@@ -296,11 +296,14 @@ pub record Alike (setup : Setup) (speeches : List Speech) (l : List Arrival) : T
       → (let s = speechAt speeches k in
       lookUp (behind setup speeches l .replay) (s .src)
       ≡ record { src = s .src; pair = s .auth; last = record { auth = s .auth; segn = lastOf (nodeOf setup) s; dst = s .dst } })
-  -- and it is that of the speeches heard in turn
+  -- no other source has one
+  pub entries-none :
+      (src : ℕ) → (src ≡ 0 → ⊥) → ((k : ℕ) → k < length speeches → src ≡ speechAt speeches k .src → ⊥)
+      → lookUp (behind setup speeches l .replay) src ≡ noEntry
+  -- and every source's is that of the speeches heard in turn
   pub entries-alike :
-      (k : ℕ) → k < length speeches
-      → (let src = speechAt speeches k .src in
-      lookUp (behind setup speeches l .replay) src ≡ lookUp (behind setup speeches (turns speeches l) .replay) src)
+      (src : ℕ) → (src ≡ 0 → ⊥)
+      → lookUp (behind setup speeches l .replay) src ≡ lookUp (behind setup speeches (turns speeches l) .replay) src
   -- one message of each source, and it is the same
   pub once :
       (k : ℕ) → k < length speeches
