@@ -1,11 +1,11 @@
 -- Every arrival keeps the scene as it is to be seen, and is answered as it is to be. A PDU of a speech opens to its header; where the cache has it, its segment had come
--- before; else it is placed, and its place is filled. A PDU that no key opens and a request to acknowledge leave all that the scene is seen by. Assumes nothing.
+-- before; else it is placed, and its place is filled. A PDU that no key opens, a request to acknowledge and what the receiver sends leave all that the scene is seen by. Assumes nothing.
 --   Next                   what an event is to do
 --   event-next             each does
 --   dueOf, hands           what is due at an event is handed up
 --   StoresAt, stores       a segment is stored
 --   CountsAt, counts       how many keys are tried for it
-use mathlib.Core.Bool.{true, false}
+use mathlib.Core.Bool.{true, false, false≢true}
 use mathlib.Core.List.{List, [], _∷_}
 use mathlib.Core.Logic.{inr, ⊎-elim}
 use mathlib.Core.Path.{_≡_, refl, sym, ap, _∙_, subst}
@@ -48,12 +48,12 @@ use Rattle.receiver.proofs.Laws.Fixed.{fixed-heard}
 use Rattle.receiver.proofs.Laws.Heard.{heard-closed, heard-again, Leaves, heard-new}
 use Rattle.demands.specs.Call.{Call, Hear, GiveUp, SendAccess, SendControl, SendSegment, Acknowledge, Stop, Heard, Outcome, leftHeard, step}
 use Rattle.demands.specs.Interleaved as scene
-use Rattle.demands.specs.Interleaved.{Event, Segment, Foreign, Ask, speechAt, callAs, comeWith, isLastMissing, Spent, Comes, isStored, handed, SegmentAnswered, ForeignAnswered, AnsweredAs}
+use Rattle.demands.specs.Interleaved.{Event, Segment, Foreign, Ask, Own, speechAt, callAs, comeWith, isLastMissing, Spent, isOwn, Comes, isStored, handed, SegmentAnswered, ForeignAnswered, AnsweredAs}
 use Rattle.demands.specs.Refusal.{noKeyOpens}
 use Rattle.demands.specs.Speech.{Speech, lastOf, headerOf, segmentPdu, Speakable, Handed, handUp, networkPlace, applicationPlace}
 use Rattle.demands.proofs.AnsweredLaws.{had-come, same-answered, answered-hands, answered-stores}
 use Rattle.demands.proofs.Invariant.{good-step}
-use Rattle.demands.proofs.KeptLaws.{kept-acknowledging, kept-scene, refilled}
+use Rattle.demands.proofs.KeptLaws.{kept-acknowledging, kept-own, kept-scene, refilled}
 use Rattle.demands.proofs.Refusal.{unopened, unopened-leaves}
 use Rattle.demands.proofs.SceneLaws.{speakerOf, speakerKey, Scenery, same-scene, entry-room, session-room}
 use Rattle.demands.proofs.SpeechCut.{last-low}
@@ -86,6 +86,16 @@ messageOf (SendControl q opcode parameters buf) = []
 messageOf (SendSegment n buf) = []
 messageOf (Acknowledge net src buf) = []
 messageOf Stop = []
+
+-- a call of the receiver's own hands up nothing
+own-none : (r : Receiver) (c : Call) → isOwn c ≡ true → handed (step r c) ≡ []
+own-none r (Hear pdu fwd msg) own = absurd (false≢true own)
+own-none r (GiveUp src) own = refl
+own-none r (SendAccess q key szmic payload buf) own = refl
+own-none r (SendControl q opcode parameters buf) own = refl
+own-none r (SendSegment n buf) own = refl
+own-none r (Acknowledge net src buf) own = refl
+own-none r Stop own = refl
 
 module _ (node : Node) (speeches : List Speech) (spent : Spent) where
   abbrev Seen : Receiver → (ℕ → ℕ) → Type 0
@@ -251,6 +261,11 @@ module _ (node : Node) (speeches : List Speech) (spent : Spent) where
           answers = refl;
           scenery = kept-scene node speeches spent r _ filled (kept-acknowledging r net src fwd) (good-step r (Acknowledge net src fwd) (sc .good)) sc;
         }
+    event-next (Own c) own =
+        record {
+          answers = own-none r c own;
+          scenery = kept-scene node speeches spent r _ filled (kept-own r c own) (good-step r c (sc .good)) sc;
+        }
 
 -- ---- what is read off an answer
 module _ (node : Node) (speeches : List Speech) (spent : Spent) where
@@ -261,6 +276,7 @@ module _ (node : Node) (speeches : List Speech) (spent : Spent) where
       []
   dueOf filled (Foreign pdu) = []
   dueOf filled (Ask net src) = []
+  dueOf filled (Own c) = []
 
   -- a segment that is new is stored where another is missing
   abbrev pub StoresAt : (ℕ → ℕ) → Event → Outcome → Type 0
@@ -268,6 +284,7 @@ module _ (node : Node) (speeches : List Speech) (spent : Spent) where
       hasBit (filled k) i ≡ false → eqb (withBit (filled k) i) (allBits (lastOf node (speechAt speeches k))) ≡ false → isStored (o .answer) ≡ true
   StoresAt filled (Foreign pdu) o = Unit {0}
   StoresAt filled (Ask net src) o = Unit {0}
+  StoresAt filled (Own c) o = Unit {0}
 
   -- a segment's network key is tried at its place, and application keys where the message is handed up
   abbrev pub CountsAt : (ℕ → ℕ) → Event → Outcome → Type 0
@@ -277,22 +294,26 @@ module _ (node : Node) (speeches : List Speech) (spent : Spent) where
       ≡ record { network = networkPlace node s; application = if isLastMissing (filled k) i (lastOf node s) then applicationPlace node s (s .words) else 0 }
   CountsAt filled (Foreign pdu) o = Unit {0}
   CountsAt filled (Ask net src) o = Unit {0}
+  CountsAt filled (Own c) o = Unit {0}
 
   module _ (r : Receiver) (filled : ℕ → ℕ) (c : Call) where
     hands-as : (e : Event) → Next node speeches spent r filled e c → handed (step r c) ≡ dueOf filled e
     hands-as (Segment k i seq ttl) n = answered-hands node (speechAt speeches k) (filled k) i (messageOf c) (step r c) (n .answers)
     hands-as (Foreign pdu) n = ap handed (n .answers .2)
     hands-as (Ask net src) n = n .answers
+    hands-as (Own c) n = n .answers
 
     stores-as : (e : Event) → Next node speeches spent r filled e c → StoresAt filled e (step r c)
     stores-as (Segment k i seq ttl) n = answered-stores node (speechAt speeches k) (filled k) i (messageOf c) (step r c) (n .answers)
     stores-as (Foreign pdu) n = tt {0}
     stores-as (Ask net src) n = tt {0}
+    stores-as (Own c) n = tt {0}
 
     counts-as : (e : Event) → Next node speeches spent r filled e c → CountsAt filled e (step r c)
     counts-as (Segment k i seq ttl) n = n .answers .tried-is
     counts-as (Foreign pdu) n = tt {0}
     counts-as (Ask net src) n = tt {0}
+    counts-as (Own c) n = tt {0}
 
 module _ {node : Node} {speeches : List Speech} {spent : Spent} {r : Receiver} {filled : ℕ → ℕ} {e : Event} {c : Call} (n : Next node speeches spent r filled e c) where
   pub hands : handed (step r c) ≡ dueOf node speeches spent filled e

@@ -27,13 +27,13 @@ use Rattle.node.specs.Setup.{boundWithin, keysValid, nextWithin, elementsValid,
 use Rattle.node.specs.declared.addresses.Node.{Node}
 use Rattle.receiver.specs.declared.fresh.Answer.the-variants.{Ready}
 use Rattle.receiver.specs.Fresh.{settingUp}
-use Rattle.demands.specs.Instance.{shed, humidity, temperature, boxes, arrival, traffic, SceneMet, bench, toShed, report, SendingMet}
+use Rattle.demands.specs.Instance.{shed, humidity, temperature, boxes, arrival, order, traffic, SceneMet, bench, toShed, report, SendingMet}
 use Rattle.receiver.proofs.Good.{good-fresh}
 use Rattle.sending.specs.Access.{isWhole, sizeAllowed, accessAllowed}
 use Rattle.sending.specs.Request.{requestAllowed}
 use Rattle.sending.specs.Transmission.{nextSeq}
 use Rattle.demands.specs.Interleaved as scene
-use Rattle.demands.specs.Interleaved.{Event, Segment, Foreign, Ask, start, Each, Spent, speechAt, Sent, Comes, Arrives, AllCome}
+use Rattle.demands.specs.Interleaved.{Event, Segment, Foreign, Ask, Own, start, Each, Spent, speechAt, Sent, Comes, Arrives, AllCome}
 use Rattle.demands.specs.ReadBack.{pdus, saidBy, Shared, OwnKeyFirst, Between, accepted}
 use Rattle.demands.specs.Refusal.{noKeyOpens}
 use Rattle.demands.specs.Speech.{Access, keyOf, envelopeOf, octetsOf, lastOf, headerOf, Speakable}
@@ -199,12 +199,15 @@ scene-met = (
             (
               arrives (Ask 0 0x0002) (tt {0}),
               (
-                arrives (Segment 1 1 0x000201 7) (sent-as 1 1 0x000201 7 (omega arith) (omega arith) refl (within-time 0x200 0x201 (omega arith) (omega arith)) (omega arith) (omega arith)),
+                arrives (Own order) refl,
                 (
-                  arrives (Segment 0 0 0x000102 5) (sent-as 0 0 0x000102 5 (omega arith) (omega arith) refl (within-time 0x100 0x102 (omega arith) (omega arith)) (omega arith) (omega arith)),
+                  arrives (Segment 1 1 0x000201 7) (sent-as 1 1 0x000201 7 (omega arith) (omega arith) refl (within-time 0x200 0x201 (omega arith) (omega arith)) (omega arith) (omega arith)),
                   (
-                    arrives (Segment 0 0 0x000103 5) (sent-as 0 0 0x000103 5 (omega arith) (omega arith) refl (within-time 0x100 0x103 (omega arith) (omega arith)) (omega arith) (omega arith)),
-                    tt {0},
+                    arrives (Segment 0 0 0x000102 5) (sent-as 0 0 0x000102 5 (omega arith) (omega arith) refl (within-time 0x100 0x102 (omega arith) (omega arith)) (omega arith) (omega arith)),
+                    (
+                      arrives (Segment 0 0 0x000103 5) (sent-as 0 0 0x000103 5 (omega arith) (omega arith) refl (within-time 0x100 0x103 (omega arith) (omega arith)) (omega arith) (omega arith)),
+                      tt {0},
+                    ),
                   ),
                 ),
               ),

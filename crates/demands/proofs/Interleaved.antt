@@ -2,7 +2,7 @@
 -- segments come so far make (`Scenery`): silent, gathering in a session, or done. A segment moves its own speech on and
 -- leaves the others, since a slot or an entry of one source is never another's; there is always room, since eight
 -- speakers need eight slots at most and 32 entries are more than eight. A PDU from the cache brings a segment that had
--- come; one that no key opens, and a request to acknowledge, move nothing. Now read off the stage: a segment hands up
+-- come; one that no key opens, a request to acknowledge, and what the receiver sends, move nothing. Now read off the stage: a segment hands up
 -- the message exactly where it was the last that was missing, and an acknowledgement names the places filled. Behind
 -- all of them every speech is done, so no session is open and each replay entry is the speech's own, in whatever order
 -- they came; the order in turn is one such. A speech that is done stays so: one message each. Assumes nothing.
@@ -41,7 +41,7 @@ use Rattle.sending.specs.Acknowledge.{chosen}
 use Rattle.sending.proofs.Laws.Calls.{acknowledgement-sent, chosen-session, chosen-last}
 use Rattle.sending.proofs.Laws.Stamped.{element-low}
 use Rattle.demands.specs.Call.{step, run, after}
-use Rattle.demands.specs.Interleaved.{Event, Segment, Foreign, Ask, Arrival, start, nodeOf, speechAt, callAs, callOf, calls, comeWith, comeFrom, come, ComeNames, Spent, Arrives, Each, Scene, AllCome, dueAs, behind, HandedUp, AnsweredAs, Answered, Acknowledges, messages, turns, EndsAlike}
+use Rattle.demands.specs.Interleaved.{Event, Segment, Foreign, Ask, Own, Arrival, start, nodeOf, speechAt, callAs, callOf, calls, comeWith, comeFrom, come, ComeNames, Spent, Arrives, Each, Scene, AllCome, dueAs, behind, HandedUp, AnsweredAs, Answered, Acknowledges, messages, turns, EndsAlike}
 use Rattle.demands.specs.Speech.{Speech, lastOf, Speakable, Handed, handUp}
 use Rattle.demands.proofs.ArrivalLaws.{Next, event-next, dueOf, hands}
 use Rattle.demands.proofs.ComeLaws.{each-first, each-at, each-turn, come-from, come-in-turn}
@@ -181,6 +181,7 @@ answers-as :
 answers-as node speeches spent r filled (Segment k i seq ttl) fwd msg n = n .answers
 answers-as node speeches spent r filled (Foreign pdu) fwd msg n = n .answers
 answers-as node speeches spent r filled (Ask net src) fwd msg n = n .answers
+answers-as node speeches spent r filled (Own c) fwd msg n = n .answers
 
 -- what is due behind a list of arrivals
 arrival-hands :
@@ -189,6 +190,7 @@ arrival-hands :
 arrival-hands node speeches spent before (Segment k i seq ttl) h = h
 arrival-hands node speeches spent before (Foreign pdu) h = h
 arrival-hands node speeches spent before (Ask net src) h = h
+arrival-hands node speeches spent before (Own c) h = h
 
 module _ (setup : Setup) (speeches : List Speech) (before : List Arrival) (a : Arrival) (later : List Arrival) (c : Scene setup speeches (before ++ a ∷ later)) where
   -- what the arrival does behind those before it

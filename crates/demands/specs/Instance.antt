@@ -1,6 +1,6 @@
 -- Premises are met: a scene of two speakers for demand 3, a message that is sent and read back for demand 2, and a PDU that is forwarded. Keys are those of MP's sample data.
 --   shed                the receiver's setup: one network key, one application key, one element
---   boxes, traffic      two boxes' messages, their segments interleaved, with repeats, a PDU that no key opens and a request to acknowledge
+--   boxes, traffic      two boxes' messages, their segments interleaved, with repeats, a PDU that no key opens, a request to acknowledge and a message of the shed's own
 --   SceneMet            all premises of demand 3 hold of it
 --   SendingMet          all premises of demand 2 hold of a box's report to the shed
 --   ForwardingMet       all premises of `Forwards` hold of a PDU that one box sends another past the shed, and it is forwarded
@@ -22,8 +22,9 @@ use Rattle.node.specs.Setup.{nothing, withNetworkKey, withApplicationKey, withD
 use Rattle.receiver.specs.Good.{Good}
 use Rattle.sending.specs.declared.request.Request.{Request}
 use Rattle.sending.specs.declared.request.Ttl.the-variants.{Unnamed}
+use Rattle.demands.specs.Call.{Call, SendAccess}
 use Rattle.demands.specs.Forwarding.{Passes}
-use Rattle.demands.specs.Interleaved.{Event, Segment, Foreign, Ask, Arrival, start, nodeOf, Scene, AllCome}
+use Rattle.demands.specs.Interleaved.{Event, Segment, Foreign, Ask, Own, Arrival, start, nodeOf, Scene, AllCome}
 use Rattle.demands.specs.ReadBack.{Sending}
 use Rattle.demands.specs.Speech.{Words, Access, Control, Speech}
 
@@ -61,6 +62,10 @@ boxes = humidity ∷ temperature ∷ []
 abbrev pub arrival : Event → Arrival
 arrival e = record { event = e; forward = replicate pduOctets 0; message = replicate messageOctets 0 }
 
+-- the shed sends the first box eight octets under the application key, in one PDU
+abbrev pub order : Call
+order = SendAccess (record { element = 0; dst = 0x0002; ttl = Unnamed; network = 0 }) (Application 0) false (replicate 8 0x21) (replicate pduOctets 0)
+
 abbrev pub traffic : List Arrival
 traffic =
     arrival (Segment 0 1 0x000101 5)
@@ -69,6 +74,7 @@ traffic =
     -- the same PDU again, with another TTL
     ∷ arrival (Segment 0 1 0x000101 4)
     ∷ arrival (Ask 0 0x0002)
+    ∷ arrival (Own order)
     ∷ arrival (Segment 1 1 0x000201 7)
     -- segment 0, lost before; and once more under a new number
     ∷ arrival (Segment 0 0 0x000102 5)

@@ -1,7 +1,7 @@
--- Demand 3: at most eight senders, one segmented message each, segments in any order and mixture with repeats, PDUs that no key opens and requests to
--- acknowledge. Each message is handed up exactly once, when its last missing segment comes; each acknowledgement names exactly the segments come so far; messages and
--- replay entries end as if the senders had spoken one after another, no session open.
---   Arrival, callOf        what comes, and the call that hears or acknowledges it
+-- Demand 3: at most eight senders, one segmented message each, segments in any order and mixture with repeats, PDUs that no key opens, requests to acknowledge and what the receiver
+-- itself sends. Each message is handed up exactly once, when its last missing segment comes; each acknowledgement names exactly the segments come so far; messages and replay entries
+-- end as if the senders had spoken one after another, no session open.
+--   Arrival, callOf        what comes, and the call that hears or acknowledges it, or is the receiver's own
 --   come k l               the segments of speech k among l, a bit each (`ComeNames`)
 --   isLastMissing          a segment is the last of its speech that was missing
 --   Scene                  the premises
@@ -42,7 +42,7 @@ use Rattle.receiver.specs.Fresh.{settingUp}
 use Rattle.receiver.specs.Hearing.{outcome, refusedHeard}
 use Rattle.sending.specs.Acknowledge.{acknowledging, sayingAcknowledgement}
 use Rattle.sending.specs.Segment.{elementOf}
-use Rattle.demands.specs.Call.{Call, Hear, Acknowledge, Answer, Heard, Said, Ended, Outcome, leftHeard, step, run, after}
+use Rattle.demands.specs.Call.{Call, Hear, GiveUp, SendAccess, SendControl, SendSegment, Acknowledge, Stop, Answer, Heard, Said, Ended, Outcome, leftHeard, step, run, after}
 use Rattle.demands.specs.Refusal.{noKeyOpens}
 use Rattle.demands.specs.Speech.{Control, Speech, lastOf, headerOf, segmentPdu, Speakable, Handed, handUp, networkPlace, applicationPlace}
 
@@ -61,8 +61,10 @@ pub data Event : Type 0 where
   Foreign : (pdu : List ℕ) → Event
   -- a request to acknowledge a source over a network key
   Ask : (net src : ℕ) → Event
+  -- the receiver sends, or gives up what it sends
+  Own : (c : Call) → Event
 
--- with the buffers that the call is lent: the first for a PDU, the second for a message
+-- with the buffers that the call is lent: the first for a PDU, the second for a message; the receiver's own call has its own
 pub record Arrival : Type 0 where
   pub event : Event
   pub forward : List ℕ
@@ -79,6 +81,7 @@ abbrev pub callAs : Node → List Speech → Event → List ℕ → List ℕ →
 callAs node speeches (Segment k i seq ttl) fwd msg = Hear (segmentPdu node (speechAt speeches k) i seq ttl) fwd msg
 callAs node speeches (Foreign pdu) fwd msg = Hear pdu fwd msg
 callAs node speeches (Ask net src) fwd msg = Acknowledge net src fwd
+callAs node speeches (Own c) fwd msg = c
 
 abbrev pub callOf : Node → List Speech → Arrival → Call
 callOf node speeches a = callAs node speeches (a .event) (a .forward) (a .message)
@@ -91,6 +94,7 @@ abbrev pub comeWith : ℕ → ℕ → Event → ℕ
 comeWith k bits (Segment j i seq ttl) = if eqb j k then withBit bits i else bits
 comeWith k bits (Foreign pdu) = bits
 comeWith k bits (Ask net src) = bits
+comeWith k bits (Own c) = bits
 
 abbrev pub comeFrom : ℕ → ℕ → List Arrival → ℕ
 comeFrom k bits [] = bits
@@ -104,6 +108,7 @@ abbrev pub isSegment : ℕ → ℕ → Event → Bool
 isSegment k i (Segment j n seq ttl) = eqb j k && eqb n i
 isSegment k i (Foreign pdu) = false
 isSegment k i (Ask net src) = false
+isSegment k i (Own c) = false
 
 abbrev pub among : ℕ → ℕ → List Arrival → Bool
 among k i [] = false
@@ -135,10 +140,21 @@ pub record Sent (node : Node) (speeches : List Speech) (spent : Spent) (k i seq 
   pub own-key-first :
       network.Receives (node .materials) (node .networks) (node .iv) (headerOf node (speechAt speeches k) i seq ttl) (segmentPdu node (speechAt speeches k) i seq ttl)
 
+-- a call that sends a message or a segment, or gives up the outgoing message: not one that hears, gives up a session or acknowledges
+abbrev pub isOwn : Call → Bool
+isOwn (Hear pdu fwd msg) = false
+isOwn (GiveUp src) = false
+isOwn (SendAccess q key szmic payload buf) = true
+isOwn (SendControl q opcode parameters buf) = true
+isOwn (SendSegment n buf) = true
+isOwn (Acknowledge net src buf) = false
+isOwn Stop = true
+
 abbrev pub Comes : Node → List Speech → Spent → Event → Type 0
 Comes node speeches spent (Segment k i seq ttl) = Sent node speeches spent k i seq ttl
 Comes node speeches spent (Foreign pdu) = noKeyOpens (opening (node .materials) (node .networks) (node .iv) pdu .answer) ≡ true
 Comes node speeches spent (Ask net src) = Unit {0}
+Comes node speeches spent (Own c) = isOwn c ≡ true
 
 pub record Arrives (node : Node) (speeches : List Speech) (spent : Spent) (a : Arrival) : Type 0 where
   pub comes : Comes node speeches spent (a .event)
@@ -196,6 +212,7 @@ dueAs node speeches before (Segment k i seq ttl) =
     []
 dueAs node speeches before (Foreign pdu) = []
 dueAs node speeches before (Ask net src) = []
+dueAs node speeches before (Own c) = []
 
 -- the receiver behind a list of arrivals
 abbrev pub behind : Setup → List Speech → List Arrival → Receiver
@@ -236,6 +253,7 @@ abbrev pub AnsweredAs : Node → List Speech → (ℕ → ℕ) → Receiver → 
 AnsweredAs node speeches filled r (Segment k i seq ttl) fwd msg o = SegmentAnswered node (speechAt speeches k) (filled k) i msg o
 AnsweredAs node speeches filled r (Foreign pdu) fwd msg o = ForeignAnswered node r pdu fwd msg o
 AnsweredAs node speeches filled r (Ask net src) fwd msg o = handed o ≡ []
+AnsweredAs node speeches filled r (Own c) fwd msg o = handed o ≡ []
 
 abbrev pub Answered : Type 0
 Answered =
@@ -262,6 +280,7 @@ abbrev pub ofSpeech : ℕ → Event → Bool
 ofSpeech k (Segment j i seq ttl) = eqb j k
 ofSpeech k (Foreign pdu) = false
 ofSpeech k (Ask net src) = false
+ofSpeech k (Own c) = false
 
 abbrev pub arrivalsOf : ℕ → List Arrival → List Arrival
 arrivalsOf k l = picked (λ a. ofSpeech k (a .event)) l
