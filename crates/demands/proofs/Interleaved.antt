@@ -9,7 +9,7 @@
 --   come-names     the bits name the segments that came
 --   handed-up      1: where a message is handed up
 --   answered       every answer
---   acknowledges   2: what an acknowledgement names
+--   acknowledges   2: what an acknowledgement names, and when there is none
 --   ends-alike     3: what is left at the end
 use mathlib.Core.Bool.{true, false, false≢true}
 use mathlib.Core.List.{List, [], _∷_, _++_}
@@ -21,11 +21,9 @@ use borrow.Author.Tests.{ne-eqb}
 use lib.ListN.{length, length-replicate, getD-replicate}
 use lib.Seq.{ext-getD}
 use Rattle.common.specs.Bits.{hasBit, allBits}
-use Rattle.common.proofs.BitLaws.{has-none, has-all, all-of-bits}
+use Rattle.common.proofs.BitLaws.{has-none, all-of-bits}
 use Rattle.common.proofs.Tests.{by-test}
 use Rattle.network.proofs.AddressLaws.{unicast-some}
-use Rattle.memory.specs.declared.replay.Entry.{Entry}
-use Rattle.memory.specs.declared.session.Session.{Session}
 use Rattle.memory.specs.Replay.{noEntry, lookUp}
 use Rattle.memory.specs.Session.{sessionSlots, noSession, noSessions, sessionAt, sessionPlace, isFree}
 use Rattle.memory.proofs.ReplayMap.{listed-or-none}
@@ -33,23 +31,20 @@ use Rattle.memory.proofs.SessionSlots.{past, place-upto}
 use Rattle.node.specs.declared.addresses.Node.{Node}
 use Rattle.node.specs.declared.setup.Setup.{Setup}
 use Rattle.node.specs.Made.{WellMade}
-use Rattle.node.proofs.Addressed.{local-of}
 use Rattle.receiver.specs.declared.state.Receiver.{Receiver}
 use Rattle.receiver.specs.Good.{Gathering}
 use Rattle.receiver.proofs.Good.{good-fresh}
-use Rattle.sending.specs.Acknowledge.{chosen}
-use Rattle.sending.proofs.Laws.Calls.{acknowledgement-sent, chosen-session, chosen-last}
-use Rattle.sending.proofs.Laws.Stamped.{element-low}
 use Rattle.demands.specs.Call.{step, run, after}
 use Rattle.demands.specs.Interleaved.{Event, Segment, Foreign, Ask, Own, Arrival, start, nodeOf, speechAt, callAs, callOf, calls, comeWith, comeFrom, come, ComeNames, Spent, Arrives, Each, Scene, AllCome, dueAs, behind, HandedUp, AnsweredAs, Answered, Acknowledges, messages, turns, EndsAlike}
 use Rattle.demands.specs.Speech.{Speech, lastOf, Speakable, Handed, handUp}
+use Rattle.demands.proofs.AskLaws.{asked-names, asked-refuses}
 use Rattle.demands.proofs.ArrivalLaws.{Next, event-next, dueOf, hands}
 use Rattle.demands.proofs.ComeLaws.{each-first, each-at, each-turn, come-from, come-in-turn}
 use Rattle.demands.proofs.DueLaws.{dueWith, dueBehind, picked-due, once-due}
-use Rattle.demands.proofs.SceneLaws.{speakerOf, speakerKey, Scenery, same-scene, begins}
+use Rattle.demands.proofs.SceneLaws.{speakerOf, speakerKey, Scenery, begins}
 use Rattle.demands.proofs.SpeechCut.{last-low}
 use Rattle.demands.proofs.SpeechSession.{sessionOf}
-use Rattle.demands.proofs.StageLaws.{entryOf, Stage, Silent, Gathers, Done}
+use Rattle.demands.proofs.StageLaws.{none-all, entryOf, Stage, Silent, Gathers, Done}
 
 -- ---- from arrival to arrival
 module _ (node : Node) (made : WellMade node) (speeches : List Speech) (few : length speeches ≤ 8)
@@ -135,13 +130,6 @@ module _ (node : Node) (made : WellMade node) (speeches : List Speech) (few : le
 pub come-names : ComeNames
 come-names k i l h = come-from k i 0 l h ∙ rw (has-none i) refl
 
--- ---- what is acknowledged
-module _ (node : Node) (s : Speech) (replay : List Entry) (sessions : List Session) (bits : ℕ) (spoken : s .src ≡ 0 → ⊥) (some : bits ≡ 0 → ⊥) where
-  chosen-is : Stage node s replay sessions bits → chosen replay sessions (s .src) ≡ record { auth = s .auth; dst = s .dst; bits = bits }
-  chosen-is (Silent b p e) = absurd (some b)
-  chosen-is (Gathers len bytes z m p h k e) = chosen-session replay sessions (s .src) spoken (sessionOf node s bits len bytes) p h
-  chosen-is (Done b p e) = chosen-last replay sessions (s .src) spoken (entryOf node s) p e ∙ rw b refl
-
 -- ---- the three conclusions
 module _ (setup : Setup) (speeches : List Speech) where
   abbrev node : Node
@@ -164,15 +152,11 @@ module _ (setup : Setup) (speeches : List Speech) where
       ended : Over node well speeches (c .eight-at-most) (c .speakable) (c .sources-differ) (c .spent) (behind setup speeches l) (λ k. come k l) seen k hk (λ i. all k i hk)
       ended = over node well speeches (c .eight-at-most) (c .speakable) (c .sources-differ) (c .spent) (behind setup speeches l) (λ k. come k l) seen k hk (λ i. all k i hk)
 
-      nothing-yet : 0 ≡ allBits (lastOf node (speechAt speeches k)) → ⊥
-      nothing-yet e =
-          false≢true (sym (has-none 0) ∙ ap (λ (x : ℕ). hasBit x 0) e ∙ has-all (lastOf node (speechAt speeches k)) 0 (omega arith) (omega arith))
-
       one-message : messages (speakerOf speeches k) (run (start setup) (calls node speeches l)) ≡ handUp (speechAt speeches k) ∷ []
       one-message =
           let m = messages-are node well speeches (c .eight-at-most) (c .speakable) (c .sources-differ) (c .spent) k hk (start setup) (λ _. 0)
           (begins setup (c .ready) speeches (c .spent) (c .speakable)) l (c .arrives) in
-          m ∙ once-due node speeches k (c .spent) hk (c .speakable) 0 nothing-yet l (c .arrives) (ended .filled-all)
+          m ∙ once-due node speeches k (c .spent) hk (c .speakable) 0 (none-all (lastOf node (speechAt speeches k))) l (c .arrives) (ended .filled-all)
 
 -- the buffers of an event are its call's
 answers-as :
@@ -193,16 +177,29 @@ arrival-hands node speeches spent before (Ask net src) h = h
 arrival-hands node speeches spent before (Own c) h = h
 
 module _ (setup : Setup) (speeches : List Speech) (before : List Arrival) (a : Arrival) (later : List Arrival) (c : Scene setup speeches (before ++ a ∷ later)) where
-  -- what the arrival does behind those before it
+  -- the scene so far
+  abbrev before-scene : Scene setup speeches before
+  before-scene =
+      record {
+        ready = c .ready;
+        eight-at-most = c .eight-at-most;
+        speakable = c .speakable;
+        sources-differ = c .sources-differ;
+        spent = c .spent;
+        arrives = each-first (Arrives (nodeOf setup) speeches (c .spent)) before (a ∷ later) (c .arrives);
+      }
+
+  pub seen-before : Scenery (nodeOf setup) speeches (c .spent) (behind setup speeches before) (λ k. come k before)
+  seen-before = seen setup speeches before before-scene
+
+  here : Arrives (nodeOf setup) speeches (c .spent) a
+  here = each-at (Arrives (nodeOf setup) speeches (c .spent)) before a later (c .arrives)
+
+  -- what the arrival does there
   next : Next (nodeOf setup) speeches (c .spent) (behind setup speeches before) (λ k. come k before) (a .event) (callOf (nodeOf setup) speeches a)
   next =
-      let node = nodeOf setup in
-      let P = Arrives node speeches (c .spent) in
-      let made = good-fresh setup (c .ready) .node-made in
-      let sc = seen-behind node made speeches (c .eight-at-most) (c .speakable) (c .sources-differ) (c .spent) (start setup) (λ _. 0)
-      (begins setup (c .ready) speeches (c .spent) (c .speakable)) before (each-first P before (a ∷ later) (c .arrives)) in
-      arrival-next node made speeches (c .eight-at-most) (c .speakable) (c .sources-differ) (c .spent) (behind setup speeches before) (λ k. come k before) sc a
-      (each-at P before a later (c .arrives))
+      arrival-next (nodeOf setup) (well setup speeches before before-scene) speeches (c .eight-at-most) (c .speakable) (c .sources-differ) (c .spent)
+      (behind setup speeches before) (λ k. come k before) seen-before a here
 
 pub handed-up : HandedUp
 handed-up setup speeches before a later c =
@@ -214,19 +211,17 @@ answered setup speeches before a later c =
     (next setup speeches before a later c)
 
 pub acknowledges : Acknowledges
-acknowledges setup speeches before k net buf c hk some unicast key wide =
+acknowledges setup speeches before net src fwd msg later c =
     let node = nodeOf setup in
-    let s = speechAt speeches k in
-    let made = well setup speeches before c in
-    let sc = seen setup speeches before c in
-    let w = c .speakable k hk in
-    let e = chosen-is node s _ _ (come k before) (unicast-some (s .src) (w .from-unicast)) some (sc .stages k hk) in
-    let n = element-low node made (s .dst) (local-of node made (s .dst) unicast (w .for-here)) in
-    let most = made .networks-most in
-    let same = same-scene sc in
-    acknowledgement-sent (behind setup speeches before) buf wide net (s .src) (record { auth = s .auth; dst = s .dst; bits = come k before }) e
-    (rw same (omega arith)) unicast (rw same n)
-    ∙ rw same refl
+    let r = behind setup speeches before in
+    let a : Arrival = record { event = Ask net src; forward = fwd; message = msg } in
+    let wide = here setup speeches before a later c .room-forward in
+    let sc = seen-before setup speeches before a later c in
+    let made = well setup speeches before (before-scene setup speeches before a later c) in
+    record {
+      names = asked-names node made speeches (c .speakable) (c .spent) before r sc net src fwd wide;
+      refuses = asked-refuses node made speeches (c .speakable) (c .spent) before r sc net src fwd wide;
+    }
 
 -- the scene in turn is a scene, and all come in it
 in-turn : (setup : Setup) (speeches : List Speech) (l : List Arrival) → Scene setup speeches l → Scene setup speeches (turns speeches l)

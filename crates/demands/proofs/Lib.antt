@@ -14,6 +14,7 @@ pub mod AnsweredLaws
 pub mod StepLaws
 pub mod SceneLaws
 pub mod KeptLaws
+pub mod AskLaws
 pub mod ArrivalLaws
 pub mod ComeLaws
 pub mod DueLaws

@@ -31,7 +31,7 @@ use Rattle.receiver.proofs.Good.{good-fresh}
 use Rattle.receiver.proofs.Laws.Fresh.{fresh-is, fresh-unseen}
 use Rattle.demands.specs.Interleaved.{speechAt, Spent, start, nodeOf}
 use Rattle.demands.specs.Speech.{Speech, Speakable}
-use Rattle.demands.proofs.StageLaws.{keyOf, Stage, Silent, unheard-none}
+use Rattle.demands.proofs.StageLaws.{keyOf, Stage, Silent}
 
 -- ---- the scene
 -- who speaks
@@ -70,7 +70,7 @@ module _ (setup : Setup) (ready : settingUp setup .answer ≡ Ready) (speeches :
         index-same = refl;
         stages = λ k h.
             Silent refl (rw (fresh-is setup) (place-none (speakerKey speeches k) (ne-eqb (speakerOf speeches k) 0 (speaks k h))))
-            (unheard-none (nodeOf setup) (speechAt speeches k) _ (rw (fresh-is setup) (lookUp-none (speakerOf speeches k))));
+            (rw (fresh-is setup) (lookUp-none (speakerOf speeches k)));
         sessions-owned = rw (fresh-is setup) (owned-none (length speeches) (speakerKey speeches));
         entries-listed = rw (fresh-is setup) (listed-none (length speeches) (speakerOf speeches));
         seen-come = λ k h w q e. absurd (false≢true (sym (fresh-unseen setup h (λ z. speaks k w (sym q ∙ z))) ∙ e));

@@ -44,7 +44,7 @@ use Rattle.demands.proofs.AnsweredLaws.{had-come, is-stored, is-up}
 use Rattle.demands.proofs.GatherLaws.{Holds, holds-begun, segment-stored, newLen, newBytes, holds-more, holds-all}
 use Rattle.demands.proofs.SpeechCut.{last-low}
 use Rattle.demands.proofs.SpeechSession.{sessionOf, session-up}
-use Rattle.demands.proofs.StageLaws.{segmentAt, keyOf, Unheard, Stage, Silent, Gathers, Done, stage-other}
+use Rattle.demands.proofs.StageLaws.{segmentAt, keyOf, Unheard, Stage, Silent, Gathers, Done, unheard-none, stage-other}
 
 -- what a call leaves that took t, its network key tried at its place, and forwards nothing
 abbrev pub leftTaken : Node → Speech → Lent Taken → Outcome
@@ -238,7 +238,7 @@ module _ (node : Node) (made : WellMade node) (s : Speech) (w : Speakable node s
 
       pub placed-steps : Stage node s (r .replay) (r .sessions) bits → Step node s r bits i msg t
       unfolding headerOf
-      placed-steps (Silent b p e) = opened b e p
+      placed-steps (Silent b p e) = opened b (unheard-none node s (r .replay) e) p
       placed-steps (Gathers len bytes z m p held k e) =
           by-test (hasBit bits i)
           (λ has.

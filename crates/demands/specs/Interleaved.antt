@@ -7,7 +7,7 @@
 --   Scene                  the premises
 --   HandedUp               1: where a message is handed up
 --   Answered               every answer to a segment, and to a PDU that no key opens
---   Acknowledges           2: what an acknowledgement names
+--   Acknowledges           2: what an acknowledgement names, and when there is none
 --   EndsAlike              3: what is left at the end
 use mathlib.Core.Bool.{Bool, true, false, _&&_, _||_, not}
 use mathlib.Core.List.{List, [], _∷_, _++_, map}
@@ -18,6 +18,7 @@ use lib.Dec.{eqb}
 use lib.ListN.{length, getD, take}
 use Rattle.common.specs.Bits.{hasBit, withBit, allBits}
 use Rattle.common.specs.Choice.{if_then_else_}
+use Rattle.common.specs.Lent.{lent}
 use Rattle.common.specs.Lists.{onto}
 use Rattle.common.specs.Search.{picked}
 use Rattle.network.specs.Address.{isUnicast}
@@ -41,6 +42,7 @@ use Rattle.receiver.specs.Answer.{refusalNumber}
 use Rattle.receiver.specs.Fresh.{settingUp}
 use Rattle.receiver.specs.Hearing.{outcome, refusedHeard}
 use Rattle.sending.specs.Acknowledge.{acknowledging, sayingAcknowledgement}
+use Rattle.sending.specs.Answer.{refusedAt}
 use Rattle.sending.specs.Segment.{elementOf}
 use Rattle.demands.specs.Call.{Call, Hear, GiveUp, SendAccess, SendControl, SendSegment, Acknowledge, Stop, Answer, Heard, Said, Ended, Outcome, leftHeard, step, run, after}
 use Rattle.demands.specs.Refusal.{noKeyOpens}
@@ -262,17 +264,31 @@ Answered =
     → (let r = behind setup speeches before in
     AnsweredAs (nodeOf setup) speeches (λ k. come k before) r (a .event) (a .forward) (a .message) (step r (callOf (nodeOf setup) speeches a)))
 
--- ---- 2: an acknowledgement asked for speech k after its first arrival is the one that names exactly the segments come so far
+-- ---- 2: a request to acknowledge, whenever it comes, is answered by the acknowledgement that names exactly the segments come so far, or refused
+-- it is for speech k: that is its source's, a segment of it has come, its DST is unicast, and the network key is there
+pub record AskedOf (node : Node) (speeches : List Speech) (before : List Arrival) (net src k : ℕ) : Type 0 where
+  pub one-of : k < length speeches
+  pub its-source : src ≡ speechAt speeches k .src
+  pub some-come : come k before ≡ 0 → ⊥
+  pub to-unicast : isUnicast (speechAt speeches k .dst) ≡ true
+  pub key-there : net < node .networks
+
+-- the answer to a request, lent this buffer
+pub record AskAnswered (node : Node) (speeches : List Speech) (before : List Arrival) (r : Receiver) (net src : ℕ) (buf : List ℕ) : Type 0 where
+  -- a bit for each segment come so far, sent by the element that the speech was said to
+  pub names :
+      (k : ℕ) → AskedOf node speeches before net src k
+      → (let s = speechAt speeches k in
+      acknowledging r net src buf
+      ≡ sayingAcknowledgement r (elementOf node (s .dst)) net src (record { auth = s .auth; dst = s .dst; bits = come k before }) buf)
+  -- 14 where it is for none, and it leaves everything
+  pub refuses : ((k : ℕ) → AskedOf node speeches before net src k → ⊥) → acknowledging r net src buf ≡ lent (refusedAt r refusal.OutsideRules) buf
+
 abbrev pub Acknowledges : Type 0
 Acknowledges =
-    (setup : Setup) (speeches : List Speech) (before : List Arrival) (k net : ℕ) (buf : List ℕ)
-    → Scene setup speeches before → k < length speeches
-    → (let s = speechAt speeches k in
-    let r = behind setup speeches before in
-    -- a segment has come, DST is unicast, the network key is there, and so is the buffer
-    (come k before ≡ 0 → ⊥) → isUnicast (s .dst) ≡ true → net < nodeOf setup .networks → pduOctets ≤ length buf
-    → acknowledging r net (s .src) buf
-    ≡ sayingAcknowledgement r (elementOf (nodeOf setup) (s .dst)) net (s .src) (record { auth = s .auth; dst = s .dst; bits = come k before }) buf)
+    (setup : Setup) (speeches : List Speech) (before : List Arrival) (net src : ℕ) (fwd msg : List ℕ) (later : List Arrival)
+    → Scene setup speeches (before ++ record { event = Ask net src; forward = fwd; message = msg } ∷ later)
+    → AskAnswered (nodeOf setup) speeches before (behind setup speeches before) net src fwd
 
 -- ---- 3: at the end no session is open, and replay entries and messages are those of the speeches heard one after another
 -- the arrivals of speech k
