@@ -20,6 +20,7 @@ pub mod ComeLaws
 pub mod DueLaws
 pub mod Interleaved
 pub mod SentLaws
+pub mod Acknowledged
 pub mod WholeHeard
 pub mod WholeSent
 pub mod SaidLaws

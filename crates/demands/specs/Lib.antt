@@ -7,6 +7,7 @@ pub mod NeverTwice
 pub mod Speech
 pub mod Interleaved
 pub mod ReadBack
+pub mod Acknowledged
 pub mod Forwarding
 pub mod Instance
 pub mod Invariant
