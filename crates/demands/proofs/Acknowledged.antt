@@ -3,11 +3,11 @@
 -- set, and marks what it names. Assumes nothing.
 --   acknowledgement-read   it does
 use mathlib.Core.Bool.{true, false}
-use mathlib.Core.List.{List, _∷_, _++_}
+use mathlib.Core.List.{List}
 use mathlib.Core.Path.{_≡_, refl, sym, ap, _∙_, subst}
 use Prim.Native.Nat.{ℕ, _+_, _%_, _^_, _≤_, _<_}
 use native.Mathlib.Omega.{arith}
-use borrow.Author.Tests.{eq-eqb, ne-eqb, eqb-true, eqb-false}
+use borrow.Author.Tests.{eq-eqb, eqb-true, eqb-false}
 use lib.Dec.{eqb}
 use lib.ListN.{length, take, drop, replicate}
 use Rattle.common.specs.Bits.{allBits}
@@ -19,7 +19,6 @@ use Rattle.network.specs.declared.header.Header.{Header}
 use Rattle.network.specs.declared.opening.Answer.the-variants.{Opened}
 use Rattle.network.specs.declared.opening.Opening.{Opening}
 use Rattle.network.specs.Candidates.{keyAt, candidates}
-use Rattle.network.specs.Header.{transportOf}
 use Rattle.network.specs.Opening.{opening}
 use Rattle.network.specs.Pdu.{pduOf}
 use Rattle.network.specs.Sealing.{sealable}
