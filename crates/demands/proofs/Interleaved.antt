@@ -176,18 +176,24 @@ arrival-hands node speeches spent before (Foreign pdu) h = h
 arrival-hands node speeches spent before (Ask net src) h = h
 arrival-hands node speeches spent before (Own c) h = h
 
+-- the same speakers, and other arrivals
+abbrev with-arrivals :
+    {setup : Setup} {speeches : List Speech} {l : List Arrival} (c : Scene setup speeches l) (m : List Arrival) → Each (Arrives (nodeOf setup) speeches (c .spent)) m
+    → Scene setup speeches m
+with-arrivals c m e =
+    record {
+      ready = c .ready;
+      eight-at-most = c .eight-at-most;
+      speakable = c .speakable;
+      sources-differ = c .sources-differ;
+      spent = c .spent;
+      arrives = e;
+    }
+
 module _ (setup : Setup) (speeches : List Speech) (before : List Arrival) (a : Arrival) (later : List Arrival) (c : Scene setup speeches (before ++ a ∷ later)) where
   -- the scene so far
   abbrev before-scene : Scene setup speeches before
-  before-scene =
-      record {
-        ready = c .ready;
-        eight-at-most = c .eight-at-most;
-        speakable = c .speakable;
-        sources-differ = c .sources-differ;
-        spent = c .spent;
-        arrives = each-first (Arrives (nodeOf setup) speeches (c .spent)) before (a ∷ later) (c .arrives);
-      }
+  before-scene = with-arrivals c before (each-first (Arrives (nodeOf setup) speeches (c .spent)) before (a ∷ later) (c .arrives))
 
   pub seen-before : Scenery (nodeOf setup) speeches (c .spent) (behind setup speeches before) (λ k. come k before)
   seen-before = seen setup speeches before before-scene
@@ -225,15 +231,7 @@ acknowledges setup speeches before net src fwd msg later c =
 
 -- the scene in turn is a scene, and all come in it
 in-turn : (setup : Setup) (speeches : List Speech) (l : List Arrival) → Scene setup speeches l → Scene setup speeches (turns speeches l)
-in-turn setup speeches l c =
-    record {
-      ready = c .ready;
-      eight-at-most = c .eight-at-most;
-      speakable = c .speakable;
-      sources-differ = c .sources-differ;
-      spent = c .spent;
-      arrives = each-turn (Arrives (nodeOf setup) speeches (c .spent)) (length speeches) l (c .arrives);
-    }
+in-turn setup speeches l c = with-arrivals c (turns speeches l) (each-turn (Arrives (nodeOf setup) speeches (c .spent)) (length speeches) l (c .arrives))
 
 pub ends-alike : EndsAlike
 ends-alike setup speeches l c all =
