@@ -5,33 +5,24 @@
 use mathlib.Core.Bool.{true, false}
 use mathlib.Core.List.{List}
 use mathlib.Core.Path.{_≡_, refl, sym, ap, _∙_, subst}
-use Prim.Native.Nat.{ℕ, _+_, _%_, _^_, _≤_, _<_}
+use Prim.Native.Nat.{ℕ, _+_, _%_, _^_, _<_}
 use native.Mathlib.Omega.{arith}
 use borrow.Author.Tests.{eq-eqb, eqb-true, eqb-false}
 use lib.Dec.{eqb}
-use lib.ListN.{length, take, drop, replicate}
+use lib.ListN.{length}
 use Rattle.common.specs.Bits.{allBits}
 use Rattle.common.specs.Choice.{if_then_else_}
 use Rattle.common.specs.Lent.{Lent, lent}
-use Rattle.common.specs.Lists.{padded}
 use Rattle.common.proofs.Tests.{by-test}
 use Rattle.network.specs.declared.header.Header.{Header}
 use Rattle.network.specs.declared.opening.Answer.the-variants.{Opened}
 use Rattle.network.specs.declared.opening.Opening.{Opening}
 use Rattle.network.specs.Candidates.{keyAt, candidates}
 use Rattle.network.specs.Opening.{opening}
-use Rattle.network.specs.Pdu.{pduOf}
 use Rattle.network.specs.Sealing.{sealable}
-use Rattle.network.specs.SealOpen.{Formed}
 use Rattle.network.specs.Address.{isUnicast}
 use Rattle.network.proofs.AddressLaws.{unicast-bounds, unicast-some}
 use Rattle.network.proofs.SealOpen.{open-seal}
-use Rattle.network.proofs.TrialLaws.{onto-zeros, take-padded}
-use Rattle.transport.specs.declared.form.Form.the-variants as form
-use Rattle.transport.specs.Form.{formOf}
-use Rattle.transport.specs.ReadsBack.{Carries}
-use Rattle.transport.specs.Segment.{acknowledgementOctets}
-use Rattle.transport.proofs.ReadsBack.{acknowledgement-reads-back}
 use Rattle.memory.specs.declared.outgoing.Acknowledged as memory
 use Rattle.memory.specs.declared.outgoing.Effect.{Effect}
 use Rattle.memory.specs.declared.outgoing.Effect.the-variants.{Nothing, Marked, Completed}
@@ -42,7 +33,6 @@ use Rattle.memory.proofs.OutgoingLaws.{fits-by-source, heard-all, heard-again, 
 use Rattle.node.specs.declared.addresses.Node.{Node}
 use Rattle.node.specs.Addresses.{forNode}
 use Rattle.node.specs.Made.{WellMade}
-use Rattle.node.proofs.Addressed.{local-of}
 use Rattle.node.proofs.AddressesLaws.{for-local}
 use Rattle.receiver.specs.declared.answer.Answer.the-variants.{Acknowledgement}
 use Rattle.receiver.specs.declared.answer.Taken.{Taken}
@@ -53,84 +43,23 @@ use Rattle.receiver.proofs.Good.{good-fresh}
 use Rattle.receiver.proofs.Laws.Form.{taken-acknowledgement}
 use Rattle.receiver.proofs.Laws.Heard.{caching, Leaves, heard-new}
 use Rattle.sending.specs.declared.acknowledge.Chosen.{Chosen}
-use Rattle.sending.specs.declared.answer.Answer as said-answer
 use Rattle.sending.specs.declared.answer.Spoken.{Spoken}
 use Rattle.sending.specs.Acknowledge.{acknowledgementHeader}
-use Rattle.sending.specs.Request.{unnamedTtl}
 use Rattle.sending.specs.Segment.{elementOf}
-use Rattle.sending.specs.Transmission.{sendingIv, addressOf, stamped}
+use Rattle.sending.specs.Transmission.{sendingIv, addressOf}
 use Rattle.sending.proofs.Laws.Calls.{acknowledgement-said}
-use Rattle.sending.proofs.Laws.Shapes.{headerSent, acknowledgement-long, acknowledgement-out}
-use Rattle.sending.proofs.Laws.Stamped.{stamps, address-back, sending-near}
+use Rattle.sending.proofs.Laws.Stamped.{sending-near}
 use Rattle.sending.proofs.Laws.Transmitted.{saying}
 use Rattle.demands.specs.Acknowledged.{Speaker, opensTo, Hears, Marks, AcknowledgementRead}
-use Rattle.demands.specs.Call.{Hear, Heard, madeBy, lengthBy, leftSaid, step}
-use Rattle.demands.specs.Interleaved.{Ask, Arrival, nodeOf, speechAt, come, behind}
+use Rattle.demands.specs.Call.{Hear, Heard, madeBy, leftSaid, step}
+use Rattle.demands.specs.Interleaved.{Ask, Arrival, nodeOf, speechAt, come, Arrives, behind}
 use Rattle.demands.specs.ReadBack.{pduMade}
 use Rattle.demands.specs.Speech.{Speech}
-use Rattle.demands.proofs.ComeLaws.{come-bound}
+use Rattle.demands.proofs.AcknowledgementLaws as ack
+use Rattle.demands.proofs.AskLaws.{address-of}
+use Rattle.demands.proofs.ComeLaws.{each-at, come-bound}
 use Rattle.demands.proofs.Interleaved.{acknowledges, seen-before}
 use Rattle.demands.proofs.SceneLaws.{same-scene}
-use Rattle.demands.proofs.SentLaws.{said-by}
-
--- ---- as it is sent
-module _ (r : Receiver) (element net src : ℕ) (c : Chosen) (buf : List ℕ) where
-  abbrev seqZero : ℕ
-  seqZero = c .auth .seq % 8192
-
-  abbrev sevenOctets : List ℕ
-  sevenOctets = acknowledgementOctets false seqZero (c .bits)
-
-  -- what is to be stamped, and the header that is sealed
-  abbrev unstamped : Header
-  unstamped = acknowledgementHeader (sendingIv (r .node)) net src c
-
-  abbrev h : Header
-  h = headerSent r element net (sendingIv (r .node)) true unnamedTtl src sevenOctets
-
-  header-is : stamped r element unstamped ≡ h
-  header-is = acknowledgement-out r element (sendingIv (r .node)) net src c
-
-  key-is : unstamped .key ≡ net
-  key-is = sym (stamps r element unstamped .key-stays) ∙ ap (λ (x : Header). x .key) header-is
-
-  -- the PDU that was made
-  abbrev pdu : List ℕ
-  pdu = pduOf (keyAt (r .node .materials) net) h
-
-  record Made (s : Lent Spoken) : Type 0 where
-    can : sealable (keyAt (r .node .materials) net) h ≡ true
-    pdu-is : pduMade (leftSaid s) ≡ pdu
-
-  made-by : madeBy (saying r element unstamped buf .answer .answer) ≡ true → Made (saying r element unstamped buf)
-  made-by m =
-      let x = said-by r element buf unstamped m in
-      let b = saying r element unstamped buf .buffer in
-      let y = stamped r element unstamped in
-      let keys = r .node .materials in
-      record {
-        can =
-            subst (λ (z : Header). sealable (keyAt keys net) z ≡ true) header-is (subst (λ (k : ℕ). sealable (keyAt keys k) y ≡ true) key-is (x .transmitted-is .can));
-        pdu-is =
-            ap (λ (a : said-answer.Answer). take (lengthBy a) b) (x .says) ∙ x .transmitted-is .pdu ∙ ap (λ (k : ℕ). pduOf (keyAt keys k) y) key-is
-            ∙ ap (pduOf (keyAt keys net)) header-is;
-      }
-
-  -- ---- as it is read
-  seven : length sevenOctets ≡ 7
-  seven = acknowledgement-long false seqZero (c .bits)
-
-  short : length sevenOctets ≤ 16
-  short = let l = seven in omega arith
-
-  formed : src < 65536 → Formed h
-  formed d = record { dst-fits = d; zeros-behind = ap (padded 16) (take-padded 16 sevenOctets short) }
-
-  carries : Carries h true sevenOctets
-  carries = record { behind = drop (length sevenOctets) (replicate 16 0); ctl-is = refl; begins = sym (onto-zeros 16 sevenOctets short) }
-
-  form-is : c .bits < 2 ^ 32 → formOf h ≡ form.Acknowledgement false seqZero (c .bits)
-  form-is low = acknowledgement-reads-back h false seqZero (c .bits) carries seven (omega arith) low
 
 -- ---- the speaker
 module _ (out : Outgoing) (h : Header) (zero bits : ℕ) (fits : fitsOutgoing out h false zero ≡ true) (some : bits ≡ 0 → ⊥) where
@@ -157,10 +86,10 @@ module _ (r : Receiver) (made : WellMade (r .node)) (element net src : ℕ) (s :
   c = record { auth = s .auth; dst = s .dst; bits = bits }
 
   abbrev head : Header
-  head = h r element net src c buf
+  head = ack.h r element net src c buf
 
   abbrev sent : List ℕ
-  sent = pdu r element net src c buf
+  sent = ack.pdu r element net src c buf
 
   abbrev zero : ℕ
   zero = s .auth .seq % 8192
@@ -182,7 +111,7 @@ module _ (r : Receiver) (made : WellMade (r .node)) (element net src : ℕ) (s :
     opens-so =
         let most = made .networks-most in
         let unicast-most = unicast-bounds (s .src) unicast .1 in
-        let formed-so = formed r element net src c buf (omega arith) in
+        let formed-so = ack.formed r element net src c buf (omega arith) in
         rw (sp .materials-same, sp .networks-same, sp .iv-same)
         (open-seal (r .node .materials) (r .node .networks) (r .node .iv) head can formed-so
         (record { held = omega arith; near = sending-near (r .node) made; none-before = hears .own-key-first }))
@@ -203,7 +132,7 @@ module _ (r : Receiver) (made : WellMade (r .node)) (element net src : ℕ) (s :
         let admits = rw head-is at (hears .admits) in
         let here : forNode (speaker .node) src ≡ true = rw from (sym (for-local (speaker .node) (s .src) (sym (sp .its-element)) refl)) in
         heard-new speaker sent fwd msg (hears .room-forward) (hears .room-message) head place opens-so new here taken
-        (taken-acknowledgement (caching speaker head) head msg false zero bits (form-is r element net src c buf low) admits)
+        (taken-acknowledgement (caching speaker head) head msg false zero bits (ack.form-is r element net src c buf low) admits)
 
     pub read-marks : Marks (speaker .out) (s .dst) bits msg (step speaker (Hear sent fwd msg))
     read-marks =
@@ -234,7 +163,8 @@ acknowledgement-read setup speeches before net src k buf msg later c f m speaker
     let same = same-scene sc in
     let well = good-fresh setup (c .ready) .node-made in
     let w = c .speakable k (f .one-of) in
-    let address : addressOf (r .node) element ≡ s .dst = rw same (address-back node well (s .dst) (local-of node well (s .dst) (f .to-unicast) (w .for-here))) in
+    let wide = each-at (Arrives node speeches (c .spent)) before a later (c .arrives) .room-forward in
+    let address = address-of node well speeches (c .speakable) (c .spent) before r sc net src buf wide k f in
     let there : net < r .node .networks = rw same (f .key-there) in
     let low = come-bound k 0 before (omega arith) in
     let its-speaker = subst (λ (n : Node). Speaker speaker n s) (sym same) sp in
@@ -244,8 +174,8 @@ acknowledgement-read setup speeches before net src k buf msg later c f m speaker
     → Marks (speaker .out) (s .dst) bits left (step speaker (Hear (pduMade (leftSaid x)) fwd left)) in
     let Heard : List ℕ → Type 0 = λ p. Hears speaker node net p fwd left → Marks (speaker .out) (s .dst) bits left (step speaker (Hear p fwd left)) in
     let reads : Reads (saying r element (acknowledgementHeader (sendingIv (r .node)) net src chosen) buf) =
-    λ made. let x = made-by r element net src chosen buf made in
+    λ made. let x = ack.made-by r element net src chosen buf made in
     subst Heard (sym (x .pdu-is))
     (λ y. read-marks r (sc .good .node-made) element net src s bits buf there address (f .its-source) (w .from-unicast) low (f .some-come) speaker fwd left its-speaker (x .can)
-    (subst (λ (n : Node). Hears speaker n net (pdu r element net src chosen buf) fwd left) (sym same) y)) in
+    (subst (λ (n : Node). Hears speaker n net (ack.pdu r element net src chosen buf) fwd left) (sym same) y)) in
     subst Reads (sym e) reads m hears

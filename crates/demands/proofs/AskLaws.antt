@@ -1,9 +1,11 @@
 -- A request to acknowledge in the middle of a scene. What is chosen for a source is what its speech's stage says: the session that gathers, or the message that is remembered; so it names the
 -- segments come so far. An open session is a speaker's, and so is an entry; of a source that is none, and of a speaker that has not been heard, nothing is chosen, DST 0, which is not unicast.
 -- Assumes nothing.
+--   address-of      the element that acknowledges has the DST
 --   asked-names     an acknowledgement names the segments come so far
+--   asked-sent      it goes out where a SEQ is left
 --   asked-refuses   where it is for no speech it is refused
-use mathlib.Core.Bool.{false}
+use mathlib.Core.Bool.{true, false}
 use mathlib.Core.List.{List}
 use mathlib.Core.Logic.{⊎-elim}
 use mathlib.Core.Path.{_≡_, refl, sym, ap, _∙_, subst}
@@ -13,7 +15,7 @@ use borrow.Author.Tests.{eqb-true, eqb-false, ltb-true, ltb-false}
 use lib.Dec.{eqb, ltb}
 use lib.ListN.{length}
 use Rattle.common.specs.Bits.{allBits}
-use Rattle.common.specs.Lent.{lent}
+use Rattle.common.specs.Lent.{Lent, lent}
 use Rattle.common.proofs.Tests.{by-test}
 use Rattle.network.specs.Address.{isUnicast}
 use Rattle.network.specs.Pdu.{pduOctets}
@@ -31,13 +33,17 @@ use Rattle.node.proofs.Addressed.{local-of}
 use Rattle.receiver.specs.declared.answer.Refusal.the-variants as refusal
 use Rattle.receiver.specs.declared.state.Receiver.{Receiver}
 use Rattle.sending.specs.declared.acknowledge.Chosen.{Chosen}
+use Rattle.sending.specs.declared.answer.Spoken.{Spoken}
 use Rattle.sending.specs.Acknowledge.{noChoice, chosen, sayingAcknowledgement, acknowledging}
 use Rattle.sending.specs.Answer.{refusedAt}
 use Rattle.sending.specs.Segment.{elementOf}
-use Rattle.sending.proofs.Laws.Calls.{acknowledgement-sent, acknowledgement-no-key, acknowledgement-not-unicast, chosen-zero, chosen-session, chosen-last}
-use Rattle.sending.proofs.Laws.Stamped.{element-low}
+use Rattle.sending.specs.Transmission.{addressOf, nextSeq}
+use Rattle.sending.proofs.Laws.Calls.{acknowledgement-said, acknowledgement-sent, acknowledgement-no-key, acknowledgement-not-unicast, chosen-zero, chosen-session, chosen-last}
+use Rattle.sending.proofs.Laws.Stamped.{address-back, element-low}
+use Rattle.demands.specs.Call.{madeBy}
 use Rattle.demands.specs.Interleaved.{Arrival, speechAt, come, Spent, AskedOf}
 use Rattle.demands.specs.Speech.{Speech, lastOf, Speakable}
+use Rattle.demands.proofs.AcknowledgementLaws.{goes-out}
 use Rattle.demands.proofs.SceneLaws.{speakerOf, speakerKey, Scenery, same-scene}
 use Rattle.demands.proofs.SpeechSession.{sessionOf}
 use Rattle.demands.proofs.StageLaws.{none-all, entryOf, keyOf, Stage, Silent, Gathers, Done}
@@ -93,6 +99,23 @@ module _ (node : Node) (made : WellMade node) (speeches : List Speech) (speak : 
       let there = f .key-there in
       let same = same-scene sc in
       acknowledgement-sent r buf wide net src (ofSpeech k) c (rw same (omega arith)) (f .to-unicast) (rw same n) ∙ rw same refl
+
+  -- its element has the DST
+  pub address-of : (k : ℕ) → AskedOf node speeches before net src k → addressOf (r .node) (elementOf node (speechAt speeches k .dst)) ≡ speechAt speeches k .dst
+  address-of k f =
+      let dst = speechAt speeches k .dst in
+      rw (same-scene sc) (address-back node made dst (local-of node made dst (f .to-unicast) (speak k (f .one-of) .for-here)))
+
+  pub asked-sent :
+      (k : ℕ) → AskedOf node speeches before net src k → nextSeq r (elementOf node (speechAt speeches k .dst)) ≤ 0xFFFFFF
+      → madeBy (acknowledging r net src buf .answer .answer) ≡ true
+  asked-sent k f left =
+      let element = elementOf node (speechAt speeches k .dst) in
+      let there : net < r .node .networks = rw (same-scene sc) (f .key-there) in
+      let from : isUnicast (addressOf (r .node) element) ≡ true = rw (address-of k f) (f .to-unicast) in
+      let to : isUnicast src ≡ true = rw (f .its-source) (speak k (f .one-of) .from-unicast) in
+      ap (λ (s : Lent Spoken). madeBy (s .answer .answer)) (asked-names k f ∙ acknowledgement-said r element net src (ofSpeech k) buf)
+      ∙ goes-out r element net src (ofSpeech k) buf (sc .good .node-made) there left from to wide
 
   -- ---- it is for none
   module _ (none : (k : ℕ) → AskedOf node speeches before net src k → ⊥) where

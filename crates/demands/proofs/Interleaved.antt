@@ -37,7 +37,7 @@ use Rattle.receiver.proofs.Good.{good-fresh}
 use Rattle.demands.specs.Call.{step, run, after}
 use Rattle.demands.specs.Interleaved.{Event, Segment, Foreign, Ask, Own, Arrival, start, nodeOf, speechAt, callAs, callOf, calls, comeWith, comeFrom, come, ComeNames, Spent, Arrives, Each, Scene, AllCome, dueAs, behind, HandedUp, AnsweredAs, Answered, Acknowledges, messages, turns, EndsAlike}
 use Rattle.demands.specs.Speech.{Speech, lastOf, Speakable, Handed, handUp}
-use Rattle.demands.proofs.AskLaws.{asked-names, asked-refuses}
+use Rattle.demands.proofs.AskLaws.{asked-names, asked-sent, asked-refuses}
 use Rattle.demands.proofs.ArrivalLaws.{Next, event-next, dueOf, hands}
 use Rattle.demands.proofs.ComeLaws.{each-first, each-at, each-turn, come-from, come-in-turn}
 use Rattle.demands.proofs.DueLaws.{dueWith, dueBehind, picked-due, once-due}
@@ -226,6 +226,7 @@ acknowledges setup speeches before net src fwd msg later c =
     let made = well setup speeches before (before-scene setup speeches before a later c) in
     record {
       names = asked-names node made speeches (c .speakable) (c .spent) before r sc net src fwd wide;
+      goes-out = asked-sent node made speeches (c .speakable) (c .spent) before r sc net src fwd wide;
       refuses = asked-refuses node made speeches (c .speakable) (c .spent) before r sc net src fwd wide;
     }
 

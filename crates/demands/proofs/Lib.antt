@@ -14,12 +14,13 @@ pub mod AnsweredLaws
 pub mod StepLaws
 pub mod SceneLaws
 pub mod KeptLaws
+pub mod SentLaws
+pub mod AcknowledgementLaws
 pub mod AskLaws
 pub mod ArrivalLaws
 pub mod ComeLaws
 pub mod DueLaws
 pub mod Interleaved
-pub mod SentLaws
 pub mod Acknowledged
 pub mod WholeHeard
 pub mod WholeSent

@@ -44,6 +44,7 @@ use Rattle.receiver.specs.Hearing.{outcome, refusedHeard}
 use Rattle.sending.specs.Acknowledge.{acknowledging, sayingAcknowledgement}
 use Rattle.sending.specs.Answer.{refusedAt}
 use Rattle.sending.specs.Segment.{elementOf}
+use Rattle.sending.specs.Transmission.{nextSeq}
 use Rattle.demands.specs.Call.{Call, Hear, GiveUp, SendAccess, SendControl, SendSegment, Acknowledge, Stop, Answer, Heard, Said, Ended, Outcome, leftHeard, step, run, after}
 use Rattle.demands.specs.Refusal.{noKeyOpens}
 use Rattle.demands.specs.Speech.{Control, Speech, lastOf, headerOf, segmentPdu, Speakable, Handed, handUp, networkPlace, applicationPlace}
@@ -281,6 +282,10 @@ pub record AskAnswered (node : Node) (speeches : List Speech) (before : List Arr
       → (let s = speechAt speeches k in
       acknowledging r net src buf
       ≡ sayingAcknowledgement r (elementOf node (s .dst)) net src (record { auth = s .auth; dst = s .dst; bits = come k before }) buf)
+  -- and it goes out where a SEQ is left
+  pub goes-out :
+      (k : ℕ) → AskedOf node speeches before net src k → nextSeq r (elementOf node (speechAt speeches k .dst)) ≤ 0xFFFFFF
+      → step r (Acknowledge net src buf) .made ≡ true
   -- 14 where it is for none, and it leaves everything
   pub refuses : ((k : ℕ) → AskedOf node speeches before net src k → ⊥) → acknowledging r net src buf ≡ lent (refusedAt r refusal.OutsideRules) buf
 
