@@ -17,7 +17,7 @@ use Rattle.common.proofs.Tests.{by-test}
 use Rattle.network.specs.declared.header.Header.{Header}
 use Rattle.network.specs.declared.opening.Answer.the-variants.{Opened}
 use Rattle.network.specs.declared.opening.Opening.{Opening}
-use Rattle.network.specs.Candidates.{keyAt, candidates}
+use Rattle.network.specs.Candidates.{keyAt, candidates, opens}
 use Rattle.network.specs.Opening.{opening}
 use Rattle.network.specs.Sealing.{sealable}
 use Rattle.network.specs.Address.{isUnicast}
@@ -43,22 +43,17 @@ use Rattle.receiver.proofs.Good.{good-fresh}
 use Rattle.receiver.proofs.Laws.Form.{taken-acknowledgement}
 use Rattle.receiver.proofs.Laws.Heard.{caching, Leaves, heard-new}
 use Rattle.sending.specs.declared.acknowledge.Chosen.{Chosen}
-use Rattle.sending.specs.declared.answer.Spoken.{Spoken}
-use Rattle.sending.specs.Acknowledge.{acknowledgementHeader}
 use Rattle.sending.specs.Segment.{elementOf}
 use Rattle.sending.specs.Transmission.{sendingIv, addressOf}
-use Rattle.sending.proofs.Laws.Calls.{acknowledgement-said}
 use Rattle.sending.proofs.Laws.Stamped.{sending-near}
-use Rattle.sending.proofs.Laws.Transmitted.{saying}
 use Rattle.demands.specs.Acknowledged.{Speaker, opensTo, Hears, Marks, AcknowledgementRead}
-use Rattle.demands.specs.Call.{Hear, Heard, madeBy, leftSaid, step}
+use Rattle.demands.specs.Call.{Hear, Heard, step}
 use Rattle.demands.specs.Interleaved.{Ask, Arrival, nodeOf, speechAt, come, Arrives, behind}
-use Rattle.demands.specs.ReadBack.{pduMade}
 use Rattle.demands.specs.Speech.{Speech}
 use Rattle.demands.proofs.AcknowledgementLaws as ack
-use Rattle.demands.proofs.AskLaws.{address-of}
+use Rattle.demands.proofs.AskLaws.{address-of, asked-made}
 use Rattle.demands.proofs.ComeLaws.{each-at, come-bound}
-use Rattle.demands.proofs.Interleaved.{acknowledges, seen-before}
+use Rattle.demands.proofs.Interleaved.{seen-before}
 use Rattle.demands.proofs.SceneLaws.{same-scene}
 
 -- ---- the speaker
@@ -106,7 +101,9 @@ module _ (r : Receiver) (made : WellMade (r .node)) (element net src : ℕ) (s :
       sym (fits-by-source (speaker .out) head false zero kept (from ∙ sym (sp .src-kept)) its-zero refl)
       ∙ eq-eqb (head .src) (speaker .out .terms .dst) (address ∙ sym (sp .dst-kept))
 
-  module _ (can : sealable (keyAt (r .node .materials) net) head ≡ true) (hears : Hears speaker (r .node) net sent fwd msg) where
+  -- its key is the first that opens it
+  module _ (can : sealable (keyAt (r .node .materials) net) head ≡ true)
+      (first : (j : ℕ) → j < net → keyAt (r .node .materials) j .nid ≡ keyAt (r .node .materials) net .nid → opens (r .node .materials) (sendingIv (r .node)) sent j ≡ false) where
     opens-so : opening (speaker .node .materials) (speaker .node .networks) (speaker .node .iv) sent ≡ record { answer = Opened; trials = place; header = head }
     opens-so =
         let most = made .networks-most in
@@ -114,11 +111,12 @@ module _ (r : Receiver) (made : WellMade (r .node)) (element net src : ℕ) (s :
         let formed-so = ack.formed r element net src c buf (omega arith) in
         rw (sp .materials-same, sp .networks-same, sp .iv-same)
         (open-seal (r .node .materials) (r .node .networks) (r .node .iv) head can formed-so
-        (record { held = omega arith; near = sending-near (r .node) made; none-before = hears .own-key-first }))
+        (record { held = omega arith; near = sending-near (r .node) made; none-before = first }))
 
-    head-is : opensTo speaker sent ≡ head
+    pub head-is : opensTo speaker sent ≡ head
     head-is = ap (λ (x : Opening). x .header) opens-so
 
+  module _ (can : sealable (keyAt (r .node .materials) net) head ≡ true) (hears : Hears speaker (r .node) net sent fwd msg) where
     abbrev marked : memory.Acknowledged
     marked = acknowledging (speaker .out) head false zero bits
 
@@ -126,12 +124,13 @@ module _ (r : Receiver) (made : WellMade (r .node)) (element net src : ℕ) (s :
     taken =
         lent (record { answer = Acknowledgement (head .src) bits (marked .effect); trials = 0; receiver = withOutgoing (admitted (caching speaker head) head) (marked .out) }) msg
 
-    leaves : Leaves speaker sent fwd msg (hears .room-forward) (hears .room-message) head place opens-so taken
+    leaves : Leaves speaker sent fwd msg (hears .room-forward) (hears .room-message) head place (opens-so can (hears .own-key-first)) taken
     leaves =
-        let new = rw head-is at (hears .new) in
-        let admits = rw head-is at (hears .admits) in
+        let opened = head-is can (hears .own-key-first) in
+        let new = rw opened at (hears .new) in
+        let admits = rw opened at (hears .admits) in
         let here : forNode (speaker .node) src ≡ true = rw from (sym (for-local (speaker .node) (s .src) (sym (sp .its-element)) refl)) in
-        heard-new speaker sent fwd msg (hears .room-forward) (hears .room-message) head place opens-so new here taken
+        heard-new speaker sent fwd msg (hears .room-forward) (hears .room-message) head place (opens-so can (hears .own-key-first)) new here taken
         (taken-acknowledgement (caching speaker head) head msg false zero bits (ack.form-is r element net src c buf low) admits)
 
     pub read-marks : Marks (speaker .out) (s .dst) bits msg (step speaker (Hear sent fwd msg))
@@ -168,14 +167,9 @@ acknowledgement-read setup speeches before net src k buf msg later c f m speaker
     let there : net < r .node .networks = rw same (f .key-there) in
     let low = come-bound k 0 before (omega arith) in
     let its-speaker = subst (λ (n : Node). Speaker speaker n s) (sym same) sp in
-    let e = acknowledges setup speeches before net src buf msg later c .names k f ∙ acknowledgement-said r element net src chosen buf in
-    let Reads : Lent Spoken → Type 0 =
-    λ x. madeBy (x .answer .answer) ≡ true → Hears speaker node net (pduMade (leftSaid x)) fwd left
-    → Marks (speaker .out) (s .dst) bits left (step speaker (Hear (pduMade (leftSaid x)) fwd left)) in
+    let x = asked-made node well speeches (c .speakable) (c .spent) before r sc net src buf wide k f m in
     let Heard : List ℕ → Type 0 = λ p. Hears speaker node net p fwd left → Marks (speaker .out) (s .dst) bits left (step speaker (Hear p fwd left)) in
-    let reads : Reads (saying r element (acknowledgementHeader (sendingIv (r .node)) net src chosen) buf) =
-    λ made. let x = ack.made-by r element net src chosen buf made in
-    subst Heard (sym (x .pdu-is))
-    (λ y. read-marks r (sc .good .node-made) element net src s bits buf there address (f .its-source) (w .from-unicast) low (f .some-come) speaker fwd left its-speaker (x .can)
-    (subst (λ (n : Node). Hears speaker n net (ack.pdu r element net src chosen buf) fwd left) (sym same) y)) in
-    subst Reads (sym e) reads m hears
+    let heard : Heard (ack.pdu r element net src chosen buf) =
+    λ y. read-marks r (sc .good .node-made) element net src s bits buf there address (f .its-source) (w .from-unicast) low (f .some-come) speaker fwd left its-speaker (x .can)
+    (subst (λ (n : Node). Hears speaker n net (ack.pdu r element net src chosen buf) fwd left) (sym same) y) in
+    subst Heard (sym (x .pdu-is)) heard hears

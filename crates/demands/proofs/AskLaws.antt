@@ -3,6 +3,7 @@
 -- Assumes nothing.
 --   address-of      the element that acknowledges has the DST
 --   asked-names     an acknowledgement names the segments come so far
+--   asked-made      the PDU that it makes
 --   asked-sent      it goes out where a SEQ is left
 --   asked-refuses   where it is for no speech it is refused
 use mathlib.Core.Bool.{true, false}
@@ -40,10 +41,11 @@ use Rattle.sending.specs.Segment.{elementOf}
 use Rattle.sending.specs.Transmission.{addressOf, nextSeq}
 use Rattle.sending.proofs.Laws.Calls.{acknowledgement-said, acknowledgement-sent, acknowledgement-no-key, acknowledgement-not-unicast, chosen-zero, chosen-session, chosen-last}
 use Rattle.sending.proofs.Laws.Stamped.{address-back, element-low}
+use Rattle.sending.proofs.Laws.Transmitted.{saying}
 use Rattle.demands.specs.Call.{madeBy}
 use Rattle.demands.specs.Interleaved.{Arrival, speechAt, come, Spent, AskedOf}
 use Rattle.demands.specs.Speech.{Speech, lastOf, Speakable}
-use Rattle.demands.proofs.AcknowledgementLaws.{goes-out}
+use Rattle.demands.proofs.AcknowledgementLaws.{unstamped, goes-out, Made, made-by}
 use Rattle.demands.proofs.SceneLaws.{speakerOf, speakerKey, Scenery, same-scene}
 use Rattle.demands.proofs.SpeechSession.{sessionOf}
 use Rattle.demands.proofs.StageLaws.{none-all, entryOf, keyOf, Stage, Silent, Gathers, Done}
@@ -106,6 +108,21 @@ module _ (node : Node) (made : WellMade node) (speeches : List Speech) (speak : 
       let dst = speechAt speeches k .dst in
       rw (same-scene sc) (address-back node made dst (local-of node made dst (f .to-unicast) (speak k (f .one-of) .for-here)))
 
+  asked-said :
+      (k : ℕ) → AskedOf node speeches before net src k
+      → (let element = elementOf node (speechAt speeches k .dst) in
+      acknowledging r net src buf ≡ saying r element (unstamped r element net src (ofSpeech k) buf) buf)
+  asked-said k f = asked-names k f ∙ acknowledgement-said r (elementOf node (speechAt speeches k .dst)) net src (ofSpeech k) buf
+
+  -- the PDU that it makes
+  pub asked-made :
+      (k : ℕ) → AskedOf node speeches before net src k → madeBy (acknowledging r net src buf .answer .answer) ≡ true
+      → Made r (elementOf node (speechAt speeches k .dst)) net src (ofSpeech k) buf (acknowledging r net src buf)
+  asked-made k f =
+      let element = elementOf node (speechAt speeches k .dst) in
+      subst (λ (s : Lent Spoken). madeBy (s .answer .answer) ≡ true → Made r element net src (ofSpeech k) buf s) (sym (asked-said k f))
+      (made-by r element net src (ofSpeech k) buf)
+
   pub asked-sent :
       (k : ℕ) → AskedOf node speeches before net src k → nextSeq r (elementOf node (speechAt speeches k .dst)) ≤ 0xFFFFFF
       → madeBy (acknowledging r net src buf .answer .answer) ≡ true
@@ -114,7 +131,7 @@ module _ (node : Node) (made : WellMade node) (speeches : List Speech) (speak : 
       let there : net < r .node .networks = rw (same-scene sc) (f .key-there) in
       let from : isUnicast (addressOf (r .node) element) ≡ true = rw (address-of k f) (f .to-unicast) in
       let to : isUnicast src ≡ true = rw (f .its-source) (speak k (f .one-of) .from-unicast) in
-      ap (λ (s : Lent Spoken). madeBy (s .answer .answer)) (asked-names k f ∙ acknowledgement-said r element net src (ofSpeech k) buf)
+      ap (λ (s : Lent Spoken). madeBy (s .answer .answer)) (asked-said k f)
       ∙ goes-out r element net src (ofSpeech k) buf (sc .good .node-made) there left from to wide
 
   -- ---- it is for none
