@@ -32,3 +32,4 @@ pub mod GoesOut
 pub mod Instance
 pub mod Forwarding
 pub mod ForwardingMet
+pub mod AcknowledgedMet
