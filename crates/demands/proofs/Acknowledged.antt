@@ -6,10 +6,13 @@ use mathlib.Core.Bool.{true, false}
 use mathlib.Core.List.{List}
 use mathlib.Core.Path.{_≡_, refl, sym, ap, _∙_, subst}
 use Prim.Native.Nat.{ℕ, _+_, _%_, _^_, _<_}
+use native.Mathlib.Nat.{lt-of-lt-of-le}
 use native.Mathlib.Omega.{arith}
 use borrow.Author.Tests.{eq-eqb, eqb-true, eqb-false}
+use lib.Bits.{bitOr}
 use lib.Dec.{eqb}
 use lib.ListN.{length}
+use lib.Pow.{pow-mono}
 use Rattle.common.specs.Bits.{allBits}
 use Rattle.common.specs.Choice.{if_then_else_}
 use Rattle.common.specs.Lent.{Lent, lent}
@@ -29,7 +32,7 @@ use Rattle.memory.specs.declared.outgoing.Effect.the-variants.{Nothing, Marked,
 use Rattle.memory.specs.declared.outgoing.Outgoing.{Outgoing}
 use Rattle.memory.specs.declared.pair.Pair.{Pair}
 use Rattle.memory.specs.Outgoing.{noOutgoing, fitsOutgoing, heardWith, withHeard, effected, acknowledging}
-use Rattle.memory.proofs.OutgoingLaws.{fits-by-source, heard-all, heard-again, heard-some}
+use Rattle.memory.proofs.OutgoingLaws.{fits-by-source, heard-all, heard-again, heard-some, heard-within}
 use Rattle.node.specs.declared.addresses.Node.{Node}
 use Rattle.node.specs.Addresses.{forNode}
 use Rattle.node.specs.Made.{WellMade}
@@ -49,33 +52,42 @@ use Rattle.sending.proofs.Laws.Stamped.{sending-near}
 use Rattle.demands.specs.Acknowledged.{Speaker, opensTo, Hears, Marks, AcknowledgementRead}
 use Rattle.demands.specs.Call.{Hear, Heard, step}
 use Rattle.demands.specs.Interleaved.{Ask, Arrival, nodeOf, speechAt, come, Arrives, behind}
-use Rattle.demands.specs.Speech.{Speech}
+use Rattle.demands.specs.Speech.{Speech, lastOf}
 use Rattle.demands.proofs.AcknowledgementLaws as ack
 use Rattle.demands.proofs.AskLaws.{address-of, asked-made}
-use Rattle.demands.proofs.ComeLaws.{each-at, come-bound}
+use Rattle.demands.proofs.ComeLaws.{each-at}
 use Rattle.demands.proofs.Interleaved.{seen-before}
-use Rattle.demands.proofs.SceneLaws.{same-scene}
+use Rattle.demands.proofs.SceneLaws.{same-scene, filled-within}
+use Rattle.demands.proofs.SpeechCut.{last-low}
 
 -- ---- the speaker
-module _ (out : Outgoing) (h : Header) (zero bits : ℕ) (fits : fitsOutgoing out h false zero ≡ true) (some : bits ≡ 0 → ⊥) where
+module _ (out : Outgoing) (h : Header) (zero bits : ℕ) (fits : fitsOutgoing out h false zero ≡ true) (some : bits ≡ 0 → ⊥) (low : out .terms .segn < 32)
+    (within : bits < 2 ^ (out .terms .segn + 1)) where
   abbrev effect : memory.Acknowledged
   effect = acknowledging out h false zero bits
 
-  all-heard : heardWith out bits ≡ allBits (out .terms .segn) → effect ≡ effected Completed noOutgoing
-  all-heard e = sym (heard-all out h false zero bits (sym fits) refl some refl refl e refl)
+  abbrev heard : ℕ
+  heard = bitOr (out .heard) bits
+
+  heard-is : heard ≡ heardWith out bits
+  heard-is = sym (heard-within out bits low within)
+
+  all-heard : heard ≡ allBits (out .terms .segn) → effect ≡ effected Completed noOutgoing
+  all-heard e = sym (heard-all out h false zero bits (sym fits) refl some heard-is refl e refl)
 
   some-heard :
-      (heardWith out bits ≡ allBits (out .terms .segn) → ⊥)
-      → effect ≡ effected (if eqb (heardWith out bits) (out .heard) then Nothing else Marked) (withHeard out (heardWith out bits))
+      (heard ≡ allBits (out .terms .segn) → ⊥)
+      → effect ≡ effected (if eqb heard (out .heard) then Nothing else Marked) (withHeard out heard)
   some-heard n =
-      by-test (eqb (heardWith out bits) (out .heard))
+      by-test (eqb heard (out .heard))
       (λ t.
-      let e = eqb-true (heardWith out bits) (out .heard) t in
-      rw (t, e) (sym (heard-again out h false zero bits (sym fits) refl some refl refl n e)))
-      (λ t. rw t (sym (heard-some out h false zero bits (sym fits) refl some refl refl n (eqb-false (heardWith out bits) (out .heard) t))))
+      let e = eqb-true heard (out .heard) t in
+      rw (t, e) (sym (heard-again out h false zero bits (sym fits) refl some heard-is refl n e)))
+      (λ t. rw t (sym (heard-some out h false zero bits (sym fits) refl some heard-is refl n (eqb-false heard (out .heard) t))))
 
 module _ (r : Receiver) (made : WellMade (r .node)) (element net src : ℕ) (s : Speech) (bits : ℕ) (buf : List ℕ) (there : net < r .node .networks)
-    (address : addressOf (r .node) element ≡ s .dst) (from : src ≡ s .src) (unicast : isUnicast (s .src) ≡ true) (low : bits < 2 ^ 32) (some : bits ≡ 0 → ⊥)
+    (address : addressOf (r .node) element ≡ s .dst) (from : src ≡ s .src) (unicast : isUnicast (s .src) ≡ true) (some : bits ≡ 0 → ⊥)
+    (last : lastOf (r .node) s < 32) (within : bits < 2 ^ (lastOf (r .node) s + 1))
     (speaker : Receiver) (fwd msg : List ℕ) (sp : Speaker speaker (r .node) s) where
   abbrev c : Chosen
   c = record { auth = s .auth; dst = s .dst; bits = bits }
@@ -127,6 +139,7 @@ module _ (r : Receiver) (made : WellMade (r .node)) (element net src : ℕ) (s :
     leaves : Leaves speaker sent fwd msg (hears .room-forward) (hears .room-message) head place (opens-so can (hears .own-key-first)) taken
     leaves =
         let opened = head-is can (hears .own-key-first) in
+        let low : bits < 2 ^ 32 = lt-of-lt-of-le within (pow-mono {j = 32} (omega arith)) in
         let new = rw opened at (hears .new) in
         let admits = rw opened at (hears .admits) in
         let here : forNode (speaker .node) src ≡ true = rw from (sym (for-local (speaker .node) (s .src) (sym (sp .its-element)) refl)) in
@@ -136,6 +149,8 @@ module _ (r : Receiver) (made : WellMade (r .node)) (element net src : ℕ) (s :
     pub read-marks : Marks (speaker .out) (s .dst) bits msg (step speaker (Hear sent fwd msg))
     read-marks =
         let l = leaves in
+        let its-last = sp .segn-kept in
+        let there : bits < 2 ^ (speaker .out .terms .segn + 1) = rw its-last within in
         let o = step speaker (Hear sent fwd msg) in
         let says : (e : Effect) (kept : Outgoing) → marked ≡ effected e kept → (o .answer ≡ Heard (Acknowledgement (s .dst) bits e)) × (o .receiver .out ≡ kept) =
         λ e kept q. (
@@ -144,8 +159,8 @@ module _ (r : Receiver) (made : WellMade (r .node)) (element net src : ℕ) (s :
           ap (λ (x : Receiver). x .out) (l .left-is) ∙ ap (λ (x : memory.Acknowledged). x .out) q,
         ) in
         record {
-          completes = λ e. says Completed noOutgoing (all-heard (speaker .out) head zero bits fits some e);
-          marks = λ n. says _ _ (some-heard (speaker .out) head zero bits fits some n);
+          completes = λ e. says Completed noOutgoing (all-heard (speaker .out) head zero bits fits some (omega arith) there e);
+          marks = λ n. says _ _ (some-heard (speaker .out) head zero bits fits some (omega arith) there n);
           message-stays = l .message-is;
         }
 
@@ -165,11 +180,12 @@ acknowledgement-read setup speeches before net src k buf msg later c f m speaker
     let wide = each-at (Arrives node speeches (c .spent)) before a later (c .arrives) .room-forward in
     let address = address-of node well speeches (c .speakable) (c .spent) before r sc net src buf wide k f in
     let there : net < r .node .networks = rw same (f .key-there) in
-    let low = come-bound k 0 before (omega arith) in
+    let last : lastOf (r .node) s < 32 = rw same (last-low node s w) in
+    let within : bits < 2 ^ (lastOf (r .node) s + 1) = rw same (filled-within node speeches (c .spent) r (λ j. come j before) sc k w (f .one-of)) in
     let its-speaker = subst (λ (n : Node). Speaker speaker n s) (sym same) sp in
     let x = asked-made node well speeches (c .speakable) (c .spent) before r sc net src buf wide k f m in
     let Heard : List ℕ → Type 0 = λ p. Hears speaker node net p fwd left → Marks (speaker .out) (s .dst) bits left (step speaker (Hear p fwd left)) in
     let heard : Heard (ack.pdu r element net src chosen buf) =
-    λ y. read-marks r (sc .good .node-made) element net src s bits buf there address (f .its-source) (w .from-unicast) low (f .some-come) speaker fwd left its-speaker (x .can)
+    λ y. read-marks r (sc .good .node-made) element net src s bits buf there address (f .its-source) (w .from-unicast) (f .some-come) last within speaker fwd left its-speaker (x .can)
     (subst (λ (n : Node). Hears speaker n net (ack.pdu r element net src chosen buf) fwd left) (sym same) y) in
     subst Heard (sym (x .pdu-is)) heard hears

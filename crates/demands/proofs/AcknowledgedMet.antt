@@ -3,7 +3,7 @@
 use mathlib.Core.Bool.{Bool, true, false, false≢true}
 use mathlib.Core.List.{List, [], _∷_}
 use mathlib.Core.Path.{_≡_, refl, sym, ap, _∙_, subst}
-use Prim.Native.Nat.{ℕ, _+_, _≤_, _<_}
+use Prim.Native.Nat.{ℕ, _+_, _^_, _≤_, _<_}
 use native.Mathlib.Omega.{arith}
 use lib.ListN.{getD, replicate}
 use Rattle.common.specs.Bits.{hasBit, withBit}
@@ -41,18 +41,18 @@ use Rattle.demands.specs.Call.{SendAccess, step, after}
 use Rattle.demands.specs.Instance.{shed, humidity, boxes, arrival, soFar, behindIt, toShed, box, speaking, acknowledgement, AcknowledgementMet}
 use Rattle.demands.specs.Interleaved.{Event, Segment, Foreign, Ask, Own, Arrival, start, speechAt, callAs, callOf, calls, come, Each, behind, AskedOf}
 use Rattle.demands.specs.ReadBack.{saidBy, Shared, Between, accepted}
-use Rattle.demands.specs.Speech.{Words, Access, segmentPdu}
+use Rattle.demands.specs.Speech.{Words, Access, Speech, lastOf, segmentPdu}
 use Rattle.demands.proofs.Acknowledged.{head-is}
 use Rattle.demands.proofs.AcknowledgementLaws as ack
 use Rattle.demands.proofs.AskLaws.{address-of, asked-made}
-use Rattle.demands.proofs.ComeLaws.{come-bound}
 use Rattle.demands.proofs.GoesOut.{goes-out}
 use Rattle.demands.proofs.Instance.{node, holds, scene-met}
 use Rattle.demands.proofs.Interleaved.{acknowledges, seen-before}
 use Rattle.demands.proofs.Invariant.{good-step}
 use Rattle.demands.proofs.KeptLaws.{Kept, kept-own}
 use Rattle.demands.proofs.SaidLaws as said
-use Rattle.demands.proofs.SceneLaws.{Scenery, same-scene}
+use Rattle.demands.proofs.SceneLaws.{Scenery, same-scene, filled-within}
+use Rattle.demands.proofs.SpeechCut.{last-low}
 use Rattle.demands.proofs.SentLaws.{sendingAs, Way, Whole, Begun, way}
 
 -- ---- the box speaks
@@ -91,13 +91,12 @@ numbers-left = omega arith
 
 -- what it says is the speech, and an element of its own says it
 record SaidAs : Type 0 where
-  src-is : saidBy (start box) toShed words .src ≡ 0x0002
-  auth-is : saidBy (start box) toShed words .auth ≡ humidity .auth
+  speech-is : saidBy (start box) toShed words ≡ humidity
   own-element : isLocal (start box .node) 0x0002 ≡ true
 
 said-as : SaidAs
 unfolding settingUp making valid keysValid boundWithin elementsValid nextWithin groupsValid indexValid first kindOf nodeOf nextOf nextAt addressOf sendingIv ivIndexSent isLocal
-said-as = record { src-is = refl; auth-is = refl; own-element = refl }
+said-as = record { speech-is = refl; own-element = refl }
 
 not-whole : isWhole false 20 ≡ true → ⊥
 unfolding isWhole
@@ -107,6 +106,7 @@ speaker-by : Way (start box) toShed words (sendingAs (start box) toShed words bu
 speaker-by (Whole a w s) = absurd (not-whole w)
 speaker-by (Begun a w s) =
     let k = said.kept (start box) node shared toShed words request-accepted in
+    let is = said-as .speech-is in
     let out-is = ap (λ (r : Receiver). r .out) (s .leaves) in
     let node-is = ap (λ (r : Receiver). r .node) (s .leaves) in
     record {
@@ -115,9 +115,10 @@ speaker-by (Begun a w s) =
       materials-same = ap (λ (n : Node). n .materials) node-is ∙ shared .materials-same;
       iv-same = ap (λ (n : Node). n .iv) node-is ∙ shared .iv-same;
       its-element = ap (λ (n : Node). isLocal n 0x0002) node-is ∙ said-as .own-element;
-      src-kept = ap (λ (o : Outgoing). o .src) out-is ∙ k .src-is ∙ said-as .src-is;
+      src-kept = ap (λ (o : Outgoing). o .src) out-is ∙ k .src-is ∙ ap (λ (s : Speech). s .src) is;
       dst-kept = ap (λ (o : Outgoing). o .terms .dst) out-is ∙ ap (λ (t : Terms). t .dst) (k .terms-is);
-      auth-kept = ap (λ (o : Outgoing). o .auth) out-is ∙ k .auth-is ∙ said-as .auth-is;
+      auth-kept = ap (λ (o : Outgoing). o .auth) out-is ∙ k .auth-is ∙ ap (λ (s : Speech). s .auth) is;
+      segn-kept = ap (λ (o : Outgoing). o .terms .segn) out-is ∙ ap (λ (t : Terms). t .segn) (k .terms-is) ∙ ap (lastOf node) is;
     }
 
 speaks : Speaker speaking node humidity
@@ -201,8 +202,10 @@ opens-to =
     let same = same-scene seen-so in
     let w = scene-met .0 .speakable 0 (omega arith) in
     let there : 0 < r .node .networks = rw same (asked .key-there) in
-    let low = come-bound 0 0 soFar (omega arith) in
-    head-is r (seen-so .good .node-made) element 0 0x0002 humidity (come 0 soFar) buf there from-shed refl (w .from-unicast) low (asked .some-come) speaking buf message
+    let last : lastOf (r .node) humidity < 32 = rw same (last-low node humidity w) in
+    let within : come 0 soFar < 2 ^ (lastOf (r .node) humidity + 1) =
+    rw same (filled-within node boxes (scene-met .0 .spent) r (λ k. come k soFar) seen-so 0 w (omega arith)) in
+    head-is r (seen-so .good .node-made) element 0 0x0002 humidity (come 0 soFar) buf there from-shed refl (w .from-unicast) (asked .some-come) last within speaking buf message
     (subst (λ (n : Node). Speaker speaking n humidity) (sym same) speaks) (it-made .can) (λ j h. absurd (omega arith))
 
 hears : Hears speaking node 0 sent buf message

@@ -2,19 +2,18 @@
 -- no bit of another's, so in turn the same come. And what holds of each arrival holds of each in turn. Assumes nothing.
 --   each-first, each-at   what holds of each of a list holds of each of its beginning, and of one in it
 --   come-from             the bits name the segments that came
---   come-bound            they are bits of a word
 --   come-in-turn          in turn the same segments come
 --   each-turn             what holds of each arrival holds of each in turn
 use mathlib.Core.Bool.{Bool, true, false, _||_, or-true, or-false, or-assoc}
 use mathlib.Core.List.{List, [], _∷_, _++_}
 use mathlib.Core.Path.{_≡_, refl, sym, ap, _∙_, subst}
-use Prim.Native.Nat.{ℕ, zero, suc, _^_, _≤_, _<_}
+use Prim.Native.Nat.{ℕ, zero, suc, _≤_, _<_}
 use native.Mathlib.Omega.{arith}
 use borrow.Author.Tests.{ne-eqb, eqb-true, eqb-false}
 use lib.Dec.{eqb}
 use Rattle.common.specs.Bits.{hasBit, withBit}
 use Rattle.common.specs.Search.{picked}
-use Rattle.common.proofs.BitLaws.{has-with-own, has-with-other, with-bound}
+use Rattle.common.proofs.BitLaws.{has-with-own, has-with-other}
 use Rattle.common.proofs.Tests.{by-test}
 use Rattle.demands.specs.Interleaved.{Event, Segment, Foreign, Ask, Own, Arrival, comeWith, comeFrom, isSegment, among, Each, ofSpeech, arrivalsOf, inTurn}
 
@@ -55,17 +54,6 @@ come-from k i bits [] h = sym (or-false (hasBit bits i))
 come-from k i bits (a ∷ l) h =
     come-from k i (comeWith k bits (a .event)) l h ∙ ap (λ (b : Bool). b || among k i l) (come-with k i bits (a .event) h)
     ∙ or-assoc (hasBit bits i) (isSegment k i (a .event)) (among k i l)
-
--- they are bits of a word
-with-low : (k bits : ℕ) (e : Event) → bits < 2 ^ 32 → comeWith k bits e < 2 ^ 32
-with-low k bits (Segment j i seq ttl) h = by-test (eqb j k) (λ t. rw t (with-bound bits i h)) (λ t. rw t h)
-with-low k bits (Foreign pdu) h = h
-with-low k bits (Ask net src) h = h
-with-low k bits (Own c) h = h
-
-pub come-bound : (k bits : ℕ) (l : List Arrival) → bits < 2 ^ 32 → comeFrom k bits l < 2 ^ 32
-come-bound k bits [] h = h
-come-bound k bits (a ∷ l) h = come-bound k (comeWith k bits (a .event)) l (with-low k bits (a .event) h)
 
 -- ---- in turn: the same segments come
 module _ (k : ℕ) where

@@ -11,19 +11,17 @@
 --   answered       every answer
 --   acknowledges   2: what an acknowledgement names, and when there is none
 --   ends-alike     3: what is left at the end
-use mathlib.Core.Bool.{true, false, false≢true}
+use mathlib.Core.Bool.{true, false≢true}
 use mathlib.Core.List.{List, [], _∷_, _++_}
 use mathlib.Core.Logic.{_⊎_, ⊎-elim}
-use mathlib.Core.Path.{_≡_, refl, sym, ap, _∙_, subst}
+use mathlib.Core.Path.{_≡_, refl, sym, ap, _∙_}
 use Prim.Native.Nat.{ℕ, _≤_, _<_}
 use native.Mathlib.Omega.{arith}
-use borrow.Author.Tests.{ne-eqb}
 use lib.ListN.{length, length-replicate, getD-replicate}
 use lib.Seq.{ext-getD}
 use Rattle.common.specs.Bits.{hasBit, allBits}
 use Rattle.common.proofs.BitLaws.{has-none, all-of-bits}
 use Rattle.common.proofs.Tests.{by-test}
-use Rattle.network.proofs.AddressLaws.{unicast-some}
 use Rattle.memory.specs.Replay.{noEntry, lookUp}
 use Rattle.memory.specs.Session.{sessionSlots, noSession, noSessions, sessionAt, sessionPlace, isFree}
 use Rattle.memory.proofs.ReplayMap.{listed-or-none}
@@ -32,7 +30,6 @@ use Rattle.node.specs.declared.addresses.Node.{Node}
 use Rattle.node.specs.declared.setup.Setup.{Setup}
 use Rattle.node.specs.Made.{WellMade}
 use Rattle.receiver.specs.declared.state.Receiver.{Receiver}
-use Rattle.receiver.specs.Good.{Gathering}
 use Rattle.receiver.proofs.Good.{good-fresh}
 use Rattle.demands.specs.Call.{step, run, after}
 use Rattle.demands.specs.Interleaved.{Event, Segment, Foreign, Ask, Own, Arrival, start, nodeOf, speechAt, callAs, callOf, calls, comeWith, comeFrom, come, ComeNames, Spent, Arrives, Each, Scene, AllCome, dueAs, behind, HandedUp, AnsweredAs, Answered, Acknowledges, messages, turns, EndsAlike}
@@ -41,9 +38,8 @@ use Rattle.demands.proofs.AskLaws.{asked-names, asked-sent, asked-refus
 use Rattle.demands.proofs.ArrivalLaws.{Next, event-next, dueOf, hands}
 use Rattle.demands.proofs.ComeLaws.{each-first, each-at, each-turn, come-from, come-in-turn}
 use Rattle.demands.proofs.DueLaws.{dueWith, dueBehind, picked-due, once-due}
-use Rattle.demands.proofs.SceneLaws.{speakerOf, speakerKey, Scenery, begins}
+use Rattle.demands.proofs.SceneLaws.{speakerOf, speakerKey, Scenery, begins, filled-within}
 use Rattle.demands.proofs.SpeechCut.{last-low}
-use Rattle.demands.proofs.SpeechSession.{sessionOf}
 use Rattle.demands.proofs.StageLaws.{none-all, entryOf, Stage, Silent, Gathers, Done}
 
 -- ---- from arrival to arrival
@@ -82,16 +78,10 @@ module _ (node : Node) (made : WellMade node) (speeches : List Speech) (few : le
   -- ---- behind all of them
   module _ (r : Receiver) (filled : ℕ → ℕ) (sc : Seen r filled) (k : ℕ) (hk : k < length speeches)
       (all : (i : ℕ) → i ≤ lastOf node (speechAt speeches k) → hasBit (filled k) i ≡ true) where
-    -- a session that gathers misses a place
-    gathers-not : (len : ℕ) (bytes : List ℕ) → sessionPlace (r .sessions) (speakerKey speeches k) < sessionSlots
-        → sessionAt (r .sessions) (sessionPlace (r .sessions) (speakerKey speeches k)) ≡ sessionOf node (speechAt speeches k) (filled k) len bytes
-        → filled k ≡ allBits (lastOf node (speechAt speeches k))
-    gathers-not len bytes own held =
-        let slot = sessionPlace (r .sessions) (speakerKey speeches k) in
-        let spoken = ne-eqb (speakerOf speeches k) 0 (unicast-some (speakerOf speeches k) (speak k hk .from-unicast)) in
-        let z : isFree (sessionAt (r .sessions) slot) ≡ false = ap isFree held ∙ spoken in
-        let g : Gathering (sessionOf node (speechAt speeches k) (filled k) len bytes) = subst Gathering held (sc .good .sessions-kept .each slot own .gathers z) in
-        all-of-bits (lastOf node (speechAt speeches k)) (filled k) (last-low node (speechAt speeches k) (speak k hk)) (g .filled-within) all
+    all-filled : filled k ≡ allBits (lastOf node (speechAt speeches k))
+    all-filled =
+        all-of-bits (lastOf node (speechAt speeches k)) (filled k) (last-low node (speechAt speeches k) (speak k hk))
+        (filled-within node speeches spent r filled sc k (speak k hk) hk) all
 
     record Over : Type 0 where
       filled-all : filled k ≡ allBits (lastOf node (speechAt speeches k))
@@ -100,7 +90,8 @@ module _ (node : Node) (made : WellMade node) (speeches : List Speech) (few : le
 
     over-by : Stage node (speechAt speeches k) (r .replay) (r .sessions) (filled k) → Over
     over-by (Silent b p e) = absurd (false≢true (sym (has-none 0) ∙ ap (λ (x : ℕ). hasBit x 0) (sym b) ∙ all 0 (omega arith)))
-    over-by (Gathers len bytes z m p h q e) = absurd (m (gathers-not len bytes p h))
+    -- a session that gathers misses a place
+    over-by (Gathers len bytes z m p h q e) = absurd (m all-filled)
     over-by (Done b p e) = record { filled-all = b; no-slot = p; entry-is = e }
 
     over : Over

@@ -8,6 +8,7 @@ use mathlib.Core.Bool.{true, false}
 use mathlib.Core.List.{List, _∷_, _++_}
 use mathlib.Core.Path.{_≡_}
 use Prim.Native.Nat.{ℕ, _≤_, _<_}
+use lib.Bits.{bitOr}
 use lib.Dec.{eqb}
 use lib.ListN.{length}
 use Rattle.common.specs.Bits.{allBits}
@@ -20,7 +21,7 @@ use Rattle.transport.specs.Segment.{messageOctets}
 use Rattle.memory.specs.declared.outgoing.Effect.the-variants.{Nothing, Marked, Completed}
 use Rattle.memory.specs.declared.outgoing.Outgoing.{Outgoing}
 use Rattle.memory.specs.Cache.{seen}
-use Rattle.memory.specs.Outgoing.{noOutgoing, heardWith, withHeard}
+use Rattle.memory.specs.Outgoing.{noOutgoing, withHeard}
 use Rattle.node.specs.declared.addresses.Node.{Node}
 use Rattle.node.specs.declared.setup.Setup.{Setup}
 use Rattle.node.specs.Addresses.{isLocal}
@@ -33,7 +34,7 @@ use Rattle.sending.specs.Transmission.{sendingIv}
 use Rattle.demands.specs.Call.{Hear, Acknowledge, Heard, Outcome, step}
 use Rattle.demands.specs.Interleaved.{Ask, Arrival, nodeOf, speechAt, come, Scene, behind, AskedOf}
 use Rattle.demands.specs.ReadBack.{pduMade}
-use Rattle.demands.specs.Speech.{Speech}
+use Rattle.demands.specs.Speech.{Speech, lastOf}
 
 -- a node that was set up, and used since, with the receiver's network keys and IV Index; the speech is the message that it keeps
 pub record Speaker (speaker : Receiver) (node : Node) (s : Speech) : Type 0 where
@@ -46,6 +47,7 @@ pub record Speaker (speaker : Receiver) (node : Node) (s : Speech) : Type 0 wher
   pub src-kept : speaker .out .src ≡ s .src
   pub dst-kept : speaker .out .terms .dst ≡ s .dst
   pub auth-kept : speaker .out .auth ≡ s .auth
+  pub segn-kept : speaker .out .terms .segn ≡ lastOf node s
 
 -- the header that a PDU opens to
 abbrev pub opensTo : Receiver → List ℕ → Header
@@ -64,12 +66,12 @@ pub record Hears (speaker : Receiver) (node : Node) (net : ℕ) (pdu fwd msg : L
 pub record Marks (out : Outgoing) (src bits : ℕ) (msg : List ℕ) (o : Outcome) : Type 0 where
   -- all is heard with them: no message is kept any more
   pub completes :
-      heardWith out bits ≡ allBits (out .terms .segn) → (o .answer ≡ Heard (Acknowledgement src bits Completed)) × (o .receiver .out ≡ noOutgoing)
-  -- else it is kept, and these are marked
+      bitOr (out .heard) bits ≡ allBits (out .terms .segn) → (o .answer ≡ Heard (Acknowledgement src bits Completed)) × (o .receiver .out ≡ noOutgoing)
+  -- else it is kept, with these marked besides those that were
   pub marks :
-      (heardWith out bits ≡ allBits (out .terms .segn) → ⊥)
-      → (o .answer ≡ Heard (Acknowledgement src bits (if eqb (heardWith out bits) (out .heard) then Nothing else Marked)))
-      × (o .receiver .out ≡ withHeard out (heardWith out bits))
+      (bitOr (out .heard) bits ≡ allBits (out .terms .segn) → ⊥)
+      → (o .answer ≡ Heard (Acknowledgement src bits (if eqb (bitOr (out .heard) bits) (out .heard) then Nothing else Marked)))
+      × (o .receiver .out ≡ withHeard out (bitOr (out .heard) bits))
   -- an acknowledgement writes none of the message buffer
   pub message-stays : o .message ≡ msg
 

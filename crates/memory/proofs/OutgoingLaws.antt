@@ -1,9 +1,12 @@
--- What a heard acknowledgement does, from the code's tests: each effect follows from the tests before it.
+-- What a heard acknowledgement does, from the code's tests: each effect follows from the tests before it; and of segments that are there no bit is ignored.
 -- Assumes nothing.
 use mathlib.Core.Bool.{Bool, true, false, not}
-use mathlib.Core.Path.{_≡_}
-use Prim.Native.Nat.{ℕ, _%_}
+use mathlib.Core.Path.{_≡_, refl, _∙_}
+use Prim.Native.Nat.{ℕ, _+_, _-_, _%_, _^_, _<_, min}
+use native.Mathlib.Nat.{mod-eq-of-lt}
+use native.Mathlib.Omega.{arith}
 use borrow.Author.Tests.{not-true, not-false, eq-eqb, ne-eqb}
+use lib.Bits.{bitAnd, bitOr, and-mask}
 use lib.Dec.{eqb}
 use Rattle.common.specs.Bits.{allBits}
 use Rattle.network.specs.declared.header.Header.{Header}
@@ -64,3 +67,12 @@ module _ (out : Outgoing) (h : Header) (obo : Bool) (seqZero bits : ℕ) {f : Bo
         heard-some t = rw (← e, not-false f h1, ne-eqb bits 0 h2, ← eh, ← ea, ne-eqb heard all h3, ne-eqb heard (out .heard) t)
 
 pub ruleset acknowledging-rules = (heard-unfit, heard-zero, heard-all, heard-again, heard-some)
+
+-- ---- bits to SegN: none is ignored
+pub heard-within :
+    (out : Outgoing) (bits : ℕ) → out .terms .segn < 32 → bits < 2 ^ (out .terms .segn + 1) → heardWith out bits ≡ bitOr (out .heard) bits
+unfolding heardWith allBits
+heard-within out bits low within =
+    let n : min (out .terms .segn) 31 ≡ out .terms .segn = omega arith in
+    let all : bitAnd bits (2 ^ (out .terms .segn + 1) - 1) ≡ bits = and-mask bits (out .terms .segn + 1) ∙ mod-eq-of-lt within in
+    rw (n, all) refl
