@@ -48,7 +48,6 @@ use Rattle.demands.proofs.AskLaws.{address-of, asked-made}
 use Rattle.demands.proofs.GoesOut.{goes-out}
 use Rattle.demands.proofs.Instance.{node, holds, scene-met}
 use Rattle.demands.proofs.Interleaved.{acknowledges, seen-before}
-use Rattle.demands.proofs.Invariant.{good-step}
 use Rattle.demands.proofs.KeptLaws.{Kept, kept-own}
 use Rattle.demands.proofs.SaidLaws as said
 use Rattle.demands.proofs.SceneLaws.{Scenery, same-scene, filled-within}
@@ -110,7 +109,6 @@ speaker-by (Begun a w s) =
     let out-is = ap (λ (r : Receiver). r .out) (s .leaves) in
     let node-is = ap (λ (r : Receiver). r .node) (s .leaves) in
     record {
-      good = good-step (start box) (SendAccess toShed (Application 0) false (replicate 20 0x5a) buf) (good-fresh box box-ready);
       networks-same = ap (λ (n : Node). n .networks) node-is ∙ shared .networks-same;
       materials-same = ap (λ (n : Node). n .materials) node-is ∙ shared .materials-same;
       iv-same = ap (λ (n : Node). n .iv) node-is ∙ shared .iv-same;

@@ -2,10 +2,11 @@
 -- segments come so far make (`Scenery`): silent, gathering in a session, or done. A segment moves its own speech on and
 -- leaves the others, since a slot or an entry of one source is never another's; there is always room, since eight
 -- speakers need eight slots at most and 32 entries are more than eight. A PDU from the cache brings a segment that had
--- come; one that no key opens, a request to acknowledge, and what the receiver sends, move nothing. Now read off the stage: a segment hands up
--- the message exactly where it was the last that was missing, and an acknowledgement names the places filled. Behind
--- all of them every speech is done, so no session is open and each replay entry is the speech's own, in whatever order
--- they came; the order in turn is one such. A speech that is done stays so: one message each. Assumes nothing.
+-- come; one that no key opens, a request to acknowledge, and what the receiver sends, move nothing. Now read off the
+-- stage: a segment hands up the message exactly where it was the last that was missing, and an acknowledgement names the
+-- places filled. Behind all of them every speech is done, so no session is open and each replay entry is the speech's
+-- own, in whatever order they came, and no other source has one; the order in turn is one such. A speech that is done
+-- stays so: one message each. Assumes nothing.
 --   come-names     the bits name the segments that came
 --   handed-up      1: where a message is handed up
 --   answered       every answer

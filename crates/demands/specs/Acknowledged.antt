@@ -28,7 +28,6 @@ use Rattle.node.specs.Addresses.{isLocal}
 use Rattle.receiver.specs.declared.answer.Answer.the-variants.{Acknowledgement}
 use Rattle.receiver.specs.declared.state.Receiver.{Receiver}
 use Rattle.receiver.specs.declared.whole.Admission.the-variants.{Admitted}
-use Rattle.receiver.specs.Good.{Good}
 use Rattle.receiver.specs.Whole.{admission}
 use Rattle.sending.specs.Transmission.{sendingIv}
 use Rattle.demands.specs.Call.{Hear, Acknowledge, Heard, Outcome, step}
@@ -36,9 +35,8 @@ use Rattle.demands.specs.Interleaved.{Ask, Arrival, nodeOf, speechAt, co
 use Rattle.demands.specs.ReadBack.{pduMade}
 use Rattle.demands.specs.Speech.{Speech, lastOf}
 
--- a node that was set up, and used since, with the receiver's network keys and IV Index; the speech is the message that it keeps
+-- a node with the receiver's network keys and IV Index; the speech is the message that it keeps
 pub record Speaker (speaker : Receiver) (node : Node) (s : Speech) : Type 0 where
-  pub good : Good speaker
   pub networks-same : speaker .node .networks ≡ node .networks
   pub materials-same : speaker .node .materials ≡ node .materials
   pub iv-same : speaker .node .iv ≡ node .iv
