@@ -34,12 +34,12 @@ kept-itself r = record { setup-stays = refl; index-stays = refl; cache-stays = r
 
 kept-saying : (r : Receiver) (element : ℕ) (h : Header) (buf : List ℕ) → Kept r (saying r element h buf .answer .receiver)
 kept-saying r element h buf =
-    by-saying r element h buf (λ (s : Lent Spoken). Kept r (s .answer .receiver)) (λ _. kept-itself r)
+    by-saying r element h buf (λ (s : Lent Spoken). Kept r (s .answer .receiver)) (λ _ _. kept-itself r)
     (λ _. record { setup-stays = refl; index-stays = refl; cache-stays = refl; replay-stays = refl; sessions-stay = refl })
 
 pub kept-acknowledging : (r : Receiver) (net src : ℕ) (buf : List ℕ) → Kept r (acknowledging r net src buf .answer .receiver)
 kept-acknowledging r net src buf =
-    walk-acknowledge r buf (λ (s : Lent Spoken). Kept r (s .answer .receiver)) (λ _. kept-itself r) net src
+    walk-acknowledge r buf (λ (s : Lent Spoken). Kept r (s .answer .receiver)) (λ _ _. kept-itself r) net src
     (λ _. kept-saying r _ _ buf)
 
 module _ (node : Node) (speeches : List Speech) (spent : Spent) where

@@ -1,7 +1,8 @@
 -- A file proves the statements of the file of the same name in specs/, or holds the laws that those proofs rest on.
 pub mod Examples
+pub mod Ends
+pub mod Answers
 pub mod Refusal
-pub mod Speaking
 pub mod Invariant
 pub mod NeverTwice
 pub mod SpeechCut

@@ -101,7 +101,7 @@ module _ (sender : Receiver) (made-node : WellMade (sender .node)) (node : Node)
       λ a x. madeBy (saying r a (segmentHeader x n) buf .answer .answer) ≡ true → SaidBy r element (segmentHeader o n) (saying r a (segmentHeader x n) buf) in
       let speaks : elementOf (r .node) (r .out .src) ≡ element =
       element-fixed (r .node) (sender .node) (k .fixed-is) (r .out .src) ∙ rw (k .out-is, kept .src-is, sym src-is) (element-back (sender .node) made-node element there) in
-      walk-segment r buf (λ (x : Lent Spoken). madeBy (x .answer .answer) ≡ true → SaidBy r element (segmentHeader o n) x) (λ _ m. absurd (false≢true m)) n
+      walk-segment r buf (λ (x : Lent Spoken). madeBy (x .answer .answer) ≡ true → SaidBy r element (segmentHeader o n) x) (λ _ _ m. absurd (false≢true m)) n
       (λ _ _. subst (λ (a : ℕ). By a (r .out)) (sym speaks) (subst (λ (x : Outgoing). By element x) (sym (k .out-is)) (said-by r element buf (segmentHeader o n))))
 
   pub record SaidAt (r : Receiver) (n : ℕ) (out : Outcome) : Type 0 where

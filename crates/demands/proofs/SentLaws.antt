@@ -56,12 +56,12 @@ pub record StartedBy (r : Receiver) (element : ℕ) (o : Outgoing) (s : Lent Spo
 module _ (r : Receiver) (element : ℕ) (buf : List ℕ) where
   pub said-by : (h : Header) → madeBy (saying r element h buf .answer .answer) ≡ true → SaidBy r element h (saying r element h buf)
   said-by h =
-      by-saying r element h buf (λ (s : Lent Spoken). madeBy (s .answer .answer) ≡ true → SaidBy r element h s) (λ _ m. absurd (false≢true m))
+      by-saying r element h buf (λ (s : Lent Spoken). madeBy (s .answer .answer) ≡ true → SaidBy r element h s) (λ _ _ m. absurd (false≢true m))
       (λ c _. record { len = _; says = refl; leaves = refl; transmitted-is = transmits r element h buf c })
 
   pub started-by : (o : Outgoing) → madeBy (starting r element o buf .answer .answer) ≡ true → StartedBy r element o (starting r element o buf)
   started-by o =
-      by-starting r element o buf (λ (s : Lent Spoken). madeBy (s .answer .answer) ≡ true → StartedBy r element o s) (λ _ m. absurd (false≢true m))
+      by-starting r element o buf (λ (s : Lent Spoken). madeBy (s .answer .answer) ≡ true → StartedBy r element o s) (λ _ _ m. absurd (false≢true m))
       (λ c _. record { len = _; says = refl; leaves = refl; transmitted-is = transmits r element (segmentHeader o 0) buf c })
 
 -- ---- the two ways
@@ -92,8 +92,8 @@ module _ (r : Receiver) (q : Request) where
 
   pub way : (words : Words) (buf : List ℕ) → madeBy (sendingAs words buf .answer .answer) ≡ true → Way words (sendingAs words buf)
   way (Access key szmic payload) buf =
-      walk-access r buf (λ (s : Lent Spoken). madeBy (s .answer .answer) ≡ true → Way (Access key szmic payload) s) (λ n m. absurd (false≢true m)) q key szmic payload
+      walk-access r buf (λ (s : Lent Spoken). madeBy (s .answer .answer) ≡ true → Way (Access key szmic payload) s) (λ _ _ m. absurd (false≢true m)) q key szmic payload
       (λ a w m. Whole a w (said-by r (q .element) buf _ m)) (λ a w m. Begun a w (started-by r (q .element) buf _ m))
   way (Control code parameters) buf =
-      walk-control r buf (λ (s : Lent Spoken). madeBy (s .answer .answer) ≡ true → Way (Control code parameters) s) (λ n m. absurd (false≢true m)) q code parameters
+      walk-control r buf (λ (s : Lent Spoken). madeBy (s .answer .answer) ≡ true → Way (Control code parameters) s) (λ _ _ m. absurd (false≢true m)) q code parameters
       (λ a w m. Whole a w (said-by r (q .element) buf _ m)) (λ a w m. Begun a w (started-by r (q .element) buf _ m))

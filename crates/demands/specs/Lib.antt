@@ -1,8 +1,8 @@
 -- The statements that the receiver is built for, and nothing else.
 pub mod Call
 pub mod Examples
+pub mod Answers
 pub mod Refusal
-pub mod Speaking
 pub mod NeverTwice
 pub mod Speech
 pub mod Interleaved

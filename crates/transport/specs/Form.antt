@@ -3,6 +3,7 @@
 --   segmentFits segO segN n full     what a segment of n octets must be
 --   fieldsOf h                       which segment of which message it is
 --   formOf h                         the form of an opened header's transport PDU
+--   isSegment f                      it is a segment of a longer message
 use mathlib.Core.Bool.{Bool, true, false, not, _&&_, _||_}
 use Prim.Native.Nat.{ℕ, _+_}
 use lib.Dec.{eqb, leb}
@@ -87,6 +88,15 @@ formAs false false h = accessForm h
 -- the form of an opened header's transport PDU
 unfoldable pub formOf : Header → Form
 formOf h = formAs (h .ctl) (seg (first h)) h
+
+-- a segment of a longer message
+abbrev pub isSegment : Form → Bool
+isSegment (Access akf aid) = false
+isSegment (AccessSegment akf aid f) = true
+isSegment (Control opcode) = false
+isSegment (ControlSegment opcode f) = true
+isSegment (Acknowledgement obo seqZero bits) = false
+isSegment Wrong = false
 
 -- this paper's number of each form: a wrong one is refusal 7
 abbrev pub paper : Form → ℕ

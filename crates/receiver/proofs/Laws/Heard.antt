@@ -1,11 +1,11 @@
 -- A call refuses before the cache and leaves everything, or the PDU opened and is new, and passes: the tests in front are walked once. One that opens and is in the
 -- cache leaves everything; one that is new, and for this node, leaves what the message of its form leaves. Assumes nothing.
---   early            the refusals before the cache: 16, 1 to 5
+--   early, late      the refusals before the cache, 16 and 1 to 5, and behind it, 6 to 13
 --   walk-hearing     what holds of each such refusal, and of what a PDU leaves that passes, holds of the call
 --   heard-unopened   one that does not open is refused so
 --   heard-again, heard-new   one that opens
 --   heard-forwarded, heard-kept   what it forwards
-use mathlib.Core.Bool.{Bool, true, false, _||_}
+use mathlib.Core.Bool.{Bool, true, false, _&&_, _||_}
 use mathlib.Core.List.{List}
 use mathlib.Core.Path.{_≡_, refl, ap, _∙_}
 use Prim.Native.Nat.{ℕ, _≤_}
@@ -36,6 +36,10 @@ use Rattle.receiver.specs.State.{withCache}
 -- 16 and 1 to 5
 abbrev pub early : Refusal → Bool
 early n = eqb (refusalNumber n) 16 || leb (refusalNumber n) 5
+
+-- 6 to 13
+abbrev pub late : Refusal → Bool
+late n = leb 6 (refusalNumber n) && leb (refusalNumber n) 13
 
 -- refusal n, and everything as it was
 pub record Refuses (r : Receiver) (fwd msg : List ℕ) (n : Refusal) (o : Outcome) : Type 0 where

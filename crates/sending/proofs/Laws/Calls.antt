@@ -36,13 +36,13 @@ use Rattle.sending.specs.Answer.{refusedAt}
 use Rattle.sending.specs.Control as control
 use Rattle.sending.specs.Segment.{segmentHeader, starting, elementOf, segmentAllowed, sendingSegment}
 use Rattle.sending.specs.Transmission.{sendingIv}
-use Rattle.sending.proofs.Laws.Transmitted.{saying}
+use Rattle.sending.proofs.Laws.Transmitted.{checked, saying}
 
 -- what an access message is sent as: whole, or begun
 abbrev pub accessHeader : Receiver → Request → MessageKey → Bool → List ℕ → Header
 accessHeader r q key szmic payload = let k = keyed (r .node) key in wholeHeader (envelopeOf r q k szmic) q k payload
 
-module _ (r : Receiver) (buf : List ℕ) (P : Lent Spoken → Type 0) (refused : (n : Refusal) → P (lent (refusedAt r n) buf)) where
+module _ (r : Receiver) (buf : List ℕ) (P : Lent Spoken → Type 0) (refused : (n : Refusal) → checked n ≡ true → P (lent (refusedAt r n) buf)) where
   abbrev short : Lent Spoken
   short = lent (refusedAt r refusal.ShortBuffer) buf
 
@@ -64,11 +64,11 @@ module _ (r : Receiver) (buf : List ℕ) (P : Lent Spoken → Type 0) (refused :
     unfolding sendingAccess sayingAccess
     walk-access said started =
         let k = keyed (r .node) key in
-        by-choice P (ltb (length buf) pduOctets) {x = short} {y = if allowed then sayingAccess r q key szmic payload buf else outside} (λ _. refused refusal.ShortBuffer)
+        by-choice P (ltb (length buf) pduOctets) {x = short} {y = if allowed then sayingAccess r q key szmic payload buf else outside} (λ _. refused refusal.ShortBuffer refl)
         (λ _. by-choice P allowed {x = sayingAccess r q key szmic payload buf} {y = outside}
         (λ a. by-choice P whole {x = saying r (q .element) (accessHeader r q key szmic payload) buf}
         {y = starting r (q .element) (outgoingOf (envelopeOf r q k szmic) q k payload) buf} (said a) (started a))
-        (λ _. refused refusal.OutsideRules))
+        (λ _. refused refusal.OutsideRules refl))
 
   module _ (q : Request) (opcode : ℕ) (parameters : List ℕ) where
     abbrev fine : Bool
@@ -81,11 +81,11 @@ module _ (r : Receiver) (buf : List ℕ) (P : Lent Spoken → Type 0) (refused :
     unfolding control.sendingControl control.sayingControl
     walk-control said started =
         let h = control.wholeHeader (sendingIv (r .node)) q opcode parameters in
-        by-choice P (ltb (length buf) pduOctets) {x = short} {y = if fine then control.sayingControl r q opcode parameters buf else outside} (λ _. refused refusal.ShortBuffer)
+        by-choice P (ltb (length buf) pduOctets) {x = short} {y = if fine then control.sayingControl r q opcode parameters buf else outside} (λ _. refused refusal.ShortBuffer refl)
         (λ _. by-choice P fine {x = control.sayingControl r q opcode parameters buf} {y = outside}
         (λ a. by-choice P (leb (length parameters) 11) {x = saying r (q .element) h buf} {y = starting r (q .element) (control.outgoingOf r q opcode parameters) buf}
         (said a) (started a))
-        (λ _. refused refusal.OutsideRules))
+        (λ _. refused refusal.OutsideRules refl))
 
   pub walk-segment :
       (n : ℕ)
@@ -96,10 +96,10 @@ module _ (r : Receiver) (buf : List ℕ) (P : Lent Spoken → Type 0) (refused :
       let element = elementOf (r .node) (r .out .src) in
       let sent = saying r element (segmentHeader (r .out) n) buf in
       by-choice P (ltb (length buf) pduOctets) {x = short} {y = if ltb element elementPlaces then (if segmentAllowed r element n then sent else outside) else outside}
-      (λ _. refused refusal.ShortBuffer)
+      (λ _. refused refusal.ShortBuffer refl)
       (λ _. by-choice P (ltb element elementPlaces) {x = if segmentAllowed r element n then sent else outside} {y = outside}
-      (λ t. by-choice P (segmentAllowed r element n) {x = sent} {y = outside} (said (ltb-true element elementPlaces t)) (λ _. refused refusal.OutsideRules))
-      (λ _. refused refusal.OutsideRules))
+      (λ t. by-choice P (segmentAllowed r element n) {x = sent} {y = outside} (said (ltb-true element elementPlaces t)) (λ _. refused refusal.OutsideRules refl))
+      (λ _. refused refusal.OutsideRules refl))
 
   pub walk-acknowledge :
       (net src : ℕ)
@@ -113,12 +113,12 @@ module _ (r : Receiver) (buf : List ℕ) (P : Lent Spoken → Type 0) (refused :
       let sent = saying r element (acknowledgementHeader (sendingIv (r .node)) net src c) buf in
       by-choice P (ltb (length buf) pduOctets) {x = short}
       {y = if ltb net (min (r .node .networks) networkKeyPlaces) then (if isUnicast (c .dst) then (if ltb element elementPlaces then sent else outside) else outside) else outside}
-      (λ _. refused refusal.ShortBuffer)
+      (λ _. refused refusal.ShortBuffer refl)
       (λ _. by-choice P (ltb net (min (r .node .networks) networkKeyPlaces)) {x = if isUnicast (c .dst) then (if ltb element elementPlaces then sent else outside) else outside} {y = outside}
       (λ _. by-choice P (isUnicast (c .dst)) {x = if ltb element elementPlaces then sent else outside} {y = outside}
-      (λ _. by-choice P (ltb element elementPlaces) {x = sent} {y = outside} (λ t. said (ltb-true element elementPlaces t)) (λ _. refused refusal.OutsideRules))
-      (λ _. refused refusal.OutsideRules))
-      (λ _. refused refusal.OutsideRules))
+      (λ _. by-choice P (ltb element elementPlaces) {x = sent} {y = outside} (λ t. said (ltb-true element elementPlaces t)) (λ _. refused refusal.OutsideRules refl))
+      (λ _. refused refusal.OutsideRules refl))
+      (λ _. refused refusal.OutsideRules refl))
 
 -- ---- where the tests pass
 module _ (r : Receiver) (buf : List ℕ) (wide : pduOctets ≤ length buf) where
