@@ -153,7 +153,7 @@ module _ (r : Receiver) where
 
 -- ---- the calls
 pub ends : (r : Receiver) (c : Call) → Ends r (mayAnswer c) (lentFor c) (messageFor c) (step r c)
-ends r (Hear pdu fwd msg) = heard-ends r pdu fwd msg
+ends r (Hear pdu fwd msg) = heard-ends r _ fwd msg
 ends r (GiveUp src) = by-giving-up (EndedEnds r) r src (not-there r) (λ _. given-up r _)
 ends r (SendAccess q key szmic payload buf) =
     walk-access r buf (SaidEnds r buf) (refused r buf) q key szmic payload (λ _ _. said r buf (q .element) _) (λ _ _. started r buf (q .element) _)

@@ -18,10 +18,10 @@ use Rattle.transport.specs.Form.{formOf, isSegment}
 use Rattle.memory.specs.Cache.{remembered}
 use Rattle.memory.specs.Session.{noSession, slotFor}
 use Rattle.receiver.specs.declared.state.Receiver.{Receiver}
-use Rattle.receiver.specs.Hearing.{relayed}
+use Rattle.receiver.specs.Hearing.{relayed, hearing}
 use Rattle.receiver.specs.State.{withCache, withSession}
 use Rattle.demands.specs.Answers.{numberOf}
-use Rattle.demands.specs.Call.{Call, Hear, lentFor, messageFor, Answer, Outcome, step}
+use Rattle.demands.specs.Call.{Call, lentFor, messageFor, Answer, Outcome, leftHeard, step}
 
 -- the answer is a refusal: it has a number
 abbrev pub isRefused : Answer → Bool
@@ -57,7 +57,7 @@ noKeyOpens network.WrongAddress = false
 abbrev pub UnopenedLeaves : Type 0
 UnopenedLeaves =
     (r : Receiver) (pdu fwd msg : List ℕ) → noKeyOpens (opening (r .node .materials) (r .node .networks) (r .node .iv) pdu .answer) ≡ true
-    → Untouched r fwd msg (step r (Hear pdu fwd msg))
+    → Untouched r fwd msg (leftHeard (hearing r pdu fwd msg))
 
 -- ---- behind the cache
 -- the receiver with the PDU of a header in its cache
@@ -79,7 +79,7 @@ pub record Behind (r : Receiver) (h : Header) (fwd : List ℕ) (n : ℕ) (o : Ou
 abbrev pub LateLeaves : Type 0
 LateLeaves =
     (r : Receiver) (pdu fwd msg : List ℕ)
-    → (let o = step r (Hear pdu fwd msg) in
+    → (let o = leftHeard (hearing r pdu fwd msg) in
     let n = numberOf (o .answer) in
     let h = opening (r .node .materials) (r .node .networks) (r .node .iv) pdu .header in
     leb 6 n && leb n 13 ≡ true → Behind r h fwd n o)
