@@ -90,7 +90,7 @@ module _ (r : Receiver) (pdu fwd msg : List ℕ) where
   pub untouched : (n : Refusal) (x : hear.Outcome) → Refuses r fwd msg n x → Untouched r fwd msg (leftHeard x)
   untouched n x y =
       subst (λ (z : hear.Outcome). Untouched r fwd msg (leftHeard z)) (sym (y .leaves))
-      (record { receiver-stays = refl; pdu-stays = refl; message-stays = refl; no-octets = refl })
+      (record { receiver-stays = refl; pdu-stays = refl; message-stays = refl; none-made = refl; no-octets = refl })
 
   pub refused-kind : isRefused (Heard (o .heard .answer)) ≡ true → (n : Refusal) × (o .heard .answer ≡ Refused n) × (Refuses r fwd msg n o ⊎ Late r pdu fwd msg n o)
   refused-kind t = let a = refused-as (o .heard .answer) t in (a .0, a .1, heard-refused r pdu fwd msg (a .0) (a .1))
@@ -123,7 +123,7 @@ module _ (r : Receiver) (buf : List ℕ) where
   refused n t =
       record {
         answers = checked-said (refusalNumber n) t;
-        everything = λ _. record { receiver-stays = refl; pdu-stays = refl; message-stays = refl; no-octets = refl };
+        everything = λ _. record { receiver-stays = refl; pdu-stays = refl; message-stays = refl; none-made = refl; no-octets = refl };
         message-stays = λ _. refl;
       }
 
@@ -144,7 +144,7 @@ module _ (r : Receiver) where
   not-there =
       record {
         answers = refl;
-        everything = λ _. record { receiver-stays = refl; pdu-stays = refl; message-stays = refl; no-octets = refl };
+        everything = λ _. record { receiver-stays = refl; pdu-stays = refl; message-stays = refl; none-made = refl; no-octets = refl };
         message-stays = λ _. refl;
       }
 

@@ -1,6 +1,6 @@
 -- Demand 1: every call gives one of document 01's answers ("Numbers of the refusals"). Which of them each call gives, by their numbers.
 --   numberOf a      the number of an answer
---   mayAnswer c n   call c answers n, among others
+--   mayAnswer c n   n is one of the numbers that call c answers
 use mathlib.Core.Bool.{Bool, true, _&&_, _||_}
 use mathlib.Core.Path.{_≡_}
 use Prim.Native.Nat.{ℕ}
@@ -19,7 +19,7 @@ numberOf (Heard a) = heard.paper a .number
 numberOf (Said a) = said.paper a
 numberOf (Ended a) = ended.paper a
 
--- ---- what is answered: nothing is refused, or
+-- ---- the numbers that are answered, 0 among them
 -- hearing checks 16, 1 to 13
 abbrev pub ofHearing : ℕ → Bool
 ofHearing n = eqb n 16 || leb n 13
@@ -32,6 +32,7 @@ ofSending n = eqb n 0 || (leb 14 n && leb n 16)
 abbrev pub ofAsking : ℕ → Bool
 ofAsking n = eqb n 0 || eqb n 14
 
+-- which of them a call answers
 abbrev pub mayAnswer : Call → ℕ → Bool
 mayAnswer (Hear pdu fwd msg) = ofHearing
 mayAnswer (GiveUp src) = ofAsking

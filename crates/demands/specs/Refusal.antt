@@ -32,6 +32,7 @@ pub record Untouched (r : Receiver) (pdu message : List ℕ) (o : Outcome) : Typ
   pub receiver-stays : o .receiver ≡ r
   pub pdu-stays : o .pdu ≡ pdu
   pub message-stays : o .message ≡ message
+  pub none-made : o .made ≡ false
   pub no-octets : o .octets ≡ 0
 
 -- a refusal leaves the message buffer untouched
@@ -42,6 +43,7 @@ MessageStays = (r : Receiver) (c : Call) → isRefused (step r c .answer) ≡ tr
 abbrev pub leavesEverything : ℕ → Bool
 leavesEverything n = leb 1 n && (leb 14 n || leb n 5)
 
+-- so does every call that is refused one of them
 abbrev pub EverythingStays : Type 0
 EverythingStays = (r : Receiver) (c : Call) → leavesEverything (numberOf (step r c .answer)) ≡ true → Untouched r (lentFor c) (messageFor c) (step r c)
 
@@ -64,7 +66,7 @@ UnopenedLeaves =
 abbrev pub cached : Receiver → Header → Receiver
 cached r h = withCache r (remembered (r .cache) h)
 
--- what refusal n leaves of the receiver q that has cached the PDU: it; 13 of a segment frees the completed session, which is its source's, or was opened by this segment
+-- what refusal n leaves of the receiver q that has cached the PDU: it; 13 of a segment frees the completed session, its source's own or the one that this segment opened
 abbrev pub leftBehind : Receiver → Header → ℕ → Receiver
 leftBehind q h n =
     if eqb n 13 && isSegment (formOf h) then withSession q (slotFor (q .sessions) (record { src = h .src })) noSession else
