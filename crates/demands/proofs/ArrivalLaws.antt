@@ -1,13 +1,13 @@
--- Every arrival keeps the scene as it is to be seen, and hands up what is due. A PDU of a speech opens to its header; where the cache has it, its segment had come
--- before; else it is placed, and its place is filled. A PDU that no key opens and a request to acknowledge leave all that the scene is seen by. Assumes nothing.
---   dueOf        what is due at an event
---   StoresAt     a segment is stored
---   CountsAt     how many keys are tried for it
---   Next         what an event is to do
---   event-next   each does
-use mathlib.Core.Bool.{true, false, true≢false}
+-- Every arrival keeps the scene as it is to be seen, and is answered as it is to be. A PDU of a speech opens to its header; where the cache has it, its segment had come
+-- before; else it is placed, and its place is filled. A PDU that no key opens, a request to acknowledge and what the receiver sends leave all that the scene is seen by. Assumes nothing.
+--   Next                   what an event is to do
+--   event-next             each does
+--   dueOf, hands           what is due at an event is handed up
+--   StoresAt, stores       a segment is stored
+--   CountsAt, counts       how many keys are tried for it
+use mathlib.Core.Bool.{true, false, false≢true}
 use mathlib.Core.List.{List, [], _∷_}
-use mathlib.Core.Logic.{⊎-elim}
+use mathlib.Core.Logic.{inr, ⊎-elim}
 use mathlib.Core.Path.{_≡_, refl, sym, ap, _∙_, subst}
 use Prim.Native.Nat.{ℕ, _≤_, _<_}
 use native.Mathlib.Omega.{arith}
@@ -36,31 +36,30 @@ use Rattle.memory.proofs.CacheLaws.{length-remembered, seen-or-new}
 use Rattle.node.specs.declared.addresses.Node.{Node}
 use Rattle.node.specs.Made.{WellMade}
 use Rattle.node.proofs.IndexLaws.{for-fixed}
-use Rattle.receiver.specs.declared.answer.Answer.{Answer}
 use Rattle.receiver.specs.declared.answer.Refusal.the-variants as refusal
 use Rattle.receiver.specs.declared.answer.Taken.{Taken}
 use Rattle.receiver.specs.declared.state.Receiver.{Receiver}
-use Rattle.receiver.specs.Hearing as hear
 use Rattle.receiver.specs.Hearing.{outcome, refusedHeard, takenAs, hearing}
 use Rattle.receiver.specs.Segmented as segments
 use Rattle.receiver.specs.State.{withCache}
 use Rattle.receiver.proofs.Good.{good-hear}
 use Rattle.receiver.proofs.GoodState.{good-cache}
 use Rattle.receiver.proofs.Laws.Fixed.{fixed-heard}
-use Rattle.receiver.proofs.Laws.Heard.{heard-unopened, heard-again, Leaves, heard-new}
-use Rattle.demands.specs.Call.{Call, Hear, Acknowledge, Heard, Outcome, leftHeard, step}
+use Rattle.receiver.proofs.Laws.Heard.{heard-closed, heard-again, Leaves, heard-new}
+use Rattle.demands.specs.Call.{Call, Hear, GiveUp, SendAccess, SendControl, SendSegment, Acknowledge, Stop, Heard, Outcome, leftHeard, step}
 use Rattle.demands.specs.Interleaved as scene
-use Rattle.demands.specs.Interleaved.{Event, Segment, Foreign, Ask, speechAt, callAs, comeWith, isLastMissing, Spent, Comes, isStored, handedAs, handed}
+use Rattle.demands.specs.Interleaved.{Event, Segment, Foreign, Ask, Own, speechAt, callAs, comeWith, isLastMissing, Spent, isOwn, Comes, isStored, handed, SegmentAnswered, ForeignAnswered, AnsweredAs}
 use Rattle.demands.specs.Refusal.{noKeyOpens}
 use Rattle.demands.specs.Speech.{Speech, lastOf, headerOf, segmentPdu, Speakable, Handed, handUp, networkPlace, applicationPlace}
+use Rattle.demands.proofs.AnsweredLaws.{had-come, same-answered, answered-hands, answered-stores}
 use Rattle.demands.proofs.Invariant.{good-step}
-use Rattle.demands.proofs.KeptLaws.{kept-acknowledging, kept-scene, refilled}
+use Rattle.demands.proofs.KeptLaws.{kept-acknowledging, kept-own, kept-scene, refilled}
 use Rattle.demands.proofs.Refusal.{unopened, unopened-leaves}
 use Rattle.demands.proofs.SceneLaws.{speakerOf, speakerKey, Scenery, same-scene, entry-room, session-room}
 use Rattle.demands.proofs.SpeechCut.{last-low}
 use Rattle.demands.proofs.SpeechSegment.{formed, segment-sealable, segment-taken, segment-placed}
 use Rattle.demands.proofs.StageLaws.{segmentAt, Stage}
-use Rattle.demands.proofs.StepLaws.{Step, placed-steps}
+use Rattle.demands.proofs.StepLaws.{leftTaken, Step, placed-steps}
 
 -- what was set stays set
 has-with : (x i j : ℕ) → i < 32 → hasBit x j ≡ true → hasBit (withBit x i) j ≡ true
@@ -69,45 +68,41 @@ has-with x i j low h =
     (λ t. let e = eqb-true j i t in rw e (has-with-own x i low))
     (λ t. has-with-other x i j (eqb-false j i t) ∙ h)
 
--- a PDU that no key opens hands up nothing
-foreign-none : (r : Receiver) (pdu fwd msg : List ℕ) → noKeyOpens (opening (r .node .materials) (r .node .networks) (r .node .iv) pdu .answer) ≡ true
-    → handed (step r (Hear pdu fwd msg)) ≡ []
-foreign-none r pdu fwd msg t =
-    let y = heard-unopened r fwd msg pdu (unopened (opening (r .node .materials) (r .node .networks) (r .node .iv) pdu .answer) t) in
-    ap (λ (o : hear.Outcome). handed (leftHeard o)) (y .1 .leaves)
+-- the buffers that a call of hearing is lent
+abbrev forwardOf : Call → List ℕ
+forwardOf (Hear pdu fwd msg) = fwd
+forwardOf (GiveUp src) = []
+forwardOf (SendAccess q key szmic payload buf) = []
+forwardOf (SendControl q opcode parameters buf) = []
+forwardOf (SendSegment n buf) = []
+forwardOf (Acknowledge net src buf) = []
+forwardOf Stop = []
+
+abbrev messageOf : Call → List ℕ
+messageOf (Hear pdu fwd msg) = msg
+messageOf (GiveUp src) = []
+messageOf (SendAccess q key szmic payload buf) = []
+messageOf (SendControl q opcode parameters buf) = []
+messageOf (SendSegment n buf) = []
+messageOf (Acknowledge net src buf) = []
+messageOf Stop = []
+
+-- a call of the receiver's own hands up nothing
+own-none : (r : Receiver) (c : Call) → isOwn c ≡ true → handed (step r c) ≡ []
+own-none r (Hear pdu fwd msg) own = absurd (false≢true own)
+own-none r (GiveUp src) own = refl
+own-none r (SendAccess q key szmic payload buf) own = refl
+own-none r (SendControl q opcode parameters buf) own = refl
+own-none r (SendSegment n buf) own = refl
+own-none r (Acknowledge net src buf) own = refl
+own-none r Stop own = refl
 
 module _ (node : Node) (speeches : List Speech) (spent : Spent) where
   abbrev Seen : Receiver → (ℕ → ℕ) → Type 0
   Seen r filled = Scenery node speeches spent r filled
 
-  -- what is due at an event
-  abbrev pub dueOf : (ℕ → ℕ) → Event → List Handed
-  dueOf filled (Segment k i seq ttl) =
-      if isLastMissing (filled k) i (lastOf node (speechAt speeches k)) then handUp (speechAt speeches k) ∷ [] else
-      []
-  dueOf filled (Foreign pdu) = []
-  dueOf filled (Ask net src) = []
-
-  -- a segment that is new is stored where another is missing
-  abbrev pub StoresAt : (ℕ → ℕ) → Event → Outcome → Type 0
-  StoresAt filled (Segment k i seq ttl) o =
-      hasBit (filled k) i ≡ false → eqb (withBit (filled k) i) (allBits (lastOf node (speechAt speeches k))) ≡ false → isStored (o .answer) ≡ true
-  StoresAt filled (Foreign pdu) o = Unit {0}
-  StoresAt filled (Ask net src) o = Unit {0}
-
-  -- a segment's network key is tried at its place, and application keys where the message is handed up
-  abbrev pub CountsAt : (ℕ → ℕ) → Event → Outcome → Type 0
-  CountsAt filled (Segment k i seq ttl) o =
-      let s = speechAt speeches k in
-      o .tried
-      ≡ record { network = networkPlace node s; application = if isLastMissing (filled k) i (lastOf node s) then applicationPlace node s (s .words) else 0 }
-  CountsAt filled (Foreign pdu) o = Unit {0}
-  CountsAt filled (Ask net src) o = Unit {0}
-
   pub record Next (r : Receiver) (filled : ℕ → ℕ) (e : Event) (c : Call) : Type 0 where
-    pub hands : handed (step r c) ≡ dueOf filled e
-    pub stores : StoresAt filled e (step r c)
-    pub counts : CountsAt filled e (step r c)
+    pub answers : AnsweredAs node speeches filled r e (forwardOf c) (messageOf c) (step r c)
     pub scenery : Seen (step r c .receiver) (λ k. comeWith k (filled k) e)
 
   module _ (made : WellMade node) (few : length speeches ≤ 8) (speak : (k : ℕ) → k < length speeches → Speakable node (speechAt speeches k))
@@ -167,14 +162,14 @@ module _ (node : Node) (speeches : List Speech) (spent : Spent) where
           (λ u. rw u (with-of-set (filled j) i (subst (λ (n : ℕ). hasBit (filled n) i ≡ true) (eqb-true k j u) there)))
           (λ u. rw u refl) in
           record {
-            hands = ap handed o ∙ rw there refl;
-            stores = λ f _. absurd (true≢false (sym there ∙ f));
-            counts = ap (λ (x : Outcome). x .tried) o ∙ rw there refl;
+            answers =
+                had-come node s (filled k) i msg (step r (Hear pdu fwd msg)) there (inr (ap (λ (x : Outcome). x .answer) o)) (ap (λ (x : Outcome). x .message) o)
+                (ap (λ (x : Outcome). x .tried) o);
             scenery = rw (ap (λ (x : Outcome). x .receiver) o) (refilled node speeches spent r filled _ more sc);
           }
 
       -- it is new: it is placed
-      steps : Step node s q (filled k) i t
+      steps : Step node s q (filled k) i msg t
       unfolding headerOf
       steps =
           let c = length-remembered (r .cache) h ∙ sc .good .cache-places in
@@ -182,30 +177,20 @@ module _ (node : Node) (speeches : List Speech) (spent : Spent) where
           placed-steps node made s w spoken-of q (sc .setup-same) (good-cache r (sc .good) _ c) (filled k) i (sent .segment-there) msg dst big seq ttl
           (entry-room node speeches spent r filled sc few (s .src)) (session-room node speeches spent r filled sc few k (sent .one-of)) (sc .stages k (sent .one-of))
 
-      -- what the call hands up and leaves is what placing it does
-      record Does : Type 0 where
-        hands-as : handed (step r (Hear pdu fwd msg)) ≡ handedAs (Heard (t .answer .answer)) (t .buffer)
-        stored-as : isStored (step r (Hear pdu fwd msg) .answer) ≡ isStored (Heard (t .answer .answer))
-        tried-as : step r (Hear pdu fwd msg) .tried ≡ record { network = trials; application = t .answer .trials }
-        left-is : step r (Hear pdu fwd msg) .receiver ≡ t .answer .receiver
-
       leaves : seen (r .cache) h ≡ false → Leaves r pdu fwd msg wide big h trials opens t
       unfolding headerOf
       leaves e =
           let here = for-fixed (r .node) node (sc .setup-same) (s .dst) ∙ w .for-here in
           heard-new r pdu fwd msg wide big h trials opens e here t taken-is
 
-      does : seen (r .cache) h ≡ false → Does
-      does e =
+      -- what the call answers is what placing it does
+      answered-new : seen (r .cache) h ≡ false → SegmentAnswered node s (filled k) i msg (step r (Hear pdu fwd msg))
+      answered-new e =
           let l = leaves e in
-          record {
-            hands-as = ap (λ (a : Answer). handedAs (Heard a) (hearing r pdu fwd msg .message)) (l .answers) ∙ ap (handedAs (Heard (t .answer .answer))) (l .message-is);
-            stored-as = ap (λ (a : Answer). isStored (Heard a)) (l .answers);
-            tried-as =
-                ap (λ (n : ℕ). record { network = n; application = hearing r pdu fwd msg .heard .application }) (l .network-is)
-                ∙ ap (λ (n : ℕ). record { network = trials; application = n }) (l .application-is);
-            left-is = l .left-is;
-          }
+          let tried-as : step r (Hear pdu fwd msg) .tried ≡ record { network = trials; application = t .answer .trials } =
+          ap (λ (n : ℕ). record { network = n; application = hearing r pdu fwd msg .heard .application }) (l .network-is)
+          ∙ ap (λ (n : ℕ). record { network = trials; application = n }) (l .application-is) in
+          same-answered node s (filled k) i msg (leftTaken node s t) (step r (Hear pdu fwd msg)) (ap Heard (l .answers)) (l .message-is) tried-as (steps .answers)
 
       -- each speech's stage behind it
       more-stages :
@@ -241,13 +226,11 @@ module _ (node : Node) (speeches : List Speech) (spent : Spent) where
 
       placed-next : seen (r .cache) h ≡ false → Next r filled (Segment k i seq ttl) (Hear pdu fwd msg)
       placed-next e =
-          let l = does e in
+          let l = leaves e in
           let hears = good-hear r pdu fwd msg (sc .good) in
           let stays = fixed-heard r fwd msg pdu in
           record {
-            hands = l .hands-as ∙ steps .due;
-            stores = λ f g. l .stored-as ∙ rw (steps .stores f g) refl;
-            counts = l .tried-as ∙ ap (λ (n : ℕ). record { network = trials; application = n }) (steps .counts);
+            answers = answered-new e;
             scenery =
                 record {
                   good = hears;
@@ -268,12 +251,76 @@ module _ (node : Node) (speeches : List Speech) (spent : Spent) where
     event-next (Segment k i seq ttl) c = segment-next k i seq ttl c
     event-next (Foreign pdu) c =
         let none : noKeyOpens (opening (r .node .materials) (r .node .networks) (r .node .iv) pdu .answer) ≡ true = rw (same-scene sc) c in
-        let u = unopened-leaves r pdu fwd msg none in
-        record { hands = foreign-none r pdu fwd msg none; stores = tt {0}; counts = tt {0}; scenery = rw (u .receiver-stays) sc }
+        let x = heard-closed r fwd msg pdu wide big (unopened (opening (r .node .materials) (r .node .networks) (r .node .iv) pdu .answer) none) in
+        record {
+          answers = subst (λ (z : Node). ForeignAnswered z r pdu fwd msg (step r (Hear pdu fwd msg))) (same-scene sc) (x .0, x .1, ap leftHeard (x .2));
+          scenery = rw (unopened-leaves r pdu fwd msg none .receiver-stays) sc;
+        }
     event-next (Ask net src) c =
         record {
-          hands = refl;
-          stores = tt {0};
-          counts = tt {0};
+          answers = refl;
           scenery = kept-scene node speeches spent r _ filled (kept-acknowledging r net src fwd) (good-step r (Acknowledge net src fwd) (sc .good)) sc;
         }
+    event-next (Own c) own =
+        record {
+          answers = own-none r c own;
+          scenery = kept-scene node speeches spent r _ filled (kept-own r c own) (good-step r c (sc .good)) sc;
+        }
+
+-- ---- what is read off an answer
+module _ (node : Node) (speeches : List Speech) (spent : Spent) where
+  -- what is due at an event
+  abbrev pub dueOf : (ℕ → ℕ) → Event → List Handed
+  dueOf filled (Segment k i seq ttl) =
+      if isLastMissing (filled k) i (lastOf node (speechAt speeches k)) then handUp (speechAt speeches k) ∷ [] else
+      []
+  dueOf filled (Foreign pdu) = []
+  dueOf filled (Ask net src) = []
+  dueOf filled (Own c) = []
+
+  -- a segment that is new is stored where another is missing
+  abbrev pub StoresAt : (ℕ → ℕ) → Event → Outcome → Type 0
+  StoresAt filled (Segment k i seq ttl) o =
+      hasBit (filled k) i ≡ false → eqb (withBit (filled k) i) (allBits (lastOf node (speechAt speeches k))) ≡ false → isStored (o .answer) ≡ true
+  StoresAt filled (Foreign pdu) o = Unit {0}
+  StoresAt filled (Ask net src) o = Unit {0}
+  StoresAt filled (Own c) o = Unit {0}
+
+  -- a segment's network key is tried at its place, and application keys where the message is handed up
+  abbrev pub CountsAt : (ℕ → ℕ) → Event → Outcome → Type 0
+  CountsAt filled (Segment k i seq ttl) o =
+      let s = speechAt speeches k in
+      o .tried
+      ≡ record { network = networkPlace node s; application = if isLastMissing (filled k) i (lastOf node s) then applicationPlace node s (s .words) else 0 }
+  CountsAt filled (Foreign pdu) o = Unit {0}
+  CountsAt filled (Ask net src) o = Unit {0}
+  CountsAt filled (Own c) o = Unit {0}
+
+  module _ (r : Receiver) (filled : ℕ → ℕ) (c : Call) where
+    hands-as : (e : Event) → Next node speeches spent r filled e c → handed (step r c) ≡ dueOf filled e
+    hands-as (Segment k i seq ttl) n = answered-hands node (speechAt speeches k) (filled k) i (messageOf c) (step r c) (n .answers)
+    hands-as (Foreign pdu) n = ap handed (n .answers .2)
+    hands-as (Ask net src) n = n .answers
+    hands-as (Own c) n = n .answers
+
+    stores-as : (e : Event) → Next node speeches spent r filled e c → StoresAt filled e (step r c)
+    stores-as (Segment k i seq ttl) n = answered-stores node (speechAt speeches k) (filled k) i (messageOf c) (step r c) (n .answers)
+    stores-as (Foreign pdu) n = tt {0}
+    stores-as (Ask net src) n = tt {0}
+    stores-as (Own c) n = tt {0}
+
+    counts-as : (e : Event) → Next node speeches spent r filled e c → CountsAt filled e (step r c)
+    counts-as (Segment k i seq ttl) n = n .answers .tried-is
+    counts-as (Foreign pdu) n = tt {0}
+    counts-as (Ask net src) n = tt {0}
+    counts-as (Own c) n = tt {0}
+
+module _ {node : Node} {speeches : List Speech} {spent : Spent} {r : Receiver} {filled : ℕ → ℕ} {e : Event} {c : Call} (n : Next node speeches spent r filled e c) where
+  pub hands : handed (step r c) ≡ dueOf node speeches spent filled e
+  hands = hands-as node speeches spent r filled c e n
+
+  pub stores : StoresAt node speeches spent filled e (step r c)
+  stores = stores-as node speeches spent r filled c e n
+
+  pub counts : CountsAt node speeches spent filled e (step r c)
+  counts = counts-as node speeches spent r filled c e n

@@ -15,7 +15,7 @@ use Rattle.common.specs.Bits.{hasBit, withBit}
 use Rattle.common.specs.Search.{picked}
 use Rattle.common.proofs.BitLaws.{has-with-own, has-with-other}
 use Rattle.common.proofs.Tests.{by-test}
-use Rattle.demands.specs.Interleaved.{Event, Segment, Foreign, Ask, Arrival, comeWith, comeFrom, isSegment, among, Each, ofSpeech, arrivalsOf, inTurn}
+use Rattle.demands.specs.Interleaved.{Event, Segment, Foreign, Ask, Own, Arrival, comeWith, comeFrom, isSegment, among, Each, ofSpeech, arrivalsOf, inTurn}
 
 -- ---- what holds of each of a list
 module _ {A : Type 0} (P : A → Type 0) where
@@ -47,6 +47,7 @@ come-with k i bits (Segment j n seq ttl) h =
     (λ t. rw (t, or-false (hasBit bits i)) refl)
 come-with k i bits (Foreign pdu) h = sym (or-false (hasBit bits i))
 come-with k i bits (Ask net src) h = sym (or-false (hasBit bits i))
+come-with k i bits (Own c) h = sym (or-false (hasBit bits i))
 
 pub come-from : (k i bits : ℕ) (l : List Arrival) → i < 32 → hasBit (comeFrom k bits l) i ≡ hasBit bits i || among k i l
 come-from k i bits [] h = sym (or-false (hasBit bits i))
@@ -65,11 +66,13 @@ module _ (k : ℕ) where
   come-other j bits (Segment m i seq ttl) n t = rw (ne-eqb m k (λ e. n (sym (eqb-true m j t) ∙ e))) refl
   come-other j bits (Foreign pdu) n t = refl
   come-other j bits (Ask net src) n t = refl
+  come-other j bits (Own c) n t = refl
 
   come-none : (bits : ℕ) (e : Event) → ofSpeech k e ≡ false → comeWith k bits e ≡ bits
   come-none bits (Segment m i seq ttl) t = rw t refl
   come-none bits (Foreign pdu) t = refl
   come-none bits (Ask net src) t = refl
+  come-none bits (Own c) t = refl
 
   come-of-other : (j bits : ℕ) (l : List Arrival) → (j ≡ k → ⊥) → comeFrom k bits (arrivalsOf j l) ≡ bits
   unfolding picked

@@ -19,7 +19,7 @@ use Rattle.common.specs.Search.{picked}
 use Rattle.common.proofs.BitLaws.{has-all, with-of-set}
 use Rattle.common.proofs.Tests.{by-test}
 use Rattle.node.specs.declared.addresses.Node.{Node}
-use Rattle.demands.specs.Interleaved.{Event, Segment, Foreign, Ask, Arrival, speechAt, comeWith, comeFrom, isLastMissing, Spent, Comes, Arrives, Each, sourceOf}
+use Rattle.demands.specs.Interleaved.{Event, Segment, Foreign, Ask, Own, Arrival, speechAt, comeWith, comeFrom, isLastMissing, Spent, Comes, Arrives, Each, sourceOf}
 use Rattle.demands.specs.Speech.{Words, Access, Control, Speech, lastOf, Speakable, Handed, handUpAs, handUp}
 use Rattle.demands.proofs.ArrivalLaws.{dueOf}
 use Rattle.demands.proofs.SceneLaws.{speakerOf}
@@ -37,6 +37,7 @@ module _ (node : Node) (speeches : List Speech) (k : ℕ) where
   dueWith bits (Segment j i seq ttl) = if eqb j k then (if isLastMissing bits i (lastOf node s) then handUp s ∷ [] else []) else []
   dueWith bits (Foreign pdu) = []
   dueWith bits (Ask net src) = []
+  dueWith bits (Own d) = []
 
   unfoldable pub dueBehind : ℕ → List Arrival → List Handed
   dueBehind bits [] = []
@@ -62,6 +63,7 @@ module _ (node : Node) (speeches : List Speech) (k : ℕ) where
       (λ t. rw t (inr (n, refl)))
   turns-by bits n (Foreign pdu) = inr (n, refl)
   turns-by bits n (Ask net src) = inr (n, refl)
+  turns-by bits n (Own d) = inr (n, refl)
 
   module _ (spent : Spent) (hk : k < length speeches) (speak : (j : ℕ) → j < length speeches → Speakable node (speechAt speeches j)) where
     -- complete, and so for good
@@ -77,6 +79,7 @@ module _ (node : Node) (speeches : List Speech) (k : ℕ) where
         (λ t. rw t (refl, refl))
     full-stays (Foreign pdu) c = (refl, refl)
     full-stays (Ask net src) c = (refl, refl)
+    full-stays (Own d) c = (refl, refl)
 
     none-more : (l : List Arrival) → Each (Arrives node speeches spent) l → dueBehind full l ≡ []
     unfolding dueBehind
@@ -123,3 +126,4 @@ module _ (node : Node) (speeches : List Speech) (k : ℕ) where
         by-test (isLastMissing (filled j) i (lastOf node o)) (λ u. rw (u, t) (picked-one o ∙ rw n refl)) (λ u. rw (u, t) refl))
     picked-due filled (Foreign pdu) c = refl
     picked-due filled (Ask net src) c = refl
+    picked-due filled (Own d) c = refl

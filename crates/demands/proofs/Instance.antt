@@ -6,8 +6,8 @@
 use mathlib.Core.Bool.{true, false, _||_}
 use mathlib.Core.List.{List, [], _∷_}
 use mathlib.Core.Logic.{inl, inr}
-use mathlib.Core.Path.{_≡_, refl, sym}
-use Prim.Native.Nat.{ℕ, zero, suc, _+_, _-_, _≤_, _<_}
+use mathlib.Core.Path.{_≡_, refl, sym, _∙_, subst}
+use Prim.Native.Nat.{ℕ, zero, suc, _+_, _≤_, _<_}
 use native.Mathlib.Omega.{arith}
 use borrow.Author.Tests.{eq-eqb}
 use lib.Dec.{eqb}
@@ -17,7 +17,6 @@ use Rattle.common.specs.Choice.{if_then_else_}
 use Rattle.common.specs.Search.{first}
 use Rattle.network.specs.Address.{kindOf, isUnicast}
 use Rattle.network.specs.Opening.{opening}
-use Rattle.network.specs.Pdu.{pduOctets}
 use Rattle.transport.specs.declared.securing.MessageKey.the-variants.{Application}
 use Rattle.transport.specs.LeadsBack.{SegmentOf}
 use Rattle.transport.specs.Securing.{applicationKeyAt}
@@ -27,17 +26,22 @@ use Rattle.node.specs.Setup.{boundWithin, keysValid, nextWithin, elementsValid,
 use Rattle.node.specs.declared.addresses.Node.{Node}
 use Rattle.receiver.specs.declared.fresh.Answer.the-variants.{Ready}
 use Rattle.receiver.specs.Fresh.{settingUp}
-use Rattle.demands.specs.Instance.{shed, humidity, temperature, boxes, arrival, traffic, SceneMet, bench, toShed, report, SendingMet}
+use Rattle.demands.specs.Call.{step}
 use Rattle.receiver.proofs.Good.{good-fresh}
 use Rattle.sending.specs.Access.{isWhole, sizeAllowed, accessAllowed}
 use Rattle.sending.specs.Request.{requestAllowed}
 use Rattle.sending.specs.Transmission.{nextSeq}
+use Rattle.demands.specs.GoesOut.{outcomes, accepted, pduCount, restOf}
+use Rattle.demands.specs.Instance.{shed, humidity, temperature, boxes, arrival, order, traffic, SceneMet, bench, toShed, report, lentPdu, hearing, overheard, SendingMet}
 use Rattle.demands.specs.Interleaved as scene
-use Rattle.demands.specs.Interleaved.{Event, Segment, Foreign, Ask, start, Each, Spent, speechAt, Sent, Comes, Arrives, AllCome}
-use Rattle.demands.specs.ReadBack.{pdus, saidBy, Shared, OwnKeyFirst, Between, accepted}
+use Rattle.demands.specs.Interleaved.{Event, Segment, Foreign, Ask, Own, start, Each, Spent, speechAt, Sent, Comes, Arrives, AllCome}
+use Rattle.demands.specs.ReadBack.{sayCall, goesWhole, saidBy, Piece, madeOf, segNAs, Incoming, Made, Relayed, Unopened, brings, Shared, Between, OneOf, ComesAs, Hears}
 use Rattle.demands.specs.Refusal.{noKeyOpens}
-use Rattle.demands.specs.Speech.{Access, keyOf, envelopeOf, octetsOf, lastOf, headerOf, Speakable}
-use Rattle.demands.proofs.GoesOut.{goes-out}
+use Rattle.demands.specs.Speech.{Access, Speech, keyOf, envelopeOf, octetsOf, lastOf, headerOf, Speakable}
+use Rattle.demands.proofs.Begun.{last-most}
+use Rattle.demands.proofs.GoesOut.{shared-itself, goes-out, last-answered}
+use Rattle.demands.proofs.InOrder.{row-full}
+use Rattle.demands.proofs.Pieces.{Row}
 use Rattle.demands.proofs.SpeechCut.{cut-is}
 
 pub ready : settingUp shed .answer ≡ Ready
@@ -199,12 +203,15 @@ scene-met = (
             (
               arrives (Ask 0 0x0002) (tt {0}),
               (
-                arrives (Segment 1 1 0x000201 7) (sent-as 1 1 0x000201 7 (omega arith) (omega arith) refl (within-time 0x200 0x201 (omega arith) (omega arith)) (omega arith) (omega arith)),
+                arrives (Own order) refl,
                 (
-                  arrives (Segment 0 0 0x000102 5) (sent-as 0 0 0x000102 5 (omega arith) (omega arith) refl (within-time 0x100 0x102 (omega arith) (omega arith)) (omega arith) (omega arith)),
+                  arrives (Segment 1 1 0x000201 7) (sent-as 1 1 0x000201 7 (omega arith) (omega arith) refl (within-time 0x200 0x201 (omega arith) (omega arith)) (omega arith) (omega arith)),
                   (
-                    arrives (Segment 0 0 0x000103 5) (sent-as 0 0 0x000103 5 (omega arith) (omega arith) refl (within-time 0x100 0x103 (omega arith) (omega arith)) (omega arith) (omega arith)),
-                    tt {0},
+                    arrives (Segment 0 0 0x000102 5) (sent-as 0 0 0x000102 5 (omega arith) (omega arith) refl (within-time 0x100 0x102 (omega arith) (omega arith)) (omega arith) (omega arith)),
+                    (
+                      arrives (Segment 0 0 0x000103 5) (sent-as 0 0 0x000103 5 (omega arith) (omega arith) refl (within-time 0x100 0x103 (omega arith) (omega arith)) (omega arith) (omega arith)),
+                      tt {0},
+                    ),
                   ),
                 ),
               ),
@@ -243,18 +250,74 @@ request-accepted : accepted (start bench) toShed report ≡ true
 unfolding settingUp making valid keysValid boundWithin elementsValid nextWithin groupsValid indexValid first kindOf nodeOf boundKeyAt accessAllowed requestAllowed sizeAllowed isWhole
 request-accepted = refl
 
-numbers-left : nextSeq (start bench) 0 + 31 ≤ 0xFFFFFF
-unfolding settingUp making valid keysValid boundWithin elementsValid nextWithin groupsValid indexValid first kindOf nextOf nextAt
-numbers-left = omega arith
+-- the report goes in segments
+in-segments : goesWhole report ≡ false
+unfolding isWhole
+in-segments = refl
 
-each-of-all : {A : Type 0} (P : A → Type 0) → ((x : A) → P x) → (l : List A) → Each P l
-each-of-all P f [] = tt {0}
-each-of-all P f (x ∷ l) = (f x, each-of-all P f l)
+none-sent : nextSeq (start bench) 0 ≡ 0
+unfolding settingUp making valid keysValid boundWithin elementsValid nextWithin groupsValid indexValid first kindOf nextOf nextAt
+none-sent = refl
+
+numbers-left : nextSeq (start bench) 0 + pduCount (start bench .node) (saidBy (start bench) toShed report) ≤ 0x1000000
+numbers-left =
+    let good = between .good in
+    let own = start bench .node in
+    let few = last-most (start bench) good own (shared-itself own) toShed report request-accepted in-segments (good .node-made) in
+    let none = none-sent in
+    rw in-segments (omega arith)
+
+sent-in-full : Each (λ o. o .made ≡ true) (outcomes (start bench) toShed report lentPdu)
+sent-in-full = goes-out (start bench) toShed report lentPdu (between .good) request-accepted (omega arith) numbers-left
+
+-- 20 octets and a TransMIC of 8 make three segments
+report-last : lastOf (start bench .node) (saidBy (start bench) toShed report) ≡ 2
+unfolding lastOf
+report-last =
+    let s = saidBy (start bench) toShed report in
+    let own = start bench .node in
+    rw (cut-is own s report refl, secured-length (keyOf own (Application 0)) (envelopeOf own s (Application 0) true) (replicate 20 0x5a)) refl
+
+abbrev told : List Piece
+told = madeOf (start bench) toShed report lentPdu (restOf (start bench) toShed report lentPdu)
+
+report-segN : segNAs (step (start bench) (sayCall toShed report lentPdu) .answer) ≡ 2
+report-segN = last-answered (start bench) toShed report lentPdu (between .good) (sent-in-full .0) in-segments ∙ report-last
+
+row : Row told 0 3
+row = subst (λ (n : ℕ). Row told 0 (suc n)) report-segN (row-full (start bench) shed toShed report lentPdu between sent-in-full)
+
+-- each is one of the three, and the shed has no key before its first
+module _ (ps : List Piece) (three : Row ps 0 3) where
+  abbrev said : Speech
+  said = saidBy (start bench) toShed report
+
+  one-of : (i : ℕ) (pdu : List ℕ) → i < 3 → OneOf node said ps i pdu
+  one-of i pdu h = let l = three .long in record { place-there = omega arith; own-key-first = λ j b. absurd (omega arith) }
+
+  hears : (w : Incoming) → ComesAs node said ps w → Hears node said ps (hearing w)
+  hears w c = record { comes = c; room-forward = omega arith; room-message = omega arith }
+
+  all-heard : Each (Hears node said ps) overheard
+  all-heard = (
+    hears (Made 2) (one-of 2 _ (omega arith)),
+    (
+      hears (Unopened (0x68 ∷ [])) short-foreign,
+      (
+        hears (Relayed 0 6) (one-of 0 _ (omega arith), omega arith),
+        (hears (Relayed 2 5) (one-of 2 _ (omega arith), omega arith), (hears (Made 1) (one-of 1 _ (omega arith)), tt {0})),
+      ),
+    ),
+  )
+
+  each-comes : (i : ℕ) → i ≤ 2 → brings ps i overheard ≡ true
+  each-comes zero h = rw (three .place-is 2 (omega arith), three .place-is 0 (omega arith)) refl
+  each-comes (suc zero) h = rw (three .place-is 2 (omega arith), three .place-is 0 (omega arith), three .place-is 1 (omega arith)) refl
+  each-comes (suc (suc zero)) h = rw (three .place-is 2 (omega arith)) refl
+  each-comes (suc (suc (suc i))) h = absurd (omega arith)
 
 pub sending-met : SendingMet
-sending-met =
-    record {
-      between = between;
-      sent = goes-out (start bench) shed toShed report (replicate pduOctets 0) between request-accepted (omega arith) numbers-left;
-      own-key-first = each-of-all (OwnKeyFirst node (saidBy (start bench) toShed report)) (λ pdu j h. absurd (omega arith)) (pdus (start bench) toShed report (replicate pduOctets 0));
-    }
+sending-met = (
+  record { between = between; sent = sent-in-full .0; hears = all-heard told row },
+  λ i h. let e = report-segN in each-comes told row i (omega arith),
+)

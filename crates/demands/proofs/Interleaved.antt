@@ -2,51 +2,46 @@
 -- segments come so far make (`Scenery`): silent, gathering in a session, or done. A segment moves its own speech on and
 -- leaves the others, since a slot or an entry of one source is never another's; there is always room, since eight
 -- speakers need eight slots at most and 32 entries are more than eight. A PDU from the cache brings a segment that had
--- come; one that no key opens, and a request to acknowledge, move nothing. Now read off the stage: a segment hands up
--- the message exactly where it was the last that was missing, and an acknowledgement names the places filled. Behind
--- all of them every speech is done, so no session is open and each replay entry is the speech's own, in whatever order
--- they came; the order in turn is one such. A speech that is done stays so: one message each. Assumes nothing.
+-- come; one that no key opens, a request to acknowledge, and what the receiver sends, move nothing. Now read off the
+-- stage: a segment hands up the message exactly where it was the last that was missing, and an acknowledgement names the
+-- places filled. Behind all of them every speech is done, so no session is open and each replay entry is the speech's
+-- own, in whatever order they came, and no other source has one; the order in turn is one such. A speech that is done
+-- stays so: one message each. Assumes nothing.
 --   come-names     the bits name the segments that came
 --   handed-up      1: where a message is handed up
---   acknowledges   2: what an acknowledgement names
+--   answered       every answer
+--   acknowledges   2: what an acknowledgement names, and when there is none
 --   ends-alike     3: what is left at the end
-use mathlib.Core.Bool.{true, false, false≢true}
+use mathlib.Core.Bool.{true, false≢true}
 use mathlib.Core.List.{List, [], _∷_, _++_}
-use mathlib.Core.Path.{_≡_, refl, sym, ap, _∙_, subst}
+use mathlib.Core.Logic.{_⊎_, ⊎-elim}
+use mathlib.Core.Path.{_≡_, refl, sym, ap, _∙_}
 use Prim.Native.Nat.{ℕ, _≤_, _<_}
 use native.Mathlib.Omega.{arith}
-use borrow.Author.Tests.{ne-eqb}
 use lib.ListN.{length, length-replicate, getD-replicate}
 use lib.Seq.{ext-getD}
 use Rattle.common.specs.Bits.{hasBit, allBits}
-use Rattle.common.proofs.BitLaws.{has-none, has-all, all-of-bits}
+use Rattle.common.proofs.BitLaws.{has-none, all-of-bits}
 use Rattle.common.proofs.Tests.{by-test}
-use Rattle.network.proofs.AddressLaws.{unicast-some}
-use Rattle.memory.specs.declared.replay.Entry.{Entry}
-use Rattle.memory.specs.declared.session.Session.{Session}
-use Rattle.memory.specs.Replay.{lookUp}
+use Rattle.memory.specs.Replay.{noEntry, lookUp}
 use Rattle.memory.specs.Session.{sessionSlots, noSession, noSessions, sessionAt, sessionPlace, isFree}
+use Rattle.memory.proofs.ReplayMap.{listed-or-none}
 use Rattle.memory.proofs.SessionSlots.{past, place-upto}
 use Rattle.node.specs.declared.addresses.Node.{Node}
 use Rattle.node.specs.declared.setup.Setup.{Setup}
 use Rattle.node.specs.Made.{WellMade}
-use Rattle.node.proofs.Addressed.{local-of}
 use Rattle.receiver.specs.declared.state.Receiver.{Receiver}
-use Rattle.receiver.specs.Good.{Gathering}
 use Rattle.receiver.proofs.Good.{good-fresh}
-use Rattle.sending.specs.Acknowledge.{chosen}
-use Rattle.sending.proofs.Laws.Calls.{acknowledgement-sent, chosen-session, chosen-last}
-use Rattle.sending.proofs.Laws.Stamped.{element-low}
 use Rattle.demands.specs.Call.{step, run, after}
-use Rattle.demands.specs.Interleaved.{Event, Segment, Foreign, Ask, Arrival, start, nodeOf, speechAt, callOf, calls, comeWith, comeFrom, come, ComeNames, Spent, Arrives, Each, Scene, AllCome, dueAs, behind, HandedUp, Acknowledges, messages, turns, EndsAlike}
+use Rattle.demands.specs.Interleaved.{Event, Segment, Foreign, Ask, Own, Arrival, start, nodeOf, speechAt, callAs, callOf, calls, comeWith, comeFrom, come, ComeNames, Spent, Arrives, Each, Scene, AllCome, dueAs, behind, HandedUp, AnsweredAs, Answered, Acknowledges, messages, turns, EndsAlike}
 use Rattle.demands.specs.Speech.{Speech, lastOf, Speakable, Handed, handUp}
-use Rattle.demands.proofs.ArrivalLaws.{dueOf, Next, event-next}
+use Rattle.demands.proofs.AskLaws.{asked-names, asked-sent, asked-refuses}
+use Rattle.demands.proofs.ArrivalLaws.{Next, event-next, dueOf, hands}
 use Rattle.demands.proofs.ComeLaws.{each-first, each-at, each-turn, come-from, come-in-turn}
 use Rattle.demands.proofs.DueLaws.{dueWith, dueBehind, picked-due, once-due}
-use Rattle.demands.proofs.SceneLaws.{speakerOf, speakerKey, Scenery, same-scene, begins}
+use Rattle.demands.proofs.SceneLaws.{speakerOf, speakerKey, Scenery, begins, filled-within}
 use Rattle.demands.proofs.SpeechCut.{last-low}
-use Rattle.demands.proofs.SpeechSession.{sessionOf}
-use Rattle.demands.proofs.StageLaws.{entryOf, Stage, Silent, Gathers, Done}
+use Rattle.demands.proofs.StageLaws.{none-all, entryOf, Stage, Silent, Gathers, Done}
 
 -- ---- from arrival to arrival
 module _ (node : Node) (made : WellMade node) (speeches : List Speech) (few : length speeches ≤ 8)
@@ -77,23 +72,17 @@ module _ (node : Node) (made : WellMade node) (speeches : List Speech) (few : le
     messages-are r filled sc [] e = refl
     messages-are r filled sc (a ∷ l) e =
         let n = arrival-next r filled sc a (e .0) in
-        rw (n .hands, picked-due node speeches k spent hk differ filled (a .event) (e .0 .comes))
+        rw (hands n, picked-due node speeches k spent hk differ filled (a .event) (e .0 .comes))
         (ap (λ (x : List Handed). dueWith node speeches k (filled k) (a .event) ++ x)
         (messages-are (step r (callOf node speeches a) .receiver) (λ j. comeWith j (filled j) (a .event)) (n .scenery) l (e .1)))
 
   -- ---- behind all of them
   module _ (r : Receiver) (filled : ℕ → ℕ) (sc : Seen r filled) (k : ℕ) (hk : k < length speeches)
       (all : (i : ℕ) → i ≤ lastOf node (speechAt speeches k) → hasBit (filled k) i ≡ true) where
-    -- a session that gathers misses a place
-    gathers-not : (len : ℕ) (bytes : List ℕ) → sessionPlace (r .sessions) (speakerKey speeches k) < sessionSlots
-        → sessionAt (r .sessions) (sessionPlace (r .sessions) (speakerKey speeches k)) ≡ sessionOf node (speechAt speeches k) (filled k) len bytes
-        → filled k ≡ allBits (lastOf node (speechAt speeches k))
-    gathers-not len bytes own held =
-        let slot = sessionPlace (r .sessions) (speakerKey speeches k) in
-        let spoken = ne-eqb (speakerOf speeches k) 0 (unicast-some (speakerOf speeches k) (speak k hk .from-unicast)) in
-        let z : isFree (sessionAt (r .sessions) slot) ≡ false = ap isFree held ∙ spoken in
-        let g : Gathering (sessionOf node (speechAt speeches k) (filled k) len bytes) = subst Gathering held (sc .good .sessions-kept .each slot own .gathers z) in
-        all-of-bits (lastOf node (speechAt speeches k)) (filled k) (last-low node (speechAt speeches k) (speak k hk)) (g .filled-within) all
+    all-filled : filled k ≡ allBits (lastOf node (speechAt speeches k))
+    all-filled =
+        all-of-bits (lastOf node (speechAt speeches k)) (filled k) (last-low node (speechAt speeches k) (speak k hk))
+        (filled-within node speeches spent r filled sc k (speak k hk) hk) all
 
     record Over : Type 0 where
       filled-all : filled k ≡ allBits (lastOf node (speechAt speeches k))
@@ -101,8 +90,9 @@ module _ (node : Node) (made : WellMade node) (speeches : List Speech) (few : le
       entry-is : lookUp (r .replay) (speakerOf speeches k) ≡ entryOf node (speechAt speeches k)
 
     over-by : Stage node (speechAt speeches k) (r .replay) (r .sessions) (filled k) → Over
-    over-by (Silent b p e) = absurd (false≢true (sym (has-none 0) ∙ ap (λ (x : ℕ). hasBit x 0) (sym b) ∙ all 0 (omega arith)))
-    over-by (Gathers len bytes z m p h q e) = absurd (m (gathers-not len bytes p h))
+    over-by (Silent b p u n) = absurd (false≢true (sym (has-none 0) ∙ ap (λ (x : ℕ). hasBit x 0) (sym b) ∙ all 0 (omega arith)))
+    -- a session that gathers misses a place
+    over-by (Gathers len bytes z m p h q e) = absurd (m all-filled)
     over-by (Done b p e) = record { filled-all = b; no-slot = p; entry-is = e }
 
     over : Over
@@ -132,13 +122,6 @@ module _ (node : Node) (made : WellMade node) (speeches : List Speech) (few : le
 pub come-names : ComeNames
 come-names k i l h = come-from k i 0 l h ∙ rw (has-none i) refl
 
--- ---- what is acknowledged
-module _ (node : Node) (s : Speech) (replay : List Entry) (sessions : List Session) (bits : ℕ) (spoken : s .src ≡ 0 → ⊥) (some : bits ≡ 0 → ⊥) where
-  chosen-is : Stage node s replay sessions bits → chosen replay sessions (s .src) ≡ record { auth = s .auth; dst = s .dst; bits = bits }
-  chosen-is (Silent b p e) = absurd (some b)
-  chosen-is (Gathers len bytes z m p h k e) = chosen-session replay sessions (s .src) spoken (sessionOf node s bits len bytes) p h
-  chosen-is (Done b p e) = chosen-last replay sessions (s .src) spoken (entryOf node s) p e ∙ rw b refl
-
 -- ---- the three conclusions
 module _ (setup : Setup) (speeches : List Speech) where
   abbrev node : Node
@@ -153,19 +136,28 @@ module _ (setup : Setup) (speeches : List Speech) where
         seen-behind node well speeches (c .eight-at-most) (c .speakable) (c .sources-differ) (c .spent) (start setup) (λ _. 0)
         (begins setup (c .ready) speeches (c .spent) (c .speakable)) l (c .arrives)
 
+    -- a source is a speaker, or it has no entry
+    listed-in : (src : ℕ) → (src ≡ 0 → ⊥) → ((m : ℕ) × (m < length speeches) × (src ≡ speakerOf speeches m)) ⊎ (lookUp (behind setup speeches l .replay) src ≡ noEntry)
+    listed-in = listed-or-none (length speeches) (speakerOf speeches) (behind setup speeches l .replay) (seen .entries-listed)
+
     module _ (all : AllCome setup speeches l) (k : ℕ) (hk : k < length speeches) where
       ended : Over node well speeches (c .eight-at-most) (c .speakable) (c .sources-differ) (c .spent) (behind setup speeches l) (λ k. come k l) seen k hk (λ i. all k i hk)
       ended = over node well speeches (c .eight-at-most) (c .speakable) (c .sources-differ) (c .spent) (behind setup speeches l) (λ k. come k l) seen k hk (λ i. all k i hk)
-
-      nothing-yet : 0 ≡ allBits (lastOf node (speechAt speeches k)) → ⊥
-      nothing-yet e =
-          false≢true (sym (has-none 0) ∙ ap (λ (x : ℕ). hasBit x 0) e ∙ has-all (lastOf node (speechAt speeches k)) 0 (omega arith) (omega arith))
 
       one-message : messages (speakerOf speeches k) (run (start setup) (calls node speeches l)) ≡ handUp (speechAt speeches k) ∷ []
       one-message =
           let m = messages-are node well speeches (c .eight-at-most) (c .speakable) (c .sources-differ) (c .spent) k hk (start setup) (λ _. 0)
           (begins setup (c .ready) speeches (c .spent) (c .speakable)) l (c .arrives) in
-          m ∙ once-due node speeches k (c .spent) hk (c .speakable) 0 nothing-yet l (c .arrives) (ended .filled-all)
+          m ∙ once-due node speeches k (c .spent) hk (c .speakable) 0 (none-all (lastOf node (speechAt speeches k))) l (c .arrives) (ended .filled-all)
+
+-- the buffers of an event are its call's
+answers-as :
+    (node : Node) (speeches : List Speech) (spent : Spent) (r : Receiver) (filled : ℕ → ℕ) (e : Event) (fwd msg : List ℕ)
+    → Next node speeches spent r filled e (callAs node speeches e fwd msg) → AnsweredAs node speeches filled r e fwd msg (step r (callAs node speeches e fwd msg))
+answers-as node speeches spent r filled (Segment k i seq ttl) fwd msg n = n .answers
+answers-as node speeches spent r filled (Foreign pdu) fwd msg n = n .answers
+answers-as node speeches spent r filled (Ask net src) fwd msg n = n .answers
+answers-as node speeches spent r filled (Own c) fwd msg n = n .answers
 
 -- what is due behind a list of arrivals
 arrival-hands :
@@ -174,44 +166,65 @@ arrival-hands :
 arrival-hands node speeches spent before (Segment k i seq ttl) h = h
 arrival-hands node speeches spent before (Foreign pdu) h = h
 arrival-hands node speeches spent before (Ask net src) h = h
+arrival-hands node speeches spent before (Own c) h = h
 
-pub handed-up : HandedUp
-handed-up setup speeches before a later c =
-    let node = nodeOf setup in
-    let P = Arrives node speeches (c .spent) in
-    let made = good-fresh setup (c .ready) .node-made in
-    let sc = seen-behind node made speeches (c .eight-at-most) (c .speakable) (c .sources-differ) (c .spent) (start setup) (λ _. 0)
-    (begins setup (c .ready) speeches (c .spent) (c .speakable)) before (each-first P before (a ∷ later) (c .arrives)) in
-    arrival-hands (nodeOf setup) speeches (c .spent) before (a .event)
-    (arrival-next node made speeches (c .eight-at-most) (c .speakable) (c .sources-differ) (c .spent) (behind setup speeches before) (λ k. come k before) sc a
-    (each-at P before a later (c .arrives)) .hands)
-
-pub acknowledges : Acknowledges
-acknowledges setup speeches before k net buf c hk some unicast key wide =
-    let node = nodeOf setup in
-    let s = speechAt speeches k in
-    let made = well setup speeches before c in
-    let sc = seen setup speeches before c in
-    let w = c .speakable k hk in
-    let e = chosen-is node s _ _ (come k before) (unicast-some (s .src) (w .from-unicast)) some (sc .stages k hk) in
-    let n = element-low node made (s .dst) (local-of node made (s .dst) unicast (w .for-here)) in
-    let most = made .networks-most in
-    let same = same-scene sc in
-    acknowledgement-sent (behind setup speeches before) buf wide net (s .src) (record { auth = s .auth; dst = s .dst; bits = come k before }) e
-    (rw same (omega arith)) unicast (rw same n)
-    ∙ rw same refl
-
--- the scene in turn is a scene, and all come in it
-in-turn : (setup : Setup) (speeches : List Speech) (l : List Arrival) → Scene setup speeches l → Scene setup speeches (turns speeches l)
-in-turn setup speeches l c =
+-- the same speakers, and other arrivals
+abbrev with-arrivals :
+    {setup : Setup} {speeches : List Speech} {l : List Arrival} (c : Scene setup speeches l) (m : List Arrival) → Each (Arrives (nodeOf setup) speeches (c .spent)) m
+    → Scene setup speeches m
+with-arrivals c m e =
     record {
       ready = c .ready;
       eight-at-most = c .eight-at-most;
       speakable = c .speakable;
       sources-differ = c .sources-differ;
       spent = c .spent;
-      arrives = each-turn (Arrives (nodeOf setup) speeches (c .spent)) (length speeches) l (c .arrives);
+      arrives = e;
     }
+
+module _ (setup : Setup) (speeches : List Speech) (before : List Arrival) (a : Arrival) (later : List Arrival) (c : Scene setup speeches (before ++ a ∷ later)) where
+  -- the scene so far
+  abbrev before-scene : Scene setup speeches before
+  before-scene = with-arrivals c before (each-first (Arrives (nodeOf setup) speeches (c .spent)) before (a ∷ later) (c .arrives))
+
+  pub seen-before : Scenery (nodeOf setup) speeches (c .spent) (behind setup speeches before) (λ k. come k before)
+  seen-before = seen setup speeches before before-scene
+
+  here : Arrives (nodeOf setup) speeches (c .spent) a
+  here = each-at (Arrives (nodeOf setup) speeches (c .spent)) before a later (c .arrives)
+
+  -- what the arrival does there
+  next : Next (nodeOf setup) speeches (c .spent) (behind setup speeches before) (λ k. come k before) (a .event) (callOf (nodeOf setup) speeches a)
+  next =
+      arrival-next (nodeOf setup) (well setup speeches before before-scene) speeches (c .eight-at-most) (c .speakable) (c .sources-differ) (c .spent)
+      (behind setup speeches before) (λ k. come k before) seen-before a here
+
+pub handed-up : HandedUp
+handed-up setup speeches before a later c =
+    arrival-hands (nodeOf setup) speeches (c .spent) before (a .event) (hands (next setup speeches before a later c))
+
+pub answered : Answered
+answered setup speeches before a later c =
+    answers-as (nodeOf setup) speeches (c .spent) (behind setup speeches before) (λ k. come k before) (a .event) (a .forward) (a .message)
+    (next setup speeches before a later c)
+
+pub acknowledges : Acknowledges
+acknowledges setup speeches before net src fwd msg later c =
+    let node = nodeOf setup in
+    let r = behind setup speeches before in
+    let a : Arrival = record { event = Ask net src; forward = fwd; message = msg } in
+    let wide = here setup speeches before a later c .room-forward in
+    let sc = seen-before setup speeches before a later c in
+    let made = well setup speeches before (before-scene setup speeches before a later c) in
+    record {
+      names = asked-names node made speeches (c .speakable) (c .spent) before r sc net src fwd wide;
+      goes-out = asked-sent node made speeches (c .speakable) (c .spent) before r sc net src fwd wide;
+      refuses = asked-refuses node made speeches (c .speakable) (c .spent) before r sc net src fwd wide;
+    }
+
+-- the scene in turn is a scene, and all come in it
+in-turn : (setup : Setup) (speeches : List Speech) (l : List Arrival) → Scene setup speeches l → Scene setup speeches (turns speeches l)
+in-turn setup speeches l c = with-arrivals c (turns speeches l) (each-turn (Arrives (nodeOf setup) speeches (c .spent)) (length speeches) l (c .arrives))
 
 pub ends-alike : EndsAlike
 ends-alike setup speeches l c all =
@@ -223,7 +236,12 @@ ends-alike setup speeches l c all =
           no-sessions (nodeOf setup) (well setup speeches l c) speeches (c .eight-at-most) (c .speakable) (c .sources-differ) (c .spent)
           (behind setup speeches l) (λ k. come k l) sc (λ k hk. ended setup speeches l c all k hk .no-slot);
       entries-are = λ k hk. ended setup speeches l c all k hk .entry-is;
-      entries-alike = λ k hk. ended setup speeches l c all k hk .entry-is ∙ sym (ended setup speeches (turns speeches l) d all-turn k hk .entry-is);
+      entries-none = λ src z other. ⊎-elim (λ m. absurd (other (m .0) (m .1) (m .2))) (λ e. e) (listed-in setup speeches l c src z);
+      entries-alike = λ src z.
+          let both : (m : ℕ) × (m < length speeches) × (src ≡ speakerOf speeches m)
+          → lookUp (behind setup speeches l .replay) src ≡ lookUp (behind setup speeches (turns speeches l) .replay) src =
+          λ m. rw (m .2) (ended setup speeches l c all (m .0) (m .1) .entry-is ∙ sym (ended setup speeches (turns speeches l) d all-turn (m .0) (m .1) .entry-is)) in
+          ⊎-elim both (λ e. ⊎-elim both (λ f. e ∙ sym f) (listed-in setup speeches (turns speeches l) d src z)) (listed-in setup speeches l c src z);
       once = λ k hk. one-message setup speeches l c all k hk;
       once-in-turn = λ k hk. one-message setup speeches (turns speeches l) d all-turn k hk;
     }

@@ -65,10 +65,10 @@ GoodBy s = Good (s .answer .receiver)
 
 module _ (r : Receiver) (buf : List ℕ) (g : Good r) where
   good-said : (element : ℕ) (h : Header) → GoodBy (saying r element h buf)
-  good-said element h = by-saying r element h buf GoodBy (λ _. g) (λ s. good-next r g element (s .seq-left))
+  good-said element h = by-saying r element h buf GoodBy (λ _ _. g) (λ s. good-next r g element (s .seq-left))
 
   good-started : (element : ℕ) (o : Outgoing) → GoodBy (starting r element o buf)
-  good-started element o = by-starting r element o buf GoodBy (λ _. g) (λ s. good-outgoing (used r element) (good-next r g element (s .seq-left)) o)
+  good-started element o = by-starting r element o buf GoodBy (λ _ _. g) (λ s. good-outgoing (used r element) (good-next r g element (s .seq-left)) o)
 
 -- ---- the calls
 stopped : (r : Receiver) → Good r → Good (stopping r .receiver)
@@ -78,11 +78,11 @@ pub good-step : GoodStep
 good-step r (Hear pdu fwd msg) g = good-hear r _ fwd msg g
 good-step r (GiveUp src) g = good-give-up r src g
 good-step r (SendAccess q key szmic payload buf) g =
-    walk-access r buf GoodBy (λ _. g) q key szmic payload (λ _ _. good-said r buf g (q .element) _) (λ _ _. good-started r buf g (q .element) _)
+    walk-access r buf GoodBy (λ _ _. g) q key szmic payload (λ _ _. good-said r buf g (q .element) _) (λ _ _. good-started r buf g (q .element) _)
 good-step r (SendControl q opcode parameters buf) g =
-    walk-control r buf GoodBy (λ _. g) q opcode parameters (λ _ _. good-said r buf g (q .element) _) (λ _ _. good-started r buf g (q .element) _)
-good-step r (SendSegment n buf) g = walk-segment r buf GoodBy (λ _. g) n (λ _ _. good-said r buf g _ (segmentHeader (r .out) n))
-good-step r (Acknowledge net src buf) g = walk-acknowledge r buf GoodBy (λ _. g) net src (λ _. good-said r buf g _ _)
+    walk-control r buf GoodBy (λ _ _. g) q opcode parameters (λ _ _. good-said r buf g (q .element) _) (λ _ _. good-started r buf g (q .element) _)
+good-step r (SendSegment n buf) g = walk-segment r buf GoodBy (λ _ _. g) n (λ _ _. good-said r buf g _ (segmentHeader (r .out) n))
+good-step r (Acknowledge net src buf) g = walk-acknowledge r buf GoodBy (λ _ _. g) net src (λ _. good-said r buf g _ _)
 good-step r Stop g = stopped r g
 
 good-run : (r : Receiver) (l : List Call) → Good r → Good (after r l)

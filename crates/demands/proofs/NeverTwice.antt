@@ -44,9 +44,9 @@ use Rattle.sending.proofs.Laws.Allowed.{Asked, access-allows, control-allows}
 use Rattle.sending.proofs.Laws.Calls.{walk-access, walk-control, walk-segment, walk-acknowledge}
 use Rattle.sending.proofs.Laws.Shapes.{whole-access, whole-control, segment-out, keeps-access, keeps-control, envelope-is}
 use Rattle.sending.proofs.Laws.Stamped.{stamps}
-use Rattle.sending.proofs.Laws.Transmitted.{used, used-own, used-rises, saying, pduBy, Sends, sealing-is, by-saying, by-starting, by-stopping}
-use Rattle.demands.specs.Call.{Call, Hear, GiveUp, SendAccess, SendControl, SendSegment, Acknowledge, Stop, Outcome, lengthBy, leftSaid, step}
-use Rattle.demands.specs.NeverTwice.{Use, speaker, indexSent, uses, lentFor, Carried, AllAbove, Rising, NoneEqual, Distinct, Rise, NeverTwice}
+use Rattle.sending.proofs.Laws.Transmitted.{checked, used, used-own, used-rises, saying, pduBy, Sends, sealing-is, by-saying, by-starting, by-stopping}
+use Rattle.demands.specs.Call.{Call, Hear, GiveUp, SendAccess, SendControl, SendSegment, Acknowledge, Stop, lentFor, Outcome, lengthBy, leftSaid, step}
+use Rattle.demands.specs.NeverTwice.{Use, speaker, indexSent, uses, Carried, AllAbove, Rising, NoneEqual, Distinct, Rise, NeverTwice}
 use Rattle.demands.proofs.Invariant.{good-step}
 
 -- ---- one call
@@ -77,8 +77,8 @@ module _ (r : Receiver) (element iv : ℕ) (buf : List ℕ) where
   abbrev Speaking : Lent Spoken → Type 0
   Speaking s = Speaks (leftSaid s)
 
-  refused : (n : Refusal) → Speaking (lent (refusedAt r n) buf)
-  refused n = silent (leftSaid (lent (refusedAt r n) buf)) refl refl
+  refused : (n : Refusal) → checked n ≡ true → Speaking (lent (refusedAt r n) buf)
+  refused n _ = silent (leftSaid (lent (refusedAt r n) buf)) refl refl
 
   -- the PDU of this header was sent, and q is left
   module _ (low : element < elementPlaces) (h : Header) (i : stamped r element h .iv ≡ iv) (c : Sends r element h buf) (a : Answer) (q : Receiver) (next : q .next ≡ used r element .next)
@@ -124,7 +124,7 @@ unfolding stamped acknowledgementHeader
 acknowledged-under r element iv net src c = refl
 
 speaks : (r : Receiver) (c : Call) → Speaks r (speaker r c) (indexSent r c) (lentFor c) (step r c)
-speaks r (Hear pdu fwd msg) = silent r 0 0 [] _ refl (fixed-heard r fwd msg _ .next-stays)
+speaks r (Hear pdu fwd msg) = silent r 0 0 fwd _ refl (fixed-heard r fwd msg _ .next-stays)
 speaks r (GiveUp src) = silent r 0 0 [] _ refl (given-next r src)
 speaks r (SendAccess q key szmic payload buf) =
     let e = q .element in
@@ -151,6 +151,10 @@ speaks r (Acknowledge net src buf) =
     let iv = sendingIv (r .node) in
     walk-acknowledge r buf (Speaking r e iv buf) (refused r e iv buf) net src (λ low. said r e iv buf low _ (acknowledged-under r e iv net src _))
 speaks r Stop = silent r 0 0 [] _ refl (stopped-next r)
+
+-- no next SEQ falls
+pub next-rises : (r : Receiver) (c : Call) (any : ℕ) → nextSeq r any ≤ nextSeq (step r c .receiver) any
+next-rises r c = speaks r c .rises
 
 pub carries : Carried
 carries r c m =

@@ -1,82 +1,49 @@
--- Demand 1, of hearing. The receiver's laws about a refusal (receiver/proofs/Laws, Heard and Refusal) walk the
--- definition of `hearing` once: a refusal is of one of two kinds. Before the cache it hands back what it got, so all is
--- untouched; these are 16 and 1 to 5. Behind it, it hands back the receiver that cached the PDU and the message buffer
--- as it was, and only 13 may have freed the slot of a completed session; forwarding is worked out beside all that. The
--- promises are read off these two kinds: an answer with an early number is of the first, one with a late number of the
--- second, and either leaves the message buffer. A PDU that no key opens does not open. Assumes nothing.
-use mathlib.Core.Bool.{true, true≢false, false≢true}
-use mathlib.Core.List.{List}
-use mathlib.Core.Logic.{inl, inr, ⊎-elim}
-use mathlib.Core.Path.{_≡_, refl, sym, _∙_, subst}
+-- What each refusal leaves, read off how a call ends (Ends). Behind the cache it is the receiver that cached the PDU, and only 13 of a segment has freed a slot: the one that the
+-- segment went to; forwarding is worked out beside all that. A refusal before the cache has no such number. A PDU that no key opens does not open, and is refused before the
+-- cache. Assumes nothing.
+use mathlib.Core.Bool.{true, _&&_, _||_, false≢true}
+use mathlib.Core.Logic.{⊎-elim}
+use mathlib.Core.Path.{_≡_}
 use Prim.Native.Nat.{ℕ}
+use native.Mathlib.Omega.{arith}
+use borrow.Author.Tests.{eqb-true, leb-true, le-leb}
+use lib.Dec.{eqb, leb}
+use Rattle.common.specs.Paper.{numberOf}
+use Rattle.common.proofs.Tests.{by-test, and-first, and-second}
 use Rattle.network.specs.declared.opening.Answer as opening-answer
 use Rattle.network.specs.declared.opening.Answer.the-variants as network
 use Rattle.network.specs.Opening.{opening}
-use Rattle.receiver.specs.declared.answer.Answer.{Answer}
-use Rattle.receiver.specs.declared.answer.Answer.the-variants.{Refused, Stored, Repeated, Access, Control, Acknowledgement}
-use Rattle.receiver.specs.declared.answer.Refusal.{Refusal}
-use Rattle.receiver.specs.declared.answer.Refusal.the-variants as refusal
-use Rattle.receiver.specs.declared.state.Receiver.{Receiver}
-use Rattle.receiver.specs.Hearing.{Outcome, outcome, refusedHeard, hearing}
-use Rattle.receiver.proofs.Laws.After.{Stays}
-use Rattle.receiver.proofs.Laws.Heard.{Refuses, heard-unopened}
-use Rattle.receiver.proofs.Laws.Refusal.{heard-refused}
-use Rattle.demands.specs.Refusal.{isRefused, Untouched, MessageStays, EarlyLeaves, noKeyOpens, UnopenedLeaves, LeavesOf, LateLeaves}
-
--- ---- all is as it was
-same : (r : Receiver) (fwd msg : List ℕ) (n : Refusal) (trials : ℕ) → Untouched r fwd msg (outcome (refusedHeard r n trials) fwd msg)
-same r fwd msg n trials = record { receiver-stays = refl; forward-stays = refl; message-stays = refl; none-forwarded = refl }
-
-untouched : (r : Receiver) (fwd msg : List ℕ) (n : Refusal) (o : Outcome) → Refuses r fwd msg n o → Untouched r fwd msg o
-untouched r fwd msg n o y = subst (Untouched r fwd msg) (sym (y .leaves)) (same r fwd msg n (y .tried))
-
--- ---- the message buffer
--- which refusal an answer is
-refused-as : (a : Answer) → isRefused a ≡ true → (n : Refusal) × (a ≡ Refused n)
-refused-as (Refused n) t = (n, refl)
-refused-as (Stored src auth bits) t = absurd (false≢true t)
-refused-as (Repeated src auth bits) t = absurd (false≢true t)
-refused-as (Access src dst net key pair len) t = absurd (false≢true t)
-refused-as (Control src dst net opcode pair len) t = absurd (false≢true t)
-refused-as (Acknowledgement src bits effect) t = absurd (false≢true t)
+use Rattle.receiver.specs.Answer.{refusalNumber, paper}
+use Rattle.receiver.specs.Hearing.{hearing}
+use Rattle.receiver.proofs.Laws.Heard.{heard-unopened}
+use Rattle.demands.specs.Refusal.{MessageStays, EverythingStays, noKeyOpens, UnopenedLeaves, LateLeaves}
+use Rattle.demands.proofs.Ends.{untouched, refused-kind, ends}
 
 pub message-stays : MessageStays
-message-stays r pdu fwd msg t =
-    let a = refused-as (hearing r pdu fwd msg .heard .answer) t in
-    ⊎-elim (λ y. untouched r fwd msg (a .0) _ y .message-stays) (λ l. l .message-stays) (heard-refused r pdu fwd msg (a .0) (a .1))
+message-stays r c = ends r c .message-stays
 
--- ---- the receiver
-pub early-leaves : EarlyLeaves
-early-leaves r pdu fwd msg n e t =
-    ⊎-elim (λ y. untouched r fwd msg n _ y) (λ l. absurd (true≢false (sym t ∙ l .not-early))) (heard-refused r pdu fwd msg n e)
+pub everything-stays : EverythingStays
+everything-stays r c = ends r c .everything
 
--- every refusal may leave the receiver that cached the PDU
-leaves-it : (q : Receiver) (n : Refusal) → LeavesOf q q n
-leaves-it q refusal.ShortBuffer = refl
-leaves-it q refusal.WrongLength = refl
-leaves-it q refusal.NoCandidate = refl
-leaves-it q refusal.NotAuthentic = refl
-leaves-it q refusal.WrongAddress = refl
-leaves-it q refusal.Cached = refl
-leaves-it q refusal.NotForNode = refl
-leaves-it q refusal.WrongForm = refl
-leaves-it q refusal.NoSeqAuth = refl
-leaves-it q refusal.Replayed = refl
-leaves-it q refusal.Differs = refl
-leaves-it q refusal.NoEntryLeft = refl
-leaves-it q refusal.NoSlotLeft = refl
-leaves-it q refusal.NotOpened = inl refl
-leaves-it q refusal.OutsideRules = refl
-leaves-it q refusal.NoSeqLeft = refl
-
-leaves-of : (q left : Receiver) (n : Refusal) → Stays q left n → LeavesOf q left n
-leaves-of q left n s =
-    ⊎-elim (λ e. subst (λ (x : Receiver). LeavesOf q x n) (sym e) (leaves-it q n))
-    (λ f. subst (LeavesOf q left) (sym (f .0)) (inr (f .1, f .2))) s
+-- ---- behind the cache
+-- 6 to 13 are none of 16 and 1 to 5
+early-late : (n : ℕ) → eqb n 16 || leb n 5 ≡ true → leb 6 n && leb n 13 ≡ true → ⊥
+early-late n e l =
+    let least = leb-true 6 n (and-first (leb 6 n) (leb n 13) l) in
+    let most = leb-true n 13 (and-second (leb 6 n) (leb n 13) l) in
+    by-test (eqb n 16) (λ t. let b = eqb-true n 16 t in omega arith)
+    (λ t.
+    let low : leb n 5 ≡ true = rw t at e in
+    let b = leb-true n 5 low in
+    omega arith)
 
 pub late-leaves : LateLeaves
-late-leaves r pdu fwd msg n e t =
-    ⊎-elim (λ y. absurd (true≢false (sym (y .is-early) ∙ t))) (λ l. (leaves-of _ _ n (l .stays), l .forwarded-as)) (heard-refused r pdu fwd msg n e)
+late-leaves r pdu fwd msg l =
+    let n = numberOf (paper (hearing r pdu fwd msg .heard .answer)) in
+    let least = leb-true 6 n (and-first (leb 6 n) (leb n 13) l) in
+    let k = refused-kind r pdu fwd msg (le-leb 1 n (omega arith)) in
+    ⊎-elim (λ y. absurd (early-late (refusalNumber (k .0)) (y .is-early) (rw (k .1) at l)))
+    (λ x. record { receiver-left = rw (k .1) (x .left-is); forwarded-as = x .forwarded-as }) (k .2)
 
 -- ---- a PDU that no key opens
 pub unopened : (a : opening-answer.Answer) → noKeyOpens a ≡ true → a ≡ network.Opened → ⊥
@@ -85,4 +52,4 @@ unopened a t e = false≢true (rw e at t)
 pub unopened-leaves : UnopenedLeaves
 unopened-leaves r pdu fwd msg t =
     let y = heard-unopened r fwd msg pdu (unopened (opening (r .node .materials) (r .node .networks) (r .node .iv) pdu .answer) t) in
-    untouched r fwd msg (y .0) _ (y .1)
+    untouched r pdu fwd msg (y .0) _ (y .1)

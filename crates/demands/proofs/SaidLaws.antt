@@ -1,6 +1,7 @@
 -- What a sender says is a speech that a receiver with the same keys is to read: a request that is allowed names keys that both hold, and its message has a length that fits. What the sender
 -- keeps of it are the speech's octets, and each segment's header is the speech's. Assumes nothing.
 --   access-read, words-of             the speech is one that the receiver is to read
+--   fits-of                           its length fits
 --   Kept, kept                        the message that is kept is the speech's
 --   header-said, key-said             a segment's header, stamped, and its key
 --   access-stamped, control-stamped   the header of a message that goes whole, stamped
@@ -36,9 +37,11 @@ use Rattle.sending.specs.Transmission.{sendingIv, addressOf, nextSeq, stamped}
 use Rattle.sending.proofs.Laws.Allowed.{Asked, AccessAllowed, access-allows, application-there, ControlAllowed, control-allows}
 use Rattle.sending.proofs.Laws.Shapes.{whole-access, whole-control, segment-out, keeps-access, keeps-control, envelope-is}
 use Rattle.sending.proofs.Laws.Stamped.{stamps, sending-near}
-use Rattle.demands.specs.ReadBack.{saidBy, Shared, OwnMessageFirst}
+use Rattle.demands.specs.GoesOut.{accepted}
+use Rattle.demands.specs.ReadBack.{goesWhole, saidBy, Shared, OwnMessageFirst}
 use Rattle.demands.specs.Speech.{Words, Access, Control, Speech, keyOf, aidOf, akfOf, envelopeOf, octetsOf, lastOf, segmentOf, headerOf, Fits, WordsRead}
-use Rattle.demands.proofs.SentLaws.{allowedAs, wholeAs, headerAs, keptAs}
+use Rattle.demands.proofs.SentLaws.{headerAs, keptAs}
+use Rattle.demands.proofs.SpeechCut.{WordsFit}
 use Rattle.demands.proofs.SpeechSegment.{termsOf}
 use Rattle.demands.proofs.WholeSent.{wholeHeader}
 
@@ -119,24 +122,30 @@ module _ (sender : Receiver) (node : Node) (shared : Shared (sender .node) node)
     opcode-range = record { not-zero = passed-control .opcode-least; opcode-fits = passed-control .opcode-most }
 
   -- ---- the speech is one that the receiver is to read
-  pub request-of : (words : Words) → allowedAs sender q words ≡ true → Asked (sender .node) q
+  pub request-of : (words : Words) → accepted sender q words ≡ true → Asked (sender .node) q
   request-of (Access key szmic payload) a = passed key szmic payload a .asks
   request-of (Control code parameters) a = passed-control code parameters a .asks
 
+  -- its length fits
+  pub fits-of : (words : Words) → accepted sender q words ≡ true → goesWhole words ≡ false → WordsFit node (saidBy sender q words) words
+  fits-of (Access key szmic payload) a w = access-fits key szmic payload a
+  fits-of (Control code parameters) a w =
+      let n = leb-false (length parameters) 11 w in
+      record { some = omega arith; enough = passed-control code parameters a .parameters-most }
+
   pub words-of :
-      (words : Words) → allowedAs sender q words ≡ true → wholeAs sender q words ≡ false
+      (words : Words) → accepted sender q words ≡ true → goesWhole words ≡ false
       → (let s = saidBy sender q words in OwnMessageFirst node s words → WordsRead node s words)
   words-of (Access key szmic payload) a w f = access-read key szmic payload a f
   words-of (Control code parameters) a w f =
-      let n = leb-false (length parameters) 11 w in
-      (record { some = omega arith; enough = passed-control code parameters a .parameters-most }, opcode-range code parameters a)
+      (fits-of (Control code parameters) a w, opcode-range code parameters a)
 
   module _ (made : WellMade (sender .node)) where
     pub near : (sendingIv (sender .node) ≡ node .iv) ⊎ (sendingIv (sender .node) + 1 ≡ node .iv)
     near =
         subst (λ (i : ℕ). (sendingIv (sender .node) ≡ i) ⊎ (sendingIv (sender .node) + 1 ≡ i)) (shared .iv-same) (sending-near (sender .node) made)
 
-  pub held : (words : Words) → allowedAs sender q words ≡ true → q .network < min (node .networks) networkKeyPlaces
+  pub held : (words : Words) → accepted sender q words ≡ true → q .network < min (node .networks) networkKeyPlaces
   held words a = rw (sym (shared .networks-same)) (request-of words a .network-there)
 
   -- ---- what is kept
@@ -148,7 +157,7 @@ module _ (sender : Receiver) (node : Node) (shared : Shared (sender .node) node)
     pub ttl-is : o .ttl ≡ ttlOf (q .ttl)
     pub unheard : o .heard ≡ 0
 
-  pub kept : (words : Words) → allowedAs sender q words ≡ true → Kept (saidBy sender q words) (keptAs sender q words)
+  pub kept : (words : Words) → accepted sender q words ≡ true → Kept (saidBy sender q words) (keptAs sender q words)
   unfolding lastOf octetsOf
   kept (Access key szmic payload) a =
       let s = saidBy sender q (Access key szmic payload) in

@@ -3,20 +3,24 @@
 --   Scenery         the receiver in the middle of a scene
 --   begins          a fresh one
 --   entry-room, session-room   there is room in it
-use mathlib.Core.Bool.{true, false≢true}
+--   filled-within   only places to SegN are filled
+use mathlib.Core.Bool.{true, false, false≢true}
 use mathlib.Core.List.{List}
-use mathlib.Core.Path.{_≡_, refl, sym, _∙_}
-use Prim.Native.Nat.{ℕ, _≤_, _<_}
+use mathlib.Core.Path.{_≡_, refl, sym, ap, _∙_, subst}
+use Prim.Native.Nat.{ℕ, _+_, _^_, _≤_, _<_}
 use native.Mathlib.Omega.{arith}
 use borrow.Author.Tests.{ne-eqb}
 use lib.ListN.{length}
+use lib.Pow.{pow-pos}
 use Rattle.common.specs.Bits.{hasBit}
+use Rattle.common.proofs.BitLaws.{all-bound}
 use Rattle.network.specs.declared.header.Header.{Header}
 use Rattle.network.proofs.AddressLaws.{unicast-some}
+use Rattle.memory.specs.declared.replay.Entry.{Entry}
 use Rattle.memory.specs.declared.session.SessionKey.{SessionKey}
 use Rattle.memory.specs.Cache.{seen}
-use Rattle.memory.specs.Replay.{hasRoom}
-use Rattle.memory.specs.Session.{sessionSlots, sessionPlace, freePlace}
+use Rattle.memory.specs.Replay.{noEntry, lookUp, hasRoom}
+use Rattle.memory.specs.Session.{sessionSlots, sessionAt, sessionPlace, isFree, freePlace}
 use Rattle.memory.proofs.ReplayMap.{lookUp-none, Listed, listed-none, room-left}
 use Rattle.memory.proofs.SessionSlots.{place-none, SessionsOwned, owned-none, session-free}
 use Rattle.node.specs.declared.addresses.Node.{Node}
@@ -26,12 +30,13 @@ use Rattle.node.proofs.IndexLaws.{same-node}
 use Rattle.receiver.specs.declared.fresh.Answer.the-variants.{Ready}
 use Rattle.receiver.specs.declared.state.Receiver.{Receiver}
 use Rattle.receiver.specs.Fresh.{settingUp}
-use Rattle.receiver.specs.Good.{Good}
+use Rattle.receiver.specs.Good.{Gathering, Good}
 use Rattle.receiver.proofs.Good.{good-fresh}
 use Rattle.receiver.proofs.Laws.Fresh.{fresh-is, fresh-unseen}
 use Rattle.demands.specs.Interleaved.{speechAt, Spent, start, nodeOf}
-use Rattle.demands.specs.Speech.{Speech, Speakable}
-use Rattle.demands.proofs.StageLaws.{keyOf, Stage, Silent, unheard-none}
+use Rattle.demands.specs.Speech.{Speech, lastOf, Speakable}
+use Rattle.demands.proofs.SpeechSession.{sessionOf}
+use Rattle.demands.proofs.StageLaws.{keyOf, Stage, Silent, Gathers, Done, unheard-none}
 
 -- ---- the scene
 -- who speaks
@@ -69,8 +74,9 @@ module _ (setup : Setup) (ready : settingUp setup .answer ≡ Ready) (speeches :
         setup-same = refl;
         index-same = refl;
         stages = λ k h.
+            let none : lookUp (start setup .replay) (speakerOf speeches k) ≡ noEntry = rw (fresh-is setup) (lookUp-none (speakerOf speeches k)) in
             Silent refl (rw (fresh-is setup) (place-none (speakerKey speeches k) (ne-eqb (speakerOf speeches k) 0 (speaks k h))))
-            (unheard-none (nodeOf setup) (speechAt speeches k) _ (rw (fresh-is setup) (lookUp-none (speakerOf speeches k))));
+            (unheard-none (nodeOf setup) (speechAt speeches k) _ none) (ap (λ (e : Entry). e .last .dst) none);
         sessions-owned = rw (fresh-is setup) (owned-none (length speeches) (speakerKey speeches));
         entries-listed = rw (fresh-is setup) (listed-none (length speeches) (speakerOf speeches));
         seen-come = λ k h w q e. absurd (false≢true (sym (fresh-unseen setup h (λ z. speaks k w (sym q ∙ z))) ∙ e));
@@ -88,3 +94,22 @@ module _ (node : Node) (speeches : List Speech) (spent : Spent) (r : Receiver) (
       (k : ℕ) → k < length speeches → sessionSlots ≤ sessionPlace (r .sessions) (speakerKey speeches k) → freePlace (r .sessions) < sessionSlots
   session-room k h out =
       session-free (length speeches) (speakerKey speeches) (r .sessions) (s .sessions-owned) (s .good .sessions-kept .places) (s .good .sessions-kept .apart) k h out few
+
+-- ---- only places to SegN are filled
+module _ (node : Node) (speeches : List Speech) (spent : Spent) (r : Receiver) (filled : ℕ → ℕ) (sc : Scenery node speeches spent r filled) (k : ℕ)
+    (w : Speakable node (speechAt speeches k)) where
+  abbrev s : Speech
+  s = speechAt speeches k
+
+  within-by : Stage node s (r .replay) (r .sessions) (filled k) → filled k < 2 ^ (lastOf node s + 1)
+  within-by (Silent b p u n) = rw b (pow-pos (lastOf node s + 1))
+  within-by (Gathers len bytes z m own held h e) =
+      let slot = sessionPlace (r .sessions) (keyOf s) in
+      let spoken = ne-eqb (s .src) 0 (unicast-some (s .src) (w .from-unicast)) in
+      let used : isFree (sessionAt (r .sessions) slot) ≡ false = ap isFree held ∙ spoken in
+      let g : Gathering (sessionOf node s (filled k) len bytes) = subst Gathering held (sc .good .sessions-kept .each slot own .gathers used) in
+      g .filled-within
+  within-by (Done b p e) = rw b (all-bound (lastOf node s) (lastOf node s + 1) (omega arith))
+
+  pub filled-within : k < length speeches → filled k < 2 ^ (lastOf node s + 1)
+  filled-within hk = within-by (sc .stages k hk)

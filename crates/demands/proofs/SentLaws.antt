@@ -3,11 +3,10 @@
 --   Transmits      a header was sealed, with the element's next SEQ
 --   Way            whole, or begun
 --   way            each call that made a PDU went one of these ways
-use mathlib.Core.Bool.{Bool, true, false, false≢true}
+use mathlib.Core.Bool.{true, false, false≢true}
 use mathlib.Core.List.{List}
 use mathlib.Core.Path.{_≡_, refl}
 use Prim.Native.Nat.{ℕ}
-use lib.Dec.{leb}
 use lib.ListN.{length, take}
 use lib.Seq.{take-append-seam}
 use Rattle.common.specs.Lent.{Lent}
@@ -28,7 +27,9 @@ use Rattle.sending.specs.Segment.{segmentHeader, starting}
 use Rattle.sending.specs.Transmission.{sendingIv, stamped}
 use Rattle.sending.proofs.Laws.Calls.{accessHeader, walk-access, walk-control}
 use Rattle.sending.proofs.Laws.Transmitted.{used, saying, pduBy, Sends, by-saying, by-starting}
-use Rattle.demands.specs.Call.{madeBy}
+use Rattle.demands.specs.Call.{madeBy, leftSaid, step}
+use Rattle.demands.specs.GoesOut.{accepted}
+use Rattle.demands.specs.ReadBack.{sayCall, goesWhole}
 use Rattle.demands.specs.Speech.{Words, Access, Control}
 
 -- ---- a transmission
@@ -56,24 +57,16 @@ pub record StartedBy (r : Receiver) (element : ℕ) (o : Outgoing) (s : Lent Spo
 module _ (r : Receiver) (element : ℕ) (buf : List ℕ) where
   pub said-by : (h : Header) → madeBy (saying r element h buf .answer .answer) ≡ true → SaidBy r element h (saying r element h buf)
   said-by h =
-      by-saying r element h buf (λ (s : Lent Spoken). madeBy (s .answer .answer) ≡ true → SaidBy r element h s) (λ _ m. absurd (false≢true m))
+      by-saying r element h buf (λ (s : Lent Spoken). madeBy (s .answer .answer) ≡ true → SaidBy r element h s) (λ _ _ m. absurd (false≢true m))
       (λ c _. record { len = _; says = refl; leaves = refl; transmitted-is = transmits r element h buf c })
 
   pub started-by : (o : Outgoing) → madeBy (starting r element o buf .answer .answer) ≡ true → StartedBy r element o (starting r element o buf)
   started-by o =
-      by-starting r element o buf (λ (s : Lent Spoken). madeBy (s .answer .answer) ≡ true → StartedBy r element o s) (λ _ m. absurd (false≢true m))
+      by-starting r element o buf (λ (s : Lent Spoken). madeBy (s .answer .answer) ≡ true → StartedBy r element o s) (λ _ _ m. absurd (false≢true m))
       (λ c _. record { len = _; says = refl; leaves = refl; transmitted-is = transmits r element (segmentHeader o 0) buf c })
 
 -- ---- the two ways
 module _ (r : Receiver) (q : Request) where
-  abbrev pub allowedAs : Words → Bool
-  allowedAs (Access key szmic payload) = access.accessAllowed r q key szmic (length payload)
-  allowedAs (Control code parameters) = control.controlAllowed r q code (length parameters)
-
-  abbrev pub wholeAs : Words → Bool
-  wholeAs (Access key szmic payload) = access.isWhole szmic (length payload)
-  wholeAs (Control code parameters) = leb (length parameters) 11
-
   abbrev pub headerAs : Words → Header
   headerAs (Access key szmic payload) = accessHeader r q key szmic payload
   headerAs (Control code parameters) = control.wholeHeader (sendingIv (r .node)) q code parameters
@@ -87,13 +80,18 @@ module _ (r : Receiver) (q : Request) where
   sendingAs (Control code parameters) buf = control.sendingControl r q code parameters buf
 
   pub data Way (words : Words) (s : Lent Spoken) : Type 0 where
-    Whole : allowedAs words ≡ true → wholeAs words ≡ true → SaidBy r (q .element) (headerAs words) s → Way words s
-    Begun : allowedAs words ≡ true → wholeAs words ≡ false → StartedBy r (q .element) (keptAs words) s → Way words s
+    Whole : accepted r q words ≡ true → goesWhole words ≡ true → SaidBy r (q .element) (headerAs words) s → Way words s
+    Begun : accepted r q words ≡ true → goesWhole words ≡ false → StartedBy r (q .element) (keptAs words) s → Way words s
 
   pub way : (words : Words) (buf : List ℕ) → madeBy (sendingAs words buf .answer .answer) ≡ true → Way words (sendingAs words buf)
   way (Access key szmic payload) buf =
-      walk-access r buf (λ (s : Lent Spoken). madeBy (s .answer .answer) ≡ true → Way (Access key szmic payload) s) (λ n m. absurd (false≢true m)) q key szmic payload
+      walk-access r buf (λ (s : Lent Spoken). madeBy (s .answer .answer) ≡ true → Way (Access key szmic payload) s) (λ _ _ m. absurd (false≢true m)) q key szmic payload
       (λ a w m. Whole a w (said-by r (q .element) buf _ m)) (λ a w m. Begun a w (started-by r (q .element) buf _ m))
   way (Control code parameters) buf =
-      walk-control r buf (λ (s : Lent Spoken). madeBy (s .answer .answer) ≡ true → Way (Control code parameters) s) (λ n m. absurd (false≢true m)) q code parameters
+      walk-control r buf (λ (s : Lent Spoken). madeBy (s .answer .answer) ≡ true → Way (Control code parameters) s) (λ _ _ m. absurd (false≢true m)) q code parameters
       (λ a w m. Whole a w (said-by r (q .element) buf _ m)) (λ a w m. Begun a w (started-by r (q .element) buf _ m))
+
+  -- the call that sends is one of the two
+  pub step-is : (words : Words) (buf : List ℕ) → step r (sayCall q words buf) ≡ leftSaid (sendingAs words buf)
+  step-is (Access key szmic payload) buf = refl
+  step-is (Control code parameters) buf = refl

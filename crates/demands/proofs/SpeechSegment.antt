@@ -3,7 +3,7 @@
 --   termsOf                     what the segments of a speech have in common
 --   transport-long, formed      its header is one that can be read back
 --   segment-octets              its octets are chunk i
---   segment-sealable            it can be sealed
+--   segment-sealable            it can be sealed, and so can one that is sent (`cut-sealable`)
 --   segment-taken               a header of the speech is taken as segment i
 --   segment-placed              and placed by the speech's SeqAuth
 use mathlib.Core.Bool.{Bool, true, false}
@@ -21,7 +21,7 @@ use Rattle.common.proofs.Lists.{length-tab}
 use Rattle.common.proofs.Tests.{by-test}
 use Rattle.keys.proofs.Widths.{nid-low}
 use Rattle.network.specs.declared.header.Header.{Header}
-use Rattle.network.specs.Address.{isUnicast}
+use Rattle.network.specs.Address.{kindOf, isUnicast, destinationKind}
 use Rattle.network.specs.Candidates.{keyAt}
 use Rattle.network.specs.Header.{transportOf}
 use Rattle.network.specs.SealOpen.{Formed}
@@ -36,7 +36,7 @@ use Rattle.transport.specs.Form.{segmentFits, formOf}
 use Rattle.transport.specs.LeadsBack.{SegmentOf}
 use Rattle.transport.specs.Ranges.{InRange, KeyInRange, OpcodeInRange}
 use Rattle.transport.specs.ReadsBack.{Carries, frontOf}
-use Rattle.transport.specs.Segment.{messageOctets, fullOctets}
+use Rattle.transport.specs.Segment.{messageOctets, fullOctets, segmentFront}
 use Rattle.transport.proofs.FormLaws.{fits-last, fits-full, key-application, key-device}
 use Rattle.transport.proofs.LeadsBack.{leads-back}
 use Rattle.transport.proofs.ReadsBack.{access-segment-reads-back, control-segment-reads-back}
@@ -55,7 +55,7 @@ use Rattle.receiver.specs.Segmented as segments
 use Rattle.receiver.proofs.Laws.Form.{taken-access-segment, taken-control-segment}
 use Rattle.receiver.proofs.Laws.Segment.{segmented-placed}
 use Rattle.demands.specs.Speech.{Words, Access, Control, Speech, isControl, szmicOf, aidOf, akfOf, firstOf, sizeOf, lastOf, segmentOf, headerOf, WordsRead, Speakable}
-use Rattle.demands.proofs.SpeechCut.{size-bounds, last-low, part, part-bounds, part-full}
+use Rattle.demands.proofs.SpeechCut.{Cut, size-bounds, cut, last-low, cut-bounds, part, part-bounds, part-full}
 use Rattle.demands.proofs.SpeechMessage.{message-opens}
 
 -- what the segments of a speech have in common
@@ -70,6 +70,31 @@ termsOf node s =
       key = s .network;
     }
 
+-- ---- its length, and that it can be sealed
+module _ (node : Node) (s : Speech) (i : ℕ) where
+  -- four octets stand before the chunk
+  length-segment : length (segmentOf node s i) ≡ 4 + length (part node s i)
+  unfolding segmentOf
+  length-segment =
+      let front = segmentFront (firstOf node (s .words)) (szmicOf (s .words)) (s .auth .seq % 8192) i (lastOf node s) in
+      let four : length front ≡ 4 = length-front (firstOf node (s .words)) (szmicOf (s .words)) (s .auth .seq % 8192) i (lastOf node s) in
+      length-append front (part node s i) ∙ ap (λ (n : ℕ). n + length (part node s i)) four
+
+  -- every number has its bits, and DST may be sent to
+  module _ (c : Cut node s) (there : i ≤ lastOf node s) (made : WellMade node) (held : s .network < node .networks) (source : isUnicast (s .src) ≡ true)
+      (destination : destinationKind (isControl (s .words)) (kindOf (s .dst)) ≡ true) where
+    pub cut-sealable : (seq ttl : ℕ) → seq ≤ 0xFFFFFF → ttl ≤ 127 → sealable (keyAt (node .materials) (s .network)) (headerOf node s i seq ttl) ≡ true
+    unfolding headerOf
+    cut-sealable seq ttl eseq ettl =
+        let l = length-segment in
+        let p = cut-bounds node s c i there in
+        let k : keyAt (node .materials) (s .network) .nid ≤ 127 = rw (made .derived (s .network) held) (nid-low _) in
+        let most : length (segmentOf node s i) ≤ mostTransport (isControl (s .words)) =
+        let q = p .1 in
+        by-test (isControl (s .words)) (λ t. let m : sizeOf s ≡ 8 = ap fullOctets t in rw t (omega arith)) (λ t. let m : sizeOf s ≡ 12 = ap fullOctets t in rw t (omega arith)) in
+        let allowed = addresses-allowed (isControl (s .words)) (s .src) (s .dst) source destination in
+        sealable-where (keyAt (node .materials) (s .network)) (headerOf node s i seq ttl) k ettl eseq allowed (omega arith) most
+
 -- ---- the segment
 module _ (node : Node) (s : Speech) (w : Speakable node s) (i : ℕ) (there : i ≤ lastOf node s) where
   -- which segment of which message it is
@@ -83,8 +108,7 @@ module _ (node : Node) (s : Speech) (w : Speakable node s) (i : ℕ) (there : i 
   front-long = length-front (firstOf node (s .words)) (szmicOf (s .words)) (s .auth .seq % 8192) i (lastOf node s)
 
   segment-long : length (segmentOf node s i) ≡ 4 + length (part node s i)
-  unfolding segmentOf
-  segment-long = length-append front (part node s i) ∙ ap (λ (n : ℕ). n + length (part node s i)) front-long
+  segment-long = length-segment node s i
 
   segment-short : length (segmentOf node s i) ≤ 16
   segment-short =
@@ -115,16 +139,10 @@ module _ (node : Node) (s : Speech) (w : Speakable node s) (i : ℕ) (there : i 
 
     -- it can be sealed: every number has its bits, and a DST that is for a node may be sent to
     pub segment-sealable : WellMade node → seq ≤ 0xFFFFFF → ttl ≤ 127 → sealable (keyAt (node .materials) (s .network)) h ≡ true
-    unfolding headerOf
     segment-sealable made eseq ettl =
-        let l = segment-long in
-        let p = part-bounds node s w i there in
-        let k : keyAt (node .materials) (s .network) .nid ≤ 127 = let n = w .held in rw (made .derived (s .network) (omega arith)) (nid-low _) in
-        let most : length (segmentOf node s i) ≤ mostTransport (isControl (s .words)) =
-        let q = p .1 in
-        by-test (isControl (s .words)) (λ t. let m : sizeOf s ≡ 8 = ap fullOctets t in rw t (omega arith)) (λ t. let m : sizeOf s ≡ 12 = ap fullOctets t in rw t (omega arith)) in
-        let allowed = addresses-allowed (isControl (s .words)) (s .src) (s .dst) (w .from-unicast) (for-allowed node made (s .dst) (isControl (s .words)) (w .for-here)) in
-        sealable-where (keyAt (node .materials) (s .network)) h k ettl eseq allowed (omega arith) most
+        let held = w .held in
+        let destination = for-allowed node made (s .dst) (isControl (s .words)) (w .for-here) in
+        cut-sealable node s i (cut node s w) there made (omega arith) (w .from-unicast) destination seq ttl eseq ettl
 
     carries : (ctl : Bool) → isControl (s .words) ≡ ctl → Carries h ctl front
     unfolding headerOf segmentOf

@@ -1,18 +1,18 @@
--- What a segment of a speech does to a receiver, at each stage of that speech: it hands up the message where it was the last that was missing, and nothing elsewhere; its place is
--- filled; what belongs to other speakers stays. Assumes nothing.
+-- What a segment of a speech does to a receiver, at each stage of that speech: it hands up the message where it was the last that was missing, is stored where another is, and repeats
+-- where it had come; its place is filled; what belongs to other speakers stays. Assumes nothing.
+--   leftTaken       what a call leaves that takes it
 --   Step            what a segment is to do
 --   placed-steps    it does
-use mathlib.Core.Bool.{Bool, true, false, true≢false}
-use mathlib.Core.List.{List, [], _∷_}
+use mathlib.Core.Bool.{true, false, true≢false}
+use mathlib.Core.List.{List, []}
+use mathlib.Core.Logic.{inl}
 use mathlib.Core.Path.{_≡_, refl, sym, ap, _∙_, subst}
 use Prim.Native.Nat.{ℕ, _≤_, _<_}
 use native.Mathlib.Omega.{arith}
 use borrow.Author.Tests.{ne-eqb, eqb-true, eqb-false}
 use lib.Dec.{eqb}
 use lib.ListN.{length, set, replicate}
-use lib.Seq.{take-append-seam}
 use Rattle.common.specs.Bits.{hasBit, withBit, allBits}
-use Rattle.common.specs.Choice.{if_then_else_}
 use Rattle.common.specs.Lent.{Lent, lent}
 use Rattle.common.specs.Lists.{onto}
 use Rattle.common.proofs.BitLaws.{has-none, has-all, has-with-own, with-of-set}
@@ -30,7 +30,6 @@ use Rattle.memory.proofs.Stored.{begun-is}
 use Rattle.node.specs.declared.addresses.Node.{Node}
 use Rattle.node.specs.Index.{SameFixed}
 use Rattle.node.specs.Made.{WellMade}
-use Rattle.receiver.specs.declared.answer.Answer.{Answer}
 use Rattle.receiver.specs.declared.answer.Answer.the-variants.{Stored, Repeated}
 use Rattle.receiver.specs.declared.answer.Taken.{Taken}
 use Rattle.receiver.specs.declared.state.Receiver.{Receiver}
@@ -38,23 +37,32 @@ use Rattle.receiver.specs.Good.{Good}
 use Rattle.receiver.specs.Segmented as segments
 use Rattle.receiver.specs.State.{withReplay, withSession}
 use Rattle.receiver.proofs.Laws.Segment.{placed-last, placed-repeat, placed-join, placed-open, gathered-stored, gathered-up, upgraded-is}
-use Rattle.demands.specs.Call.{Heard}
-use Rattle.demands.specs.Interleaved.{isLastMissing, handedAs}
-use Rattle.demands.specs.Speech.{Words, Access, Control, Speech, lastOf, headerOf, Speakable, handUpAs, handUp, applicationPlace}
+use Rattle.demands.specs.Call.{Heard, Outcome}
+use Rattle.demands.specs.Interleaved.{SegmentAnswered}
+use Rattle.demands.specs.Speech.{Speech, lastOf, headerOf, Speakable, handUp, networkPlace, applicationPlace}
+use Rattle.demands.proofs.AnsweredLaws.{had-come, is-stored, is-up}
 use Rattle.demands.proofs.GatherLaws.{Holds, holds-begun, segment-stored, newLen, newBytes, holds-more, holds-all}
 use Rattle.demands.proofs.SpeechCut.{last-low}
 use Rattle.demands.proofs.SpeechSession.{sessionOf, session-up}
 use Rattle.demands.proofs.StageLaws.{segmentAt, keyOf, Unheard, Stage, Silent, Gathers, Done, stage-other}
 
+-- what a call leaves that took t, its network key tried at its place, and forwards nothing
+abbrev pub leftTaken : Node → Speech → Lent Taken → Outcome
+leftTaken node s t =
+    record {
+      receiver = t .answer .receiver;
+      answer = Heard (t .answer .answer);
+      pdu = [];
+      message = t .buffer;
+      made = false;
+      octets = 0;
+      tried = record { network = networkPlace node s; application = t .answer .trials };
+    }
+
 -- what was taken in r is t: a segment of s, of which these places were filled
-pub record Step (node : Node) (s : Speech) (r : Receiver) (bits i : ℕ) (t : Lent Taken) : Type 0 where
-  -- the message is handed up where this was the last segment that was missing
-  pub due : handedAs (Heard (t .answer .answer)) (t .buffer) ≡ (if isLastMissing bits i (lastOf node s) then handUp s ∷ [] else [])
-  -- it is stored where it is new and another is missing
-  pub stores :
-      hasBit bits i ≡ false → eqb (withBit bits i) (allBits (lastOf node s)) ≡ false → t .answer .answer ≡ Stored (s .src) (s .auth) (withBit bits i)
-  -- and application keys are tried where the message is handed up
-  pub counts : t .answer .trials ≡ (if isLastMissing bits i (lastOf node s) then applicationPlace node s (s .words) else 0)
+pub record Step (node : Node) (s : Speech) (r : Receiver) (bits i : ℕ) (msg : List ℕ) (t : Lent Taken) : Type 0 where
+  -- it is answered as a segment of these
+  pub answers : SegmentAnswered node s bits i msg (leftTaken node s t)
   -- its place is filled
   pub own : Stage node s (t .answer .receiver .replay) (t .answer .receiver .sessions) (withBit bits i)
   -- another source's stage stays
@@ -69,30 +77,17 @@ pub record Step (node : Node) (s : Speech) (r : Receiver) (bits i : ℕ) (t : Le
       (n : ℕ) (speaker : ℕ → ℕ) (k : ℕ) → k < n → s .src ≡ speaker k → Listed n speaker (r .replay) → Listed n speaker (t .answer .receiver .replay)
   pub cache-stays : t .answer .receiver .cache ≡ r .cache
 
--- a segment that had not come is the last that was missing where all have come with it
-last-missing : (bits i segN : ℕ) → hasBit bits i ≡ false → (all : Bool) → eqb (withBit bits i) (allBits segN) ≡ all → isLastMissing bits i segN ≡ all
-last-missing bits i segN fresh all e = rw fresh e
-
--- what is handed up is no other answer, and its octets are read back
-handed-up : (s : Speech) (ws : Words) (msg : List ℕ) → handedAs (Heard (handUpAs s ws .answer)) (onto (handUpAs s ws .octets) msg) ≡ handUpAs s ws ∷ []
-handed-up s (Access key szmic payload) msg =
-    ap (λ (l : List ℕ). record { answer = handUpAs s (Access key szmic payload) .answer; octets = l } ∷ []) (take-append-seam payload _)
-handed-up s (Control code parameters) msg =
-    ap (λ (l : List ℕ). record { answer = handUpAs s (Control code parameters) .answer; octets = l } ∷ []) (take-append-seam parameters _)
-
 module _ (node : Node) (made : WellMade node) (s : Speech) (w : Speakable node s) (spoken : s .src ≡ 0 → ⊥) where
   module _ (r : Receiver) (same : SameFixed (r .node) node) (g : Good r) (bits i : ℕ) (there : i ≤ lastOf node s) (msg : List ℕ) where
     low : i < 32
     low = let l = last-low node s w in omega arith
 
     -- ---- a repeat
-    again : hasBit bits i ≡ true → Stage node s (r .replay) (r .sessions) bits → (a : Answer) → handedAs (Heard a) msg ≡ []
-        → Step node s r bits i (lent (record { answer = a; trials = 0; receiver = r }) msg)
-    again b st a e =
+    again : hasBit bits i ≡ true → Stage node s (r .replay) (r .sessions) bits
+        → Step node s r bits i msg (lent (record { answer = Repeated (s .src) (s .auth) bits; trials = 0; receiver = r }) msg)
+    again b st =
         record {
-          due = rw b e;
-          stores = λ f _. absurd (true≢false (sym b ∙ f));
-          counts = rw b refl;
+          answers = had-come node s bits i msg _ b (inl refl) refl refl;
           own = rw (with-of-set bits i b) st;
           others = λ o n _ _ k. k;
           sessions-owned = λ n f k h q o. o;
@@ -133,12 +128,10 @@ module _ (node : Node) (made : WellMade node) (s : Speech) (w : Speakable node s
       -- not yet complete
       stored-step :
           eqb filled (allBits (lastOf node s)) ≡ false
-          → Step node s r bits i (lent (record { answer = Stored (s .src) (s .auth) filled; trials = 0; receiver = withSession r slot session }) msg)
+          → Step node s r bits i msg (lent (record { answer = Stored (s .src) (s .auth) filled; trials = 0; receiver = withSession r slot session }) msg)
       stored-step c =
           record {
-            due = rw (last-missing bits i (lastOf node s) fresh false c) refl;
-            stores = λ _ _. refl;
-            counts = rw (last-missing bits i (lastOf node s) fresh false c) refl;
+            answers = is-stored node s bits i msg _ fresh c refl refl refl;
             own =
                 Gathers len bytes some (eqb-false filled (allBits (lastOf node s)) c)
                 (rw (place-set-own (r .sessions) slot session (omega arith) before) within)
@@ -156,12 +149,10 @@ module _ (node : Node) (made : WellMade node) (s : Speech) (w : Speakable node s
 
       up-step :
           eqb filled (allBits (lastOf node s)) ≡ true
-          → Step node s r bits i (handing (withReplay (withSession r slot noSession) (handedUp (r .replay) (s .src) (s .auth) (lastOf node s) (s .dst))))
+          → Step node s r bits i msg (handing (withReplay (withSession r slot noSession) (handedUp (r .replay) (s .src) (s .auth) (lastOf node s) (s .dst))))
       up-step c =
           record {
-            due = rw (last-missing bits i (lastOf node s) fresh true c) (handed-up s (s .words) msg);
-            stores = λ _ f. absurd (true≢false (sym c ∙ f));
-            counts = rw (last-missing bits i (lastOf node s) fresh true c) refl;
+            answers = is-up node s bits i msg _ fresh c refl refl refl;
             own =
                 Done (eqb-true filled (allBits (lastOf node s)) c) (freed-none (r .sessions) slot (keyOf s) long (ne-eqb (s .src) 0 spoken) only)
                 (lookUp-handedUp-new (r .replay) (s .src) (s .auth) (lastOf node s) (s .dst) (g .replay-kept .places) room (unheard .newer));
@@ -173,7 +164,7 @@ module _ (node : Node) (made : WellMade node) (s : Speech) (w : Speakable node s
             cache-stays = refl;
           }
 
-      pub gathered-steps : messageOctets ≤ length msg → Step node s r bits i (segments.gathered r slot session msg)
+      pub gathered-steps : messageOctets ≤ length msg → Step node s r bits i msg (segments.gathered r slot session msg)
       gathered-steps big =
           by-test (eqb filled (allBits (lastOf node s)))
           (λ c.
@@ -181,8 +172,8 @@ module _ (node : Node) (made : WellMade node) (s : Speech) (w : Speakable node s
           let all = subst (λ (b : ℕ). Holds node s b len bytes) full holds in
           let u = session-up node made s w (withSession r slot noSession) same filled len bytes msg big (holds-all node s w len bytes all) in
           let is = gathered-up r slot session msg full ∙ u ∙ ap handing (upgraded-is (withSession r slot noSession) session msg) in
-          subst (Step node s r bits i) (sym is) (up-step c))
-          (λ c. subst (Step node s r bits i) (sym (gathered-stored r slot session msg (eqb-false filled (allBits (lastOf node s)) c))) (stored-step c))
+          subst (Step node s r bits i msg) (sym is) (up-step c))
+          (λ c. subst (Step node s r bits i msg) (sym (gathered-stored r slot session msg (eqb-false filled (allBits (lastOf node s)) c))) (stored-step c))
 
     -- ---- at each stage
     module _ (sent : s .dst ≡ 0 → ⊥) (big : messageOctets ≤ length msg) (seq ttl : ℕ) (room : hasRoom (r .replay) (s .src) ≡ true)
@@ -194,9 +185,10 @@ module _ (node : Node) (made : WellMade node) (s : Speech) (w : Speakable node s
       t = segments.placed r h (segmentAt node s i) msg
 
       repeated :
-          (b : ℕ) → t ≡ lent (record { answer = Repeated (s .src) (s .auth) b; trials = 0; receiver = r }) msg → hasBit bits i ≡ true
-          → Stage node s (r .replay) (r .sessions) bits → Step node s r bits i t
-      repeated b e has st = subst (Step node s r bits i) (sym e) (again has st (Repeated (s .src) (s .auth) b) refl)
+          (b : ℕ) → b ≡ bits → t ≡ lent (record { answer = Repeated (s .src) (s .auth) b; trials = 0; receiver = r }) msg → hasBit bits i ≡ true
+          → Stage node s (r .replay) (r .sessions) bits → Step node s r bits i msg t
+      repeated b same e has st =
+          subst (Step node s r bits i msg) (sym (e ∙ ap (λ (x : ℕ). lent (record { answer = Repeated (s .src) (s .auth) x; trials = 0; receiver = r }) msg) same)) (again has st)
 
       -- the session that stands in a slot is its source's alone
       own-only :
@@ -210,7 +202,7 @@ module _ (node : Node) (made : WellMade node) (s : Speech) (w : Speakable node s
 
       joined :
           (len : ℕ) (bytes : List ℕ) → hasBit bits i ≡ false → Unheard node s (r .replay) → sessionPlace (r .sessions) (keyOf s) < sessionSlots
-          → sessionAt (r .sessions) (sessionPlace (r .sessions) (keyOf s)) ≡ sessionOf node s bits len bytes → Holds node s bits len bytes → Step node s r bits i t
+          → sessionAt (r .sessions) (sessionPlace (r .sessions) (keyOf s)) ≡ sessionOf node s bits len bytes → Holds node s bits len bytes → Step node s r bits i msg t
       unfolding headerOf
       joined len bytes has unheard own held holds =
           let slot = sessionPlace (r .sessions) (keyOf s) in
@@ -218,13 +210,13 @@ module _ (node : Node) (made : WellMade node) (s : Speech) (w : Speakable node s
           let more = holds-more node s w bits len bytes holds i there seq ttl in
           let new = newLen node s w bits len bytes holds i there seq ttl in
           let laid = newBytes node s w bits len bytes holds i there seq ttl in
-          subst (Step node s r bits i) (sym e)
+          subst (Step node s r bits i msg) (sym e)
           (rw (segment-stored node s w bits len bytes holds i there seq ttl)
           (gathered-steps has unheard room slot own (omega arith) (λ j hj q. own-only j hj q own)
           (λ a n z q. n (q ∙ ap sessionKey held)) new laid more big))
 
       opened :
-          bits ≡ 0 → Unheard node s (r .replay) → sessionSlots ≤ sessionPlace (r .sessions) (keyOf s) → Step node s r bits i t
+          bits ≡ 0 → Unheard node s (r .replay) → sessionSlots ≤ sessionPlace (r .sessions) (keyOf s) → Step node s r bits i msg t
       unfolding headerOf
       opened zero unheard out =
           let slot = freePlace (r .sessions) in
@@ -238,20 +230,20 @@ module _ (node : Node) (made : WellMade node) (s : Speech) (w : Speakable node s
           let begins : stored (begun (s .src) (segmentAt node s i)) h i ≡ sessionOf node s (withBit bits i) new laid =
           ap (λ (x : Session). stored x h i) (begun-is (s .src) (segmentAt node s i) ∙ ap (λ (b : ℕ). sessionOf node s b 0 (replicate messageOctets 0)) (sym zero))
           ∙ segment-stored node s w bits 0 (replicate messageOctets 0) holds i there seq ttl in
-          subst (Step node s r bits i) (sym e)
+          subst (Step node s r bits i msg) (sym e)
           (rw begins
           (gathered-steps (rw zero (has-none i)) unheard room slot within (omega arith)
           (λ j hj q. let u = place-upto (r .sessions) (keyOf s) j q in absurd (omega arith))
           (λ a n z q. true≢false (sym (free-slot (r .sessions) (omega arith)) ∙ sym (ap noKey q) ∙ z)) new laid more big))
 
-      pub placed-steps : Stage node s (r .replay) (r .sessions) bits → Step node s r bits i t
+      pub placed-steps : Stage node s (r .replay) (r .sessions) bits → Step node s r bits i msg t
       unfolding headerOf
-      placed-steps (Silent b p e) = opened b e p
+      placed-steps (Silent b p u n) = opened b u p
       placed-steps (Gathers len bytes z m p held k e) =
           by-test (hasBit bits i)
           (λ has.
-          repeated bits (placed-repeat r h msg (segmentAt node s i) (e .other) room (sessionOf node s bits len bytes) p held refl refl has) has (Gathers len bytes z m p held k e))
+          repeated bits refl (placed-repeat r h msg (segmentAt node s i) (e .other) room (sessionOf node s bits len bytes) p held refl refl has) has (Gathers len bytes z m p held k e))
           (λ has. joined len bytes has e p held k)
       placed-steps (Done b p e) =
           let has = ap (λ (x : ℕ). hasBit x i) b ∙ has-all (lastOf node s) i there low in
-          repeated (allBits (lastOf node s)) (placed-last r h msg (segmentAt node s i) sent (ap (λ (x : Entry). x .last) e)) has (Done b p e)
+          repeated (allBits (lastOf node s)) (sym b) (placed-last r h msg (segmentAt node s i) sent (ap (λ (x : Entry). x .last) e)) has (Done b p e)

@@ -1,9 +1,10 @@
 -- A message that went whole, heard by a fresh receiver: its PDU opens to the header that was sealed, nothing is in the cache or the replay list, and the form is the one that was written.
--- Assumes nothing.
---   access-heard, control-heard   what is handed up
+-- Behind it the cache has the PDU. Assumes nothing.
+--   HandsUp                       what is handed up, counted and remembered
+--   access-heard, control-heard   of an access and of a control message
 use mathlib.Core.Bool.{Bool, true}
 use mathlib.Core.List.{List, [], _∷_}
-use mathlib.Core.Path.{_≡_, refl, ap, _∙_}
+use mathlib.Core.Path.{_≡_, refl, sym, ap, _∙_, subst}
 use Prim.Native.Nat.{ℕ, _+_, _≤_}
 use lib.ListN.{length, drop}
 use lib.Seq.{take-append-seam}
@@ -22,16 +23,20 @@ use Rattle.transport.specs.declared.securing.Opened.the-variants.{Message}
 use Rattle.transport.specs.Form.{formOf}
 use Rattle.transport.specs.Securing.{unsecuring}
 use Rattle.transport.specs.Segment.{messageOctets}
-use Rattle.memory.specs.Cache.{remembered}
+use Rattle.memory.specs.Cache.{seenOf, seen, remembered}
+use Rattle.memory.proofs.CacheLaws.{seen-new}
 use Rattle.node.specs.declared.setup.Setup.{Setup}
 use Rattle.node.specs.Addresses.{forNode}
 use Rattle.receiver.specs.declared.answer.Answer.the-variants as answer
 use Rattle.receiver.specs.declared.answer.Taken.{Taken}
+use Rattle.receiver.specs.declared.fresh.Answer.the-variants.{Ready}
 use Rattle.receiver.specs.declared.state.Receiver.{Receiver}
+use Rattle.receiver.specs.Fresh.{settingUp}
 use Rattle.receiver.specs.Hearing.{takenAs}
 use Rattle.receiver.specs.State.{withCache}
 use Rattle.receiver.specs.Whole as whole
-use Rattle.receiver.proofs.Laws.Form.{taken-access, taken-control}
+use Rattle.receiver.proofs.Good.{good-fresh}
+use Rattle.receiver.proofs.Laws.Form.{taken-access, taken-control, admitted-is}
 use Rattle.receiver.proofs.Laws.Fresh.{fresh-unseen, fresh-admits}
 use Rattle.receiver.proofs.Laws.Heard.{heard-new}
 use Rattle.demands.specs.Call.{Hear, Heard, Tried, step}
@@ -39,11 +44,13 @@ use Rattle.demands.specs.Interleaved.{start, nodeOf, handedAs, handed}
 use Rattle.demands.specs.Speech.{Handed}
 
 -- what a fresh receiver hands up of one PDU, and the keys that it counts
-pub record Reads (setup : Setup) (pdu fwd msg : List ℕ) (m : Handed) (n : Tried) : Type 0 where
+pub record HandsUp (setup : Setup) (h : Header) (pdu fwd msg : List ℕ) (m : Handed) (n : Tried) : Type 0 where
   pub hands : handed (step (start setup) (Hear pdu fwd msg)) ≡ m ∷ []
   pub counts : step (start setup) (Hear pdu fwd msg) .tried ≡ n
+  -- its header is in the cache
+  pub caches : (k : Header) → seenOf k ≡ seenOf h → seen (step (start setup) (Hear pdu fwd msg) .receiver .cache) k ≡ true
 
-module _ (setup : Setup) (h : Header) (sealed : sealable (keyAt (nodeOf setup .materials) (h .key)) h ≡ true) (formed : Formed h)
+module _ (setup : Setup) (ready : settingUp setup .answer ≡ Ready) (h : Header) (sealed : sealable (keyAt (nodeOf setup .materials) (h .key)) h ≡ true) (formed : Formed h)
     (receives : Receives (nodeOf setup .materials) (nodeOf setup .networks) (nodeOf setup .iv) h (pduOf (keyAt (nodeOf setup .materials) (h .key)) h))
     (spoken : h .src ≡ 0 → ⊥) (here : forNode (nodeOf setup) (h .dst) ≡ true) (fwd msg : List ℕ) (wide : pduOctets ≤ length fwd) (big : messageOctets ≤ length msg) where
   abbrev pdu : List ℕ
@@ -61,13 +68,19 @@ module _ (setup : Setup) (h : Header) (sealed : sealable (keyAt (nodeOf setup .m
   record Whole (t : Lent Taken) : Type 0 where
     hands-as : handed (step (start setup) (Hear pdu fwd msg)) ≡ handedAs (Heard (t .answer .answer)) (t .buffer)
     tried-as : step (start setup) (Hear pdu fwd msg) .tried ≡ record { network = place; application = t .answer .trials }
+    left-as : step (start setup) (Hear pdu fwd msg) .receiver ≡ t .answer .receiver
 
   heard-whole : (t : Lent Taken) → takenAs (formOf h) q h msg ≡ t → Whole t
   heard-whole t e =
       let l = heard-new (start setup) pdu fwd msg wide big h place (open-seal (nodeOf setup .materials) (nodeOf setup .networks) (nodeOf setup .iv) h sealed formed receives)
       (fresh-unseen setup h spoken) here
       t e in
-      record { hands-as = rw (l .answers, l .message-is) refl; tried-as = rw (l .network-is, l .application-is) refl }
+      record { hands-as = rw (l .answers, l .message-is) refl; tried-as = rw (l .network-is, l .application-is) refl; left-as = l .left-is }
+
+  -- an admitted message leaves the cache with its PDU
+  cached-by : step (start setup) (Hear pdu fwd msg) .receiver ≡ whole.admitted q h → (k : Header) → seenOf k ≡ seenOf h → seen (step (start setup) (Hear pdu fwd msg) .receiver .cache) k ≡ true
+  cached-by e k same =
+      subst (λ (r : Receiver). seen (r .cache) k ≡ true) (sym (e ∙ admitted-is q h msg)) (seen-new (start setup .cache) h (good-fresh setup ready .cache-places) k same)
 
   -- ---- an access message
   pub access-heard :
@@ -75,7 +88,7 @@ module _ (setup : Setup) (h : Header) (sealed : sealable (keyAt (nodeOf setup .m
       → (let node = nodeOf setup in
       unsecuring (node .appkeys) (node .applications) (node .device) (whole.wholeEnvelope h akf aid) (drop 1 (transportOf h)) msg
       ≡ lent (Message key trials (length payload)) (onto payload msg))
-      → Reads setup pdu fwd msg (record { answer = answer.Access (h .src) (h .dst) (h .key) key (whole.pairOf h) (length payload); octets = payload })
+      → HandsUp setup h pdu fwd msg (record { answer = answer.Access (h .src) (h .dst) (h .key) key (whole.pairOf h) (length payload); octets = payload })
       (record { network = place; application = trials })
   access-heard akf aid trials key payload f u =
       let x = heard-whole _ (taken-access q h msg akf aid trials (length payload) key (onto payload msg) f (fresh-admits setup h) u) in
@@ -84,12 +97,13 @@ module _ (setup : Setup) (h : Header) (sealed : sealable (keyAt (nodeOf setup .m
             x .hands-as
             ∙ ap (λ (l : List ℕ). record { answer = answer.Access (h .src) (h .dst) (h .key) key (whole.pairOf h) (length payload); octets = l } ∷ []) (take-append-seam payload _);
         counts = x .tried-as;
+        caches = cached-by (x .left-as);
       }
 
   -- ---- a control message
   pub control-heard :
       (code : ℕ) (parameters : List ℕ) → formOf h ≡ form.Control code → drop 1 (transportOf h) ≡ parameters
-      → Reads setup pdu fwd msg (record { answer = answer.Control (h .src) (h .dst) (h .key) code (whole.pairOf h) (length parameters); octets = parameters })
+      → HandsUp setup h pdu fwd msg (record { answer = answer.Control (h .src) (h .dst) (h .key) code (whole.pairOf h) (length parameters); octets = parameters })
       (record { network = place; application = 0 })
   control-heard code parameters f m =
       let x = heard-whole _ (taken-control q h msg code parameters f (fresh-admits setup h) m) in
@@ -98,4 +112,5 @@ module _ (setup : Setup) (h : Header) (sealed : sealable (keyAt (nodeOf setup .m
             x .hands-as
             ∙ ap (λ (l : List ℕ). record { answer = answer.Control (h .src) (h .dst) (h .key) code (whole.pairOf h) (length parameters); octets = l } ∷ []) (take-append-seam parameters _);
         counts = x .tried-as;
+        caches = cached-by (x .left-as);
       }

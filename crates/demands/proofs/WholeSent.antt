@@ -29,11 +29,13 @@ use Rattle.node.specs.declared.addresses.Node.{Node}
 use Rattle.node.specs.declared.setup.Setup.{Setup}
 use Rattle.node.specs.Addresses.{forNode}
 use Rattle.node.specs.Made.{WellMade}
+use Rattle.receiver.specs.declared.fresh.Answer.the-variants.{Ready}
+use Rattle.receiver.specs.Fresh.{settingUp}
 use Rattle.demands.specs.Interleaved.{nodeOf}
 use Rattle.demands.specs.Speech.{Words, Access, Control, Speech, keyOf, aidOf, akfOf, envelopeOf, octetsOf, WordsRead, handUp, networkPlace, applicationPlace}
 use Rattle.demands.proofs.SpeechCut.{cut-is}
 use Rattle.demands.proofs.SpeechMessage.{message-opens}
-use Rattle.demands.proofs.WholeHeard.{Reads, access-heard, control-heard}
+use Rattle.demands.proofs.WholeHeard.{HandsUp, access-heard, control-heard}
 
 -- the header of a speech that goes in one PDU: its pair is the PDU's own
 abbrev pub wholeHeader : Speech → Bool → ℕ → List ℕ → Header
@@ -60,14 +62,14 @@ pub record Passes (setup : Setup) (s : Speech) (h : Header) (fwd msg : List ℕ)
   pub wide : pduOctets ≤ length fwd
   pub big : messageOctets ≤ length msg
 
-module _ (setup : Setup) (s : Speech) (ttl : ℕ) (fwd msg : List ℕ) where
+module _ (setup : Setup) (ready : settingUp setup .answer ≡ Ready) (s : Speech) (ttl : ℕ) (fwd msg : List ℕ) where
   abbrev node : Node
   node = nodeOf setup
 
   -- the message is handed up, each of its keys tried at its place
   abbrev pub Heard : Header → Type 0
   Heard h =
-      Reads setup (pduOf (keyAt (node .materials) (s .network)) h) fwd msg (handUp s)
+      HandsUp setup h (pduOf (keyAt (node .materials) (s .network)) h) fwd msg (handUp s)
       (record { network = networkPlace node s; application = applicationPlace node s (s .words) })
 
   -- ---- a transport PDU in its header
@@ -78,7 +80,7 @@ module _ (setup : Setup) (s : Speech) (ttl : ℕ) (fwd msg : List ℕ) where
     transport-is : transportOf h ≡ first ∷ body
     transport-is = take-padded 16 (first ∷ body) short
 
-    formed : s .dst < 65536 → Formed h
+    pub formed : s .dst < 65536 → Formed h
     formed d = record { dst-fits = d; zeros-behind = ap (padded 16) transport-is }
 
     carries : Carries h ctl (first ∷ [])
@@ -96,7 +98,7 @@ module _ (setup : Setup) (s : Speech) (ttl : ℕ) (fwd msg : List ℕ) where
       let first = controlOctet false code in
       let h = wholeHeader s true ttl (first ∷ parameters) in
       rw e
-      (control-heard setup h (p .can) (formed true first parameters short (p .dst-fits)) (p .receives) (p .spoken) (p .here) fwd msg (p .wide) (p .big) code parameters
+      (control-heard setup ready h (p .can) (formed true first parameters short (p .dst-fits)) (p .receives) (p .spoken) (p .here) fwd msg (p .wide) (p .big) code parameters
       (control-reads-back h code (carries true first parameters short) o) (body-is true first parameters short))
 
   -- ---- access
@@ -140,11 +142,12 @@ module _ (setup : Setup) (s : Speech) (ttl : ℕ) (fwd msg : List ℕ) where
         let some = read-some key read in
         let l = octets-long in
         let x =
-        access-heard setup h (p .can) (formed false octet secured-octets fits-one (p .dst-fits)) (p .receives) (p .spoken) (p .here) fwd msg (p .wide) (p .big)
+        access-heard setup ready h (p .can) (formed false octet secured-octets fits-one (p .dst-fits)) (p .receives) (p .spoken) (p .here) fwd msg (p .wide) (p .big)
         (akfOf key) (aidOf node key) (applicationPlace node s (Access key false payload)) key payload
         (access-reads-back h (akfOf key) (aidOf node key) (carries false octet secured-octets fits-one) range (omega arith))
         (rw (body-is false octet secured-octets fits-one) (o .opens-to)) in
         record {
           hands = x .hands ∙ rw e refl;
           counts = x .counts ∙ ap (λ (w : Words). record { network = networkPlace node s; application = applicationPlace node s w }) (sym e);
+          caches = x .caches;
         }

@@ -1,5 +1,7 @@
 -- The receiver's public calls, what each leaves, and a run of them: what the theorems about lists of calls speak of.
 --   Call         one call, with what it is given and the buffers that it is lent
+--   lentFor c    the buffer that it is lent for a PDU
+--   messageFor c the buffer that it is lent for a message
 --   Outcome      what a call leaves: the new state, its answer, the lent buffers, the PDU that it made, the keys tried
 --   step r c     what call c leaves of receiver r
 --   run r l      what each call of a list leaves
@@ -36,6 +38,26 @@ pub data Call : Type 0 where
   SendSegment : (n : ℕ) (buf : List ℕ) → Call
   Acknowledge : (net src : ℕ) (buf : List ℕ) → Call
   Stop : Call
+
+-- the buffer that a call is lent for a PDU; empty where it is lent none
+abbrev pub lentFor : Call → List ℕ
+lentFor (Hear pdu fwd msg) = fwd
+lentFor (GiveUp src) = []
+lentFor (SendAccess q key szmic payload buf) = buf
+lentFor (SendControl q opcode parameters buf) = buf
+lentFor (SendSegment n buf) = buf
+lentFor (Acknowledge net src buf) = buf
+lentFor Stop = []
+
+-- and for a message
+abbrev pub messageFor : Call → List ℕ
+messageFor (Hear pdu fwd msg) = msg
+messageFor (GiveUp src) = []
+messageFor (SendAccess q key szmic payload buf) = []
+messageFor (SendControl q opcode parameters buf) = []
+messageFor (SendSegment n buf) = []
+messageFor (Acknowledge net src buf) = []
+messageFor Stop = []
 
 -- ---- what a call leaves
 -- what it answers, by the kind of call

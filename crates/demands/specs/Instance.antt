@@ -1,13 +1,14 @@
 -- Premises are met: a scene of two speakers for demand 3, a message that is sent and read back for demand 2, and a PDU that is forwarded. Keys are those of MP's sample data.
 --   shed                the receiver's setup: one network key, one application key, one element
---   boxes, traffic      two boxes' messages, their segments interleaved, with repeats, a PDU that no key opens and a request to acknowledge
+--   boxes, traffic      two boxes' messages, their segments interleaved, with repeats, a PDU that no key opens, a request to acknowledge and a message of the shed's own
 --   SceneMet            all premises of demand 3 hold of it
---   SendingMet          all premises of demand 2 hold of a box's report to the shed
+--   AcknowledgementMet  those of `AcknowledgementRead` besides, where the first box hears the acknowledgement
+--   SendingMet          all premises of demand 2 hold of a box's report to the shed, sent in full and heard out of order, with a repeat, a relay's copies and a PDU that no key opens
 --   ForwardingMet       all premises of `Forwards` hold of a PDU that one box sends another past the shed, and it is forwarded
 use mathlib.Core.Bool.{true, false}
-use mathlib.Core.List.{List, [], _∷_}
+use mathlib.Core.List.{List, [], _∷_, _++_}
 use mathlib.Core.Path.{_≡_}
-use Prim.Native.Nat.{ℕ}
+use Prim.Native.Nat.{ℕ, _≤_}
 use lib.ListN.{replicate}
 use Rattle.common.specs.Lists.{padded, Octets}
 use Rattle.network.specs.declared.header.Header.{Header}
@@ -19,12 +20,16 @@ use Rattle.transport.specs.Segment.{messageOctets}
 use Rattle.node.specs.declared.setup.Setup.{Setup}
 use Rattle.node.specs.Addresses.{isLocal}
 use Rattle.node.specs.Setup.{nothing, withNetworkKey, withApplicationKey, withDeviceKey, withElements, withIndex}
+use Rattle.receiver.specs.declared.state.Receiver.{Receiver}
 use Rattle.receiver.specs.Good.{Good}
 use Rattle.sending.specs.declared.request.Request.{Request}
 use Rattle.sending.specs.declared.request.Ttl.the-variants.{Unnamed}
+use Rattle.demands.specs.Acknowledged.{Speaker, Hears}
+use Rattle.demands.specs.Call.{Call, SendAccess, Acknowledge, Outcome, step}
 use Rattle.demands.specs.Forwarding.{Passes}
-use Rattle.demands.specs.Interleaved.{Event, Segment, Foreign, Ask, Arrival, start, nodeOf, Scene, AllCome}
-use Rattle.demands.specs.ReadBack.{Sending}
+use Rattle.demands.specs.GoesOut.{restOf}
+use Rattle.demands.specs.Interleaved.{Event, Segment, Foreign, Ask, Own, Arrival, start, nodeOf, Scene, AllCome, behind, AskedOf}
+use Rattle.demands.specs.ReadBack.{sayCall, pduMade, madeOf, segNAs, Incoming, Made, Relayed, Unopened, Hearing, brings, Telling}
 use Rattle.demands.specs.Speech.{Words, Access, Control, Speech}
 
 abbrev pub networkKey : List ℕ
@@ -36,11 +41,15 @@ applicationKey = 0x63 ∷ 0x96 ∷ 0x47 ∷ 0x71 ∷ 0x73 ∷ 0x4f ∷ 0xbd ∷ 
 abbrev pub deviceKey : List ℕ
 deviceKey = 0x9d ∷ 0x6d ∷ 0xd0 ∷ 0xe9 ∷ 0x6e ∷ 0xb2 ∷ 0x5d ∷ 0xc1 ∷ 0x9a ∷ 0x40 ∷ 0xed ∷ 0x99 ∷ 0x14 ∷ 0xf8 ∷ 0xf0 ∷ 0x3f ∷ []
 
--- the node of one element at an address, which has sent nothing yet
-abbrev pub nodeAt : ℕ → Setup
-nodeAt address =
+-- the node of one element at an address, with its next SEQ
+abbrev pub nodeFrom : (address next : ℕ) → Setup
+nodeFrom address next =
     let keyed = withDeviceKey (withApplicationKey (withNetworkKey nothing networkKey) 0 applicationKey) deviceKey in
-    withIndex (withElements keyed address 1 (replicate 8 0)) 0x12345678 false true
+    withIndex (withElements keyed address 1 (next ∷ replicate 7 0)) 0x12345678 false true
+
+-- one that has sent nothing yet
+abbrev pub nodeAt : ℕ → Setup
+nodeAt address = nodeFrom address 0
 
 abbrev pub shed : Setup
 shed = nodeAt 0x0001
@@ -61,19 +70,31 @@ boxes = humidity ∷ temperature ∷ []
 abbrev pub arrival : Event → Arrival
 arrival e = record { event = e; forward = replicate pduOctets 0; message = replicate messageOctets 0 }
 
-abbrev pub traffic : List Arrival
-traffic =
+-- the shed sends the first box eight octets under the application key, in one PDU
+abbrev pub order : Call
+order = SendAccess (record { element = 0; dst = 0x0002; ttl = Unnamed; network = 0 }) (Application 0) false (replicate 8 0x21) (replicate pduOctets 0)
+
+-- what comes before the request to acknowledge, and behind it
+abbrev pub soFar : List Arrival
+soFar =
     arrival (Segment 0 1 0x000101 5)
     ∷ arrival (Foreign (0x68 ∷ []))
     ∷ arrival (Segment 1 0 0x000200 7)
     -- the same PDU again, with another TTL
     ∷ arrival (Segment 0 1 0x000101 4)
-    ∷ arrival (Ask 0 0x0002)
+    ∷ []
+
+abbrev pub behindIt : List Arrival
+behindIt =
+    arrival (Own order)
     ∷ arrival (Segment 1 1 0x000201 7)
     -- segment 0, lost before; and once more under a new number
     ∷ arrival (Segment 0 0 0x000102 5)
     ∷ arrival (Segment 0 0 0x000103 5)
     ∷ []
+
+abbrev pub traffic : List Arrival
+traffic = soFar ++ arrival (Ask 0 0x0002) ∷ behindIt
 
 abbrev pub SceneMet : Type 0
 SceneMet = Scene shed boxes traffic × AllCome shed boxes traffic
@@ -89,8 +110,41 @@ toShed = record { element = 0; dst = 0x0001; ttl = Unnamed; network = 0 }
 abbrev pub report : Words
 report = Access (Application 0) true (replicate 20 0x5a)
 
+abbrev pub lentPdu : List ℕ
+lentPdu = replicate pduOctets 0
+
+-- the shed hears its last segment first, a PDU that no key opens, segment 0 from a relay, the last once more, and segment 1
+abbrev pub hearing : Incoming → Hearing
+hearing w = record { what = w; forward = lentPdu; message = replicate messageOctets 0 }
+
+abbrev pub overheard : List Hearing
+overheard = hearing (Made 2) ∷ hearing (Unopened (0x68 ∷ [])) ∷ hearing (Relayed 0 6) ∷ hearing (Relayed 2 5) ∷ hearing (Made 1) ∷ []
+
 abbrev pub SendingMet : Type 0
-SendingMet = Sending (start bench) shed toShed report (replicate pduOctets 0)
+SendingMet =
+    (let calls = restOf (start bench) toShed report lentPdu in
+    Telling (start bench) shed toShed report lentPdu calls overheard
+    -- and each segment comes
+    × ((i : ℕ) → i ≤ segNAs (step (start bench) (sayCall toShed report lentPdu) .answer) → brings (madeOf (start bench) toShed report lentPdu calls) i overheard ≡ true))
+
+-- ---- an acknowledgement that is read
+-- the first box has begun its message with SEQ 0x000100, and keeps it
+abbrev pub box : Setup
+box = nodeFrom 0x0002 0x000100
+
+abbrev pub speaking : Receiver
+speaking = step (start box) (SendAccess toShed (Application 0) false (replicate 20 0x5a) (replicate pduOctets 0)) .receiver
+
+-- the shed acknowledges the segments come so far, and the box hears it
+abbrev pub acknowledgement : Outcome
+acknowledgement = step (behind shed boxes soFar) (Acknowledge 0 0x0002 (replicate pduOctets 0))
+
+abbrev pub AcknowledgementMet : Type 0
+AcknowledgementMet =
+    AskedOf (nodeOf shed) boxes soFar 0 0x0002 0
+    × (acknowledgement .made ≡ true)
+    × Speaker speaking (nodeOf shed) humidity
+    × Hears speaking (nodeOf shed) 0 (pduMade acknowledgement) (replicate pduOctets 0) (replicate messageOctets 0)
 
 -- ---- forwarding
 -- one box sends another a control message of three parameters, TTL 5; the shed, whose relay is on, hears it

@@ -20,7 +20,7 @@ use Rattle.receiver.specs.Good.{Good}
 use Rattle.sending.specs.Acknowledge.{chosen}
 use Rattle.sending.specs.Segment.{elementOf}
 use Rattle.sending.specs.Transmission.{sendingIv, addressOf, nextSeq}
-use Rattle.demands.specs.Call.{Call, Hear, GiveUp, SendAccess, SendControl, SendSegment, Acknowledge, Stop, step}
+use Rattle.demands.specs.Call.{Call, Hear, GiveUp, SendAccess, SendControl, SendSegment, Acknowledge, Stop, lentFor, step}
 
 -- an element, by its number, an IV Index, and a sequence number of the element
 pub record Use : Type 0 where
@@ -59,16 +59,6 @@ uses r [] = []
 uses r (c ∷ l) = used r c ++ uses (step r c .receiver) l
 
 -- ---- what is used is what is sent
--- the buffer that a call is lent for a PDU that it makes
-abbrev pub lentFor : Call → List ℕ
-lentFor (Hear pdu fwd msg) = []
-lentFor (GiveUp src) = []
-lentFor (SendAccess q key szmic payload buf) = buf
-lentFor (SendControl q opcode parameters buf) = buf
-lentFor (SendSegment n buf) = buf
-lentFor (Acknowledge net src buf) = buf
-lentFor Stop = []
-
 -- the PDU was sealed from a header with the speaker's address and next SEQ, under the IV Index that is sent with, and what sealing left is what the call leaves
 pub record Carries (r : Receiver) (c : Call) : Type 0 where
   pub header : Header

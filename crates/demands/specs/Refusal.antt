@@ -1,58 +1,51 @@
--- Demand 1, of hearing: a refusal carries its number and leaves the message buffer untouched; each leaves what document 01's table says and
--- no more; a PDU that no key opens changes nothing. For every receiver, not only those that setup makes, and all octets.
---   isRefused a          the answer is a refusal
---   Untouched r .. o     receiver and both buffers are what they were
---   Leaves q msg a ..    what an answer behind the cache may leave
-use mathlib.Core.Bool.{Bool, true, false, _||_}
+-- Demand 1: a refusal carries its number and leaves the message buffer untouched; each leaves what document 01's table says and no more; a PDU that no
+-- key opens changes nothing. For every receiver, not only those that setup makes, and all octets.
+--   isRefused a                   the answer is a refusal
+--   Untouched r pdu message o     receiver and both buffers are what they were
+--   Behind r h fwd n o            what a refusal behind the cache leaves
+use mathlib.Core.Bool.{Bool, true, false, _&&_, _||_}
 use mathlib.Core.List.{List}
-use mathlib.Core.Logic.{_⊎_}
 use mathlib.Core.Path.{_≡_}
 use Prim.Native.Nat.{ℕ}
 use lib.Dec.{eqb, leb}
+use Rattle.common.specs.Choice.{if_then_else_}
+use Rattle.common.specs.Lent.{lent}
 use Rattle.network.specs.declared.header.Header.{Header}
 use Rattle.network.specs.declared.opening.Answer as opening-answer
 use Rattle.network.specs.declared.opening.Answer.the-variants as network
 use Rattle.network.specs.Opening.{opening}
+use Rattle.transport.specs.Form.{formOf, isSegment}
 use Rattle.memory.specs.Cache.{remembered}
-use Rattle.memory.specs.Session.{noSession}
-use Rattle.receiver.specs.declared.answer.Answer.{Answer}
-use Rattle.receiver.specs.declared.answer.Answer.the-variants.{Refused, Stored, Repeated, Access, Control, Acknowledgement}
-use Rattle.receiver.specs.declared.answer.Refusal.{Refusal}
-use Rattle.receiver.specs.declared.answer.Refusal.the-variants.{ShortBuffer, WrongLength, NoCandidate, NotAuthentic, WrongAddress, Cached, NotForNode, WrongForm, NoSeqAuth, Replayed, Differs, NoEntryLeft, NoSlotLeft, NotOpened, OutsideRules, NoSeqLeft}
+use Rattle.memory.specs.Session.{noSession, slotFor}
 use Rattle.receiver.specs.declared.state.Receiver.{Receiver}
-use Rattle.receiver.specs.Answer.{refusalNumber}
-use Rattle.receiver.specs.Hearing.{Outcome, relayed, hearing}
+use Rattle.receiver.specs.Hearing.{relayed, hearing}
 use Rattle.receiver.specs.State.{withCache, withSession}
+use Rattle.demands.specs.Answers.{numberOf}
+use Rattle.demands.specs.Call.{Call, lentFor, messageFor, Answer, Outcome, leftHeard, step}
 
--- the answer is a refusal
+-- the answer is a refusal: it has a number
 abbrev pub isRefused : Answer → Bool
-isRefused (Refused n) = true
-isRefused (Stored src auth bits) = false
-isRefused (Repeated src auth bits) = false
-isRefused (Access src dst net key pair len) = false
-isRefused (Control src dst net opcode pair len) = false
-isRefused (Acknowledgement src bits effect) = false
+isRefused a = leb 1 (numberOf a)
 
--- receiver and both buffers are what they were, and nothing was forwarded
-pub record Untouched (r : Receiver) (fwd msg : List ℕ) (o : Outcome) : Type 0 where
-  pub receiver-stays : o .heard .receiver ≡ r
-  pub forward-stays : o .forward ≡ fwd
-  pub message-stays : o .message ≡ msg
-  pub none-forwarded : o .heard .forwarded ≡ 0
+-- receiver and both buffers are what they were, and no PDU was made or forwarded
+pub record Untouched (r : Receiver) (pdu message : List ℕ) (o : Outcome) : Type 0 where
+  pub receiver-stays : o .receiver ≡ r
+  pub pdu-stays : o .pdu ≡ pdu
+  pub message-stays : o .message ≡ message
+  pub none-made : o .made ≡ false
+  pub no-octets : o .octets ≡ 0
 
 -- a refusal leaves the message buffer untouched
 abbrev pub MessageStays : Type 0
-MessageStays =
-    (r : Receiver) (pdu fwd msg : List ℕ) → isRefused (hearing r pdu fwd msg .heard .answer) ≡ true → hearing r pdu fwd msg .message ≡ msg
+MessageStays = (r : Receiver) (c : Call) → isRefused (step r c .answer) ≡ true → step r c .message ≡ messageFor c
 
--- refusals 16 and 1 to 5 leave everything
-abbrev pub leavesEverything : Refusal → Bool
-leavesEverything n = eqb (refusalNumber n) 16 || leb (refusalNumber n) 5
+-- refusals 16, 1 to 5, 14 and 15 leave everything
+abbrev pub leavesEverything : ℕ → Bool
+leavesEverything n = leb 1 n && (leb 14 n || leb n 5)
 
-abbrev pub EarlyLeaves : Type 0
-EarlyLeaves =
-    (r : Receiver) (pdu fwd msg : List ℕ) (n : Refusal) → hearing r pdu fwd msg .heard .answer ≡ Refused n → leavesEverything n ≡ true
-    → Untouched r fwd msg (hearing r pdu fwd msg)
+-- so does every call that is refused one of them
+abbrev pub EverythingStays : Type 0
+EverythingStays = (r : Receiver) (c : Call) → leavesEverything (numberOf (step r c .answer)) ≡ true → Untouched r (lentFor c) (messageFor c) (step r c)
 
 -- no key opens a PDU: refusals 1, 2 and 3 of its opening
 abbrev pub noKeyOpens : opening-answer.Answer → Bool
@@ -66,34 +59,29 @@ noKeyOpens network.WrongAddress = false
 abbrev pub UnopenedLeaves : Type 0
 UnopenedLeaves =
     (r : Receiver) (pdu fwd msg : List ℕ) → noKeyOpens (opening (r .node .materials) (r .node .networks) (r .node .iv) pdu .answer) ≡ true
-    → Untouched r fwd msg (hearing r pdu fwd msg)
+    → Untouched r fwd msg (leftHeard (hearing r pdu fwd msg))
 
+-- ---- behind the cache
 -- the receiver with the PDU of a header in its cache
 abbrev pub cached : Receiver → Header → Receiver
 cached r h = withCache r (remembered (r .cache) h)
 
--- what refusals 6 to 13 leave of the receiver q that has cached the PDU: it, and of 13 perhaps with a completed session freed
-abbrev pub LeavesOf : Receiver → Receiver → Refusal → Type 0
-LeavesOf q left NotOpened = (left ≡ q) ⊎ ((slot : ℕ) × (left ≡ withSession q slot noSession))
-LeavesOf q left ShortBuffer = left ≡ q
-LeavesOf q left WrongLength = left ≡ q
-LeavesOf q left NoCandidate = left ≡ q
-LeavesOf q left NotAuthentic = left ≡ q
-LeavesOf q left WrongAddress = left ≡ q
-LeavesOf q left Cached = left ≡ q
-LeavesOf q left NotForNode = left ≡ q
-LeavesOf q left WrongForm = left ≡ q
-LeavesOf q left NoSeqAuth = left ≡ q
-LeavesOf q left Replayed = left ≡ q
-LeavesOf q left Differs = left ≡ q
-LeavesOf q left NoEntryLeft = left ≡ q
-LeavesOf q left NoSlotLeft = left ≡ q
-LeavesOf q left OutsideRules = left ≡ q
-LeavesOf q left NoSeqLeft = left ≡ q
+-- what refusal n leaves of the receiver q that has cached the PDU: it; 13 of a segment frees the completed session, its source's own or the one that this segment opened
+abbrev pub leftBehind : Receiver → Header → ℕ → Receiver
+leftBehind q h n =
+    if eqb n 13 && isSegment (formOf h) then withSession q (slotFor (q .sessions) (record { src = h .src })) noSession else
+    q
 
--- refusals 6 to 13: the PDU is cached, and perhaps forwarded; nothing else but that
+-- cached, perhaps forwarded: so many octets of the forward buffer
+pub record Behind (r : Receiver) (h : Header) (fwd : List ℕ) (n : ℕ) (o : Outcome) : Type 0 where
+  pub receiver-left : o .receiver ≡ leftBehind (cached r h) h n
+  pub forwarded-as : lent (o .octets) (o .pdu) ≡ relayed (r .node) h fwd
+
+-- refusals 6 to 13 leave that, and nothing else
 abbrev pub LateLeaves : Type 0
 LateLeaves =
-    (r : Receiver) (pdu fwd msg : List ℕ) (n : Refusal) → hearing r pdu fwd msg .heard .answer ≡ Refused n → leavesEverything n ≡ false
-    → (let h = opening (r .node .materials) (r .node .networks) (r .node .iv) pdu .header in
-    LeavesOf (cached r h) (hearing r pdu fwd msg .heard .receiver) n × (hearing r pdu fwd msg .forward ≡ relayed (r .node) h fwd .buffer))
+    (r : Receiver) (pdu fwd msg : List ℕ)
+    → (let o = leftHeard (hearing r pdu fwd msg) in
+    let n = numberOf (o .answer) in
+    let h = opening (r .node .materials) (r .node .networks) (r .node .iv) pdu .header in
+    leb 6 n && leb n 13 ≡ true → Behind r h fwd n o)

@@ -1,11 +1,14 @@
 -- What becomes of a segment, from the code's tests: each decision follows from the tests before it.
 -- Assumes nothing.
 use mathlib.Core.Bool.{Bool, true, false, not}
-use mathlib.Core.List.{List}
-use mathlib.Core.Path.{_≡_}
-use Prim.Native.Nat.{ℕ, _≤_, _<_}
+use mathlib.Core.List.{List, [], _∷_}
+use mathlib.Core.Path.{_≡_, refl}
+use Prim.Native.Nat.{ℕ, _-_, _≤_, _<_}
 use borrow.Author.Tests.{not-true, not-false, lt-ltb, le-ltb}
+use lib.ListN.{getD}
 use Rattle.common.specs.Bits.{hasBit, allBits}
+use Rattle.common.specs.Paper.{Paper, Refusal, Given}
+use Rattle.common.proofs.PaperLaws.{told-apart}
 use Rattle.memory.specs.declared.pair.Pair.{Pair}
 use Rattle.memory.specs.declared.replay.Entry.{Entry}
 use Rattle.memory.specs.declared.session.Segment.{Segment}
@@ -16,7 +19,7 @@ use Rattle.memory.specs.declared.decision.Decision.the-variants.{Repeat,
 use Rattle.memory.specs.Pair.{newer, samePair}
 use Rattle.memory.specs.Replay.{lookUp, stale, hasRoom, isLast}
 use Rattle.memory.specs.Session.{sessionSlots, sessionAt, segmentKey, sessionPlace, freePlace, sameTerms}
-use Rattle.memory.specs.Decision.{joining, replacing, opening, decision}
+use Rattle.memory.specs.Decision.{Word, repeats, joins, opens, paper, PaperApart, joining, replacing, opening, decision}
 
 -- ---- it joins
 module _ (s : Session) (own : ℕ) (room : Bool) (seg : Segment) (t : Bool) (e : t ≡ sameTerms (s .terms) (seg .terms)) where
@@ -106,3 +109,22 @@ module _ (replay : List Entry) (sessions : List Session) (src : ℕ) (seg : Segm
       of-none h2 {free} f q = rw (← ee, ← eb, h1, ← ek, ← eo, le-ltb own sessionSlots h2, ← er, ← f, q)
 
 pub ruleset decision-rules = (of-last, of-session, of-another, of-none)
+
+-- ---- how a decision is given
+abbrev read : Paper Word → Decision
+read (Given repeats v) = Repeat (getD v 0 0)
+read (Given joins v) = Join (getD v 0 0)
+read (Given opens v) = Open (getD v 0 0)
+read (Refusal n v) = getD (Stale ∷ Differs ∷ NoEntryLeft ∷ []) (n - 9) NoSlotLeft
+
+back : (d : Decision) → read (paper d) ≡ d
+back (Repeat bits) = refl
+back (Join slot) = refl
+back (Open slot) = refl
+back Stale = refl
+back Differs = refl
+back NoEntryLeft = refl
+back NoSlotLeft = refl
+
+pub paper-apart : PaperApart
+paper-apart = told-apart paper read back

@@ -5,6 +5,7 @@ pub mod SessionLaws
 pub mod DecisionLaws
 pub mod OutgoingLaws
 pub mod CacheLaws
+pub mod Remembered
 pub mod ReplayMap
 pub mod SessionSlots
 pub mod Stored

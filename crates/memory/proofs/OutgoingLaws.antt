@@ -1,13 +1,18 @@
--- What a heard acknowledgement does, from the code's tests: each effect follows from the tests before it.
--- Assumes nothing.
+-- What a heard acknowledgement does, from the code's tests: each effect follows from the tests before it. Of the message it changes what is heard, or ends it; and of segments that are there
+-- no bit is ignored. Assumes nothing.
 use mathlib.Core.Bool.{Bool, true, false, not}
-use mathlib.Core.Path.{_≡_}
-use Prim.Native.Nat.{ℕ, _%_}
+use mathlib.Core.Path.{_≡_, refl, _∙_}
+use Prim.Native.Nat.{ℕ, _+_, _-_, _%_, _^_, _<_, min}
+use native.Mathlib.Nat.{mod-eq-of-lt}
+use native.Mathlib.Omega.{arith}
 use borrow.Author.Tests.{not-true, not-false, eq-eqb, ne-eqb}
+use lib.Bits.{bitAnd, bitOr, and-mask}
 use lib.Dec.{eqb}
 use Rattle.common.specs.Bits.{allBits}
+use Rattle.common.proofs.Tests.{by-choice}
 use Rattle.network.specs.declared.header.Header.{Header}
 use Rattle.memory.specs.declared.outgoing.Outgoing.{Outgoing}
+use Rattle.memory.specs.declared.outgoing.Acknowledged.{Acknowledged}
 use Rattle.memory.specs.declared.outgoing.Effect.the-variants.{Nothing, Marked, Completed, Cancelled}
 use Rattle.memory.specs.Outgoing.{noOutgoing, fitsOutgoing, heardWith, withHeard, effected, acknowledging}
 
@@ -64,3 +69,26 @@ module _ (out : Outgoing) (h : Header) (obo : Bool) (seqZero bits : ℕ) {f : Bo
         heard-some t = rw (← e, not-false f h1, ne-eqb bits 0 h2, ← eh, ← ea, ne-eqb heard all h3, ne-eqb heard (out .heard) t)
 
 pub ruleset acknowledging-rules = (heard-unfit, heard-zero, heard-all, heard-again, heard-some)
+
+-- ---- what it leaves of the message: it, with other segments heard, or none
+pub by-acknowledging :
+    (P : Outgoing → Type 0) (out : Outgoing) (h : Header) (obo : Bool) (seqZero bits : ℕ) → P noOutgoing → P out → ((heard : ℕ) → P (withHeard out heard))
+    → P (acknowledging out h obo seqZero bits .out)
+unfolding acknowledging
+by-acknowledging P out h obo seqZero bits none same marked =
+    let Q : Acknowledged → Type 0 = λ a. P (a .out) in
+    let heard = heardWith out bits in
+    by-choice Q (fitsOutgoing out h obo seqZero)
+    (λ _. by-choice Q (eqb bits 0) (λ _. none)
+    (λ _. by-choice Q (eqb heard (allBits (out .terms .segn))) (λ _. none)
+    (λ _. by-choice Q (eqb heard (out .heard)) (λ _. same) (λ _. marked heard))))
+    (λ _. same)
+
+-- ---- bits to SegN: none is ignored
+pub heard-within :
+    (out : Outgoing) (bits : ℕ) → out .terms .segn < 32 → bits < 2 ^ (out .terms .segn + 1) → heardWith out bits ≡ bitOr (out .heard) bits
+unfolding heardWith allBits
+heard-within out bits low within =
+    let n : min (out .terms .segn) 31 ≡ out .terms .segn = omega arith in
+    let all : bitAnd bits (2 ^ (out .terms .segn + 1) - 1) ≡ bits = and-mask bits (out .terms .segn + 1) ∙ mod-eq-of-lt within in
+    rw (n, all) refl

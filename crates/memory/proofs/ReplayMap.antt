@@ -2,9 +2,11 @@
 -- and where fewer sources than there are entries have one, there is room for any. Assumes nothing.
 --   lookUp-.., hasRoom-..   what is found, and that there is room
 --   kept-..                 the list stays as it is kept
---   Listed, room-left       which sources have an entry, and that there is room
+--   Listed, listed-or-none  which sources have an entry
+--   room-left               and that there is room
 use mathlib.Core.Bool.{true, false, true≢false}
 use mathlib.Core.List.{List}
+use mathlib.Core.Logic.{_⊎_, inl, inr}
 use mathlib.Core.Path.{_≡_, refl, sym, ap, _∙_}
 use Prim.Native.Nat.{ℕ, _≤_, _<_}
 use native.Mathlib.Omega.{arith}
@@ -180,6 +182,15 @@ module _ (n : ℕ) (source : ℕ → ℕ) where
         (λ t.
         let some : (a ≡ 0 → ⊥) = λ q. z (ap (λ (b : ℕ). lookUp (handedUp l src auth segN dst) b .src) q ∙ lookUp-zero _) in
         of a (λ q. z (ap (λ (x : Entry). x .src) (lookUp-handedUp-other l src auth segN dst a (eqb-false a src t) some) ∙ q)))
+
+    -- a source has an entry and is one of them, or it has none
+    pub listed-or-none : (a : ℕ) → (a ≡ 0 → ⊥) → ((m : ℕ) × (m < n) × (a ≡ source m)) ⊎ (lookUp l a ≡ noEntry)
+    unfolding lookUp entryPlace
+    listed-or-none a z =
+        let k = entryPlace l a in
+        by-test (ltb k (length l))
+        (λ t. inl (of a (λ q. z (sym (keyed.found-key entriesKeyed noEntry l a (ltb-true k (length l) t)) ∙ q))))
+        (λ t. inr (List·getD-eq-default l noEntry {n = k} (ltb-false k (length l) t)))
 
     module _ (k : ReplayKept l) where
       -- what stands at a place is found again

@@ -1,12 +1,13 @@
 -- What becomes of a segment that has a SeqAuth (document 01, "Transport" and "Numbers of the refusals", 9 to 12).
---   paper d                            the number of a decision
+--   paper d                            how a decision is given; PaperApart: no two alike
 --   decision replay sessions src seg   the decision
 use mathlib.Core.Bool.{Bool}
-use mathlib.Core.List.{List}
+use mathlib.Core.List.{List, [], _∷_}
 use Prim.Native.Nat.{ℕ}
 use lib.Dec.{ltb}
 use Rattle.common.specs.Bits.{hasBit, allBits}
 use Rattle.common.specs.Choice.{if_then_else_}
+use Rattle.common.specs.Paper.{Paper, Refusal, Given, ToldApart}
 use Rattle.memory.specs.declared.pair.Pair.{Pair}
 use Rattle.memory.specs.declared.replay.Entry.{Entry}
 use Rattle.memory.specs.declared.session.Segment.{Segment}
@@ -17,15 +18,21 @@ use Rattle.memory.specs.Pair.{newer, samePair}
 use Rattle.memory.specs.Replay.{lookUp, stale, hasRoom, isLast}
 use Rattle.memory.specs.Session.{sessionSlots, sessionAt, segmentKey, sessionPlace, freePlace, sameTerms}
 
--- this paper's number of each decision; 0 where nothing is refused
-abbrev pub paper : Decision → ℕ
-paper (Repeat bits) = 0
-paper (Join slot) = 0
-paper (Open slot) = 0
-paper Stale = 9
-paper Differs = 10
-paper NoEntryLeft = 11
-paper NoSlotLeft = 12
+-- this paper's number and values of each decision: the places filled, or a slot
+pub data Word : Type 0 where
+  repeats joins opens : Word
+
+abbrev pub paper : Decision → Paper Word
+paper (Repeat bits) = Given repeats (bits ∷ [])
+paper (Join slot) = Given joins (slot ∷ [])
+paper (Open slot) = Given opens (slot ∷ [])
+paper Stale = Refusal 9 []
+paper Differs = Refusal 10 []
+paper NoEntryLeft = Refusal 11 []
+paper NoSlotLeft = Refusal 12 []
+
+abbrev pub PaperApart : Type 0
+PaperApart = ToldApart paper
 
 -- a segment of the same SeqAuth joins: 10, 11, a place already filled, or its place is empty
 unfoldable pub joining : Session → ℕ → Bool → Segment → Decision

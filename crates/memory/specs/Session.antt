@@ -2,6 +2,7 @@
 --   sessionKey s, segmentKey src seg   the key of a session, and of the session that a segment is for
 --   sessionPlace l key      the slot of the session with that key
 --   freePlace l             the lowest free slot
+--   slotFor l key           the slot that a segment with that key goes to
 --   SessionsApart l         no two sessions have one key
 --   sameTerms a b           not 10: equal in CTL, octet 0, SZMIC, SegN, DST and opening key
 --   begun src seg           a session with no segment yet
@@ -12,7 +13,7 @@ use mathlib.Core.Bool.{Bool, true, false, _&&_}
 use mathlib.Core.List.{List, [], _++_}
 use mathlib.Core.Path.{_≡_}
 use Prim.Native.Nat.{ℕ, _+_, _*_, _%_, _<_}
-use lib.Dec.{eqb}
+use lib.Dec.{eqb, ltb}
 use lib.ListN.{length, getD, take, drop, replicate}
 use Rattle.common.specs.Bits.{withBit, allBits}
 use Rattle.common.specs.Choice.{if_then_else_}
@@ -71,6 +72,10 @@ isFree s = noKey (sessionKey s)
 -- the lowest of them; the number of slots where there is none
 unfoldable pub freePlace : List Session → ℕ
 freePlace l = first isFree l
+
+-- a new session takes the lowest free slot, a replacing one its source's slot, where a segment joins too
+unfoldable pub slotFor : List Session → SessionKey → ℕ
+slotFor l k = if ltb (sessionPlace l k) sessionSlots then sessionPlace l k else freePlace l
 
 -- no two slots hold sessions with one key
 abbrev pub SessionsApart : List Session → Type 0

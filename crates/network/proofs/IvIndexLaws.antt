@@ -6,10 +6,14 @@ use mathlib.Core.Path.{_≡_, refl, sym, ap}
 use Prim.Native.Nat.{ℕ, _+_, _-_, _%_, _<_}
 use native.Mathlib.Omega.{arith}
 use lib.Dec.{eqb}
+use lib.ListN.{getD}
 use borrow.Author.Tests.{eq-eqb, ne-eqb, eqb-true, eqb-false}
+use Rattle.common.specs.Paper.{Paper, Refusal, Given}
+use Rattle.common.proofs.PaperLaws.{told-apart}
 use Rattle.common.proofs.Tests.{by-test}
+use Rattle.network.specs.declared.iv_index.IvIndex.{IvIndex}
 use Rattle.network.specs.declared.iv_index.IvIndex.the-variants.{Index, Nothing}
-use Rattle.network.specs.IvIndex.{ivIndexHeard, ivIndexSent}
+use Rattle.network.specs.IvIndex.{ivIndexHeard, ivIndexSent, Word, index, paper, PaperApart}
 
 -- the current one or the one before is given back by its own lowest bit
 pub heard-of-index : (current i : ℕ) → (i ≡ current) ⊎ (i + 1 ≡ current) → ivIndexHeard current (i % 2) ≡ Index i
@@ -47,3 +51,15 @@ pub sent-near : (current : ℕ) (flag : Bool) → (flag ≡ true → 0 < current
 unfolding ivIndexSent
 sent-near current true h = let p = h refl in inr (omega arith)
 sent-near current false h = inl refl
+
+-- ---- how an answer is given
+abbrev read : Paper Word → IvIndex
+read (Given index v) = Index (getD v 0 0)
+read (Refusal n v) = Nothing
+
+back : (i : IvIndex) → read (paper i) ≡ i
+back (Index iv) = refl
+back Nothing = refl
+
+pub paper-apart : PaperApart
+paper-apart = told-apart paper read back

@@ -1,13 +1,14 @@
 -- Opening a PDU from the code's tests: each answer follows from the tests before it, and its number tells it from every other.
 -- Key laws: `paper-apart`; the answers `judge-..` of the candidates' search and `open-..` of a call, each named for what is wrong. Assumes nothing.
 use mathlib.Core.Bool.{Bool, true, false, not}
-use mathlib.Core.List.{List}
+use mathlib.Core.List.{List, [], _∷_}
 use mathlib.Core.Path.{_≡_, refl, sym, ap, _∙_}
-use Prim.Native.Nat.{ℕ, _/_, _%_, _≤_, _<_}
+use Prim.Native.Nat.{ℕ, _-_, _/_, _%_, _≤_, _<_}
 use lib.Dec.{eqb}
 use lib.ListN.{length, getD}
 use borrow.Author.Tests.{eq-eqb, ne-eqb, lt-ltb, le-ltb, not-true, not-false}
-use Rattle.common.specs.Choice.{if_then_else_}
+use Rattle.common.specs.Paper.{Paper, Refusal, Given}
+use Rattle.common.proofs.PaperLaws.{told-apart}
 use Rattle.common.proofs.Tests.{by-test}
 use Rattle.keys.specs.declared.NetworkKeys.{NetworkKeys}
 use Rattle.network.specs.declared.iv_index.IvIndex.{IvIndex}
@@ -19,30 +20,24 @@ use Rattle.network.specs.declared.trial.Found.{Found}
 use Rattle.network.specs.Address.{addressesAllowed}
 use Rattle.network.specs.Candidates.{candidates, searched}
 use Rattle.network.specs.IvIndex.{ivIndexHeard}
-use Rattle.network.specs.Opening.{paper, refused, judged, under, opening}
+use Rattle.network.specs.Opening.{Word, opened, paper, PaperApart, refused, judged, under, opening}
 use Rattle.network.proofs.CandidatesLaws.{trials-none, trials-some}
 use Rattle.network.specs.Pdu.{pduOctets}
 
--- ---- the numbers
--- the answer of a number
-abbrev answerOf : ℕ → Answer
-answerOf n =
-    if eqb n 0 then Opened else
-    if eqb n 1 then WrongLength else
-    if eqb n 2 then NoCandidate else
-    if eqb n 3 then NotAuthentic else
-    WrongAddress
+-- ---- how an answer is given
+abbrev read : Paper Word → Answer
+read (Given opened v) = Opened
+read (Refusal n v) = getD (WrongLength ∷ NoCandidate ∷ NotAuthentic ∷ []) (n - 1) WrongAddress
 
-answer-of-paper : (a : Answer) → answerOf (paper a) ≡ a
-answer-of-paper Opened = refl
-answer-of-paper WrongLength = refl
-answer-of-paper NoCandidate = refl
-answer-of-paper NotAuthentic = refl
-answer-of-paper WrongAddress = refl
+back : (a : Answer) → read (paper a) ≡ a
+back Opened = refl
+back WrongLength = refl
+back NoCandidate = refl
+back NotAuthentic = refl
+back WrongAddress = refl
 
--- two answers with one number are the same
-pub paper-apart : (a b : Answer) → paper a ≡ paper b → a ≡ b
-paper-apart a b e = sym (answer-of-paper a) ∙ ap answerOf e ∙ answer-of-paper b
+pub paper-apart : PaperApart
+paper-apart = told-apart paper read back
 
 -- ---- refusals 3 and 4
 module _ (s : Found) where

@@ -13,6 +13,7 @@ use lib.Seq.{getD-take}
 use Rattle.common.specs.Choice.{if_then_else_}
 use Rattle.common.specs.Lent.{lent}
 use Rattle.common.specs.Lists.{padded, onto, Octets}
+use Rattle.common.specs.Paper.{numberOf}
 use Rattle.common.proofs.Lists.{length-tab, getD-tab, tab-ext}
 use Rattle.common.proofs.Octets.{octets-take, octets-drop, octets-xored}
 use Rattle.common.proofs.Tests.{by-test}
@@ -167,8 +168,8 @@ abbrev AgainWhere : List NetworkKeys → List ℕ → Found → Type 0
 AgainWhere keys pdu s = s .ok ≡ true → addressesAllowed (s .header .ctl) (s .header .src) (s .header .dst) ≡ true → Resealable keys pdu (s .header)
 
 -- a refusal opens nothing
-refused-none : (keys : List NetworkKeys) (pdu : List ℕ) (a : Answer) (trials : ℕ) → 0 < paper a → ResealableWhere keys pdu (refused a trials)
-refused-none keys pdu a trials h e = let z : paper a ≡ 0 = ap paper e in absurd (omega arith)
+refused-none : (keys : List NetworkKeys) (pdu : List ℕ) (a : Answer) (trials : ℕ) → 0 < numberOf (paper a) → ResealableWhere keys pdu (refused a trials)
+refused-none keys pdu a trials h e = let z : numberOf (paper a) ≡ 0 = ap (λ (x : Answer). numberOf (paper x)) e in absurd (omega arith)
 
 module _ (keys : List NetworkKeys) (count : ℕ) (pdu : List ℕ) (held : (i : ℕ) → i < min count networkKeyPlaces → OctetKey (keyAt keys i)) (p : Octets pdu)
     (least : 14 ≤ length pdu) (most : length pdu ≤ pduOctets) where

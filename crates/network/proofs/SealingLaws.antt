@@ -7,14 +7,16 @@ use mathlib.Core.List.{List, [], _∷_, _++_, append-nil}
 use Prim.Native.Nat.{ℕ, _+_, _-_, _<_, _≤_}
 use native.Mathlib.Omega.{arith}
 use borrow.Author.Tests.{lt-leb, le-leb, lt-ltb, le-ltb, not-true, not-false}
-use lib.Dec.{leb}
-use lib.ListN.{length, take, drop, length-append, length-drop}
+use lib.Dec.{eqb, leb}
+use lib.ListN.{length, getD, take, drop, length-append, length-drop}
 use lib.Seq.{length-take-le, take-all, take-append-le, take-append-add, drop-at, drop-length}
 use Rattle.common.specs.Choice.{if_then_else_}
 use Rattle.common.specs.Lists.{padded, onto}
 use Rattle.common.specs.Lent.{Lent, lent}
+use Rattle.common.specs.Paper.{Paper, Refusal, Given}
 use Rattle.common.proofs.Lists.{padded-all}
 use Rattle.common.proofs.Onto.{onto-before}
+use Rattle.common.proofs.PaperLaws.{told-apart}
 use Rattle.aes.specs.KeyExpansion.{keySchedule}
 use Rattle.modes.specs.declared.ccm.MicSize.{MicSize}
 use Rattle.modes.specs.Ccm as ccm
@@ -27,7 +29,7 @@ use Rattle.network.specs.Octets.{octets}
 use Rattle.network.specs.Pdu.{pduOctets, netMic, firstOctet, clearFront, obfuscated, bodyOf, pduOf}
 use Rattle.network.specs.declared.sealing.Answer.{Answer}
 use Rattle.network.specs.declared.sealing.Answer.the-variants.{Sealed, OutsideRules, ShortBuffer}
-use Rattle.network.specs.Sealing.{paper, sealedLength, mostTransport, sealable, sealing, lowered, forwarding}
+use Rattle.network.specs.Sealing.{Word, sealed, paper, PaperApart, mostTransport, sealable, sealing, lowered, forwarding}
 use Rattle.network.proofs.Front.{length-obfuscated}
 use Rattle.network.proofs.Sealed.{clearBody, nonceFor, length-clear, mic-octets, length-body, pdu-length, within}
 
@@ -160,17 +162,17 @@ module _ (key : NetworkKeys) (h : Header) (sixteen : length (h .transport) ≡ 1
       ∙ onto-before (f ∷ o) b out x 7 (omega arith) behind
 
 -- ---- the answers
--- number and octets tell any two apart
-pub paper-apart : (a b : Answer) → paper a ≡ paper b → sealedLength a ≡ sealedLength b → a ≡ b
-paper-apart (Sealed m) (Sealed n) e f = ap Sealed f
-paper-apart (Sealed m) OutsideRules e f = absurd (omega arith)
-paper-apart (Sealed m) ShortBuffer e f = absurd (omega arith)
-paper-apart OutsideRules (Sealed n) e f = absurd (omega arith)
-paper-apart OutsideRules OutsideRules e f = refl
-paper-apart OutsideRules ShortBuffer e f = absurd (omega arith)
-paper-apart ShortBuffer (Sealed n) e f = absurd (omega arith)
-paper-apart ShortBuffer OutsideRules e f = absurd (omega arith)
-paper-apart ShortBuffer ShortBuffer e f = refl
+abbrev read : Paper Word → Answer
+read (Given sealed v) = Sealed (getD v 0 0)
+read (Refusal n v) = if eqb n 14 then OutsideRules else ShortBuffer
+
+back : (a : Answer) → read (paper a) ≡ a
+back (Sealed len) = refl
+back OutsideRules = refl
+back ShortBuffer = refl
+
+pub paper-apart : PaperApart
+paper-apart = told-apart paper read back
 
 module _ (key : NetworkKeys) (h : Header) (out : List ℕ) where
   pub seal-short : length out < pduOctets → lent ShortBuffer out ≡ sealing key h out

@@ -1,11 +1,12 @@
 -- Opening a Network PDU: refusals 1, 2, 3, 4 in order, then the header (document 01, "Numbers of the refusals").
---   paper a                        the number of an answer
+--   paper a                        how an answer is given; PaperApart: no two alike
 --   opening keys count current pdu what a call answers
-use mathlib.Core.List.{List}
+use mathlib.Core.List.{List, []}
 use Prim.Native.Nat.{ℕ, _/_, _%_}
 use lib.Dec.{eqb, ltb}
 use lib.ListN.{length, getD}
 use Rattle.common.specs.Choice.{if_then_else_}
+use Rattle.common.specs.Paper.{Paper, Refusal, Given, ToldApart}
 use Rattle.keys.specs.declared.NetworkKeys.{NetworkKeys}
 use Rattle.network.specs.declared.iv_index.IvIndex.{IvIndex}
 use Rattle.network.specs.declared.iv_index.IvIndex.the-variants.{Index, Nothing}
@@ -19,13 +20,19 @@ use Rattle.network.specs.Header.{noHeader}
 use Rattle.network.specs.IvIndex.{ivIndexHeard}
 use Rattle.network.specs.Pdu.{pduOctets}
 
--- this paper's number of each answer; 0 where nothing is refused
-abbrev pub paper : Answer → ℕ
-paper Opened = 0
-paper WrongLength = 1
-paper NoCandidate = 2
-paper NotAuthentic = 3
-paper WrongAddress = 4
+-- this paper's number of each answer; trials and header stand beside it
+pub data Word : Type 0 where
+  opened : Word
+
+abbrev pub paper : Answer → Paper Word
+paper Opened = Given opened []
+paper WrongLength = Refusal 1 []
+paper NoCandidate = Refusal 2 []
+paper NotAuthentic = Refusal 3 []
+paper WrongAddress = Refusal 4 []
+
+abbrev pub PaperApart : Type 0
+PaperApart = ToldApart paper
 
 -- a refusal, with its number of trials
 abbrev pub refused : Answer → ℕ → Opening

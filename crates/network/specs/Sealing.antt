@@ -1,16 +1,17 @@
 -- Sealing one Network PDU into a lent buffer, and forwarding (document 01, "The Network PDU", "Forwarding").
---   paper a                  the number of an answer
+--   paper a                  how an answer is given; PaperApart: no two alike
 --   sealing key h buf        what a call leaves
 --   forwards relay local h   whether a PDU is forwarded
 --   forwarding keys h buf    what a call that forwards it leaves
 use mathlib.Core.Bool.{Bool, _&&_, not}
-use mathlib.Core.List.{List}
+use mathlib.Core.List.{List, [], _∷_}
 use Prim.Native.Nat.{ℕ, _-_}
 use lib.Dec.{leb, ltb}
 use lib.ListN.{length}
 use Rattle.common.specs.Choice.{if_then_else_}
 use Rattle.common.specs.Lists.{onto}
 use Rattle.common.specs.Lent.{Lent, lent}
+use Rattle.common.specs.Paper.{Paper, Refusal, Given, ToldApart}
 use Rattle.keys.specs.declared.NetworkKeys.{NetworkKeys}
 use Rattle.network.specs.declared.header.Header.{Header}
 use Rattle.network.specs.declared.sealing.Answer.{Answer}
@@ -19,13 +20,19 @@ use Rattle.network.specs.Address.{addressesAllowed}
 use Rattle.network.specs.Candidates.{networkKeyPlaces, keyAt}
 use Rattle.network.specs.Pdu.{pduOctets, pduOf}
 
--- this paper's number of each answer; 0 where nothing is refused
-abbrev pub paper : Answer → ℕ
-paper (Sealed len) = 0
-paper OutsideRules = 14
-paper ShortBuffer = 16
+-- this paper's number and values of each answer: the octets of the PDU
+pub data Word : Type 0 where
+  sealed : Word
 
--- its value: the octets of the PDU
+abbrev pub paper : Answer → Paper Word
+paper (Sealed len) = Given sealed (len ∷ [])
+paper OutsideRules = Refusal 14 []
+paper ShortBuffer = Refusal 16 []
+
+abbrev pub PaperApart : Type 0
+PaperApart = ToldApart paper
+
+-- the octets of the PDU
 abbrev pub sealedLength : Answer → ℕ
 sealedLength (Sealed len) = len
 sealedLength OutsideRules = 0

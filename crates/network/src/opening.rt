@@ -3,6 +3,7 @@ use super::header::Header;
 use super::iv_index::IvIndex;
 use keys::NetworkKeys;
 ghost use mathlib.Core.Path.{_≡_};
+ghost use Rattle.common.specs.Paper.{numberOf};
 ghost use Rattle.network.specs.Opening.{paper, refused, judged, opening};
 
 // How many network keys can be held.
@@ -30,7 +31,7 @@ pub struct Opening {
 
 // Document 01's number of an answer; 0 where nothing is refused.
 pub fn number(answer: Answer) -> u32
-    ensures { λ r. ⌜ r ≡ paper answer ⌝ }
+    ensures { λ r. ⌜ r ≡ numberOf (paper answer) ⌝ }
 {
     match answer {
         Answer::Opened => 0,

@@ -8,6 +8,7 @@ ghost use lib.ListN.{length, take, drop};
 ghost use Rattle.common.specs.Choice.{if_then_else_};
 ghost use Rattle.common.specs.Lent.{lent};
 ghost use Rattle.common.specs.Lists.{onto};
+ghost use Rattle.common.specs.Paper.{numberOf};
 ghost use Rattle.network.specs.Octets.{octets};
 ghost use Rattle.network.specs.Pdu.{pduOctets, firstOctet, clearFront, obfuscated, bodyOf};
 ghost use Rattle.network.specs.Sealing.{paper, mostTransport, sealable, sealing, forwards, lowered, forwarding};
@@ -23,7 +24,7 @@ pub enum Answer {
 
 // Document 01's number of an answer; 0 where nothing is refused.
 pub fn number(answer: Answer) -> u32
-    ensures { λ r. ⌜ r ≡ paper answer ⌝ }
+    ensures { λ r. ⌜ r ≡ numberOf (paper answer) ⌝ }
 {
     match answer {
         Answer::Sealed(_) => 0,

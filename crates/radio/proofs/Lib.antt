@@ -4,3 +4,4 @@ pub mod ClearPduLaws
 pub mod OpenLaws
 pub mod SealLaws
 pub mod SealOpen
+pub mod Answers

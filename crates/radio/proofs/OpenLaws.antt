@@ -10,6 +10,7 @@ use lib.Dec.{eqb}
 use lib.ListN.{length, getD}
 use Rattle.common.specs.Lent.{Lent, lent}
 use Rattle.common.specs.Lists.{onto}
+use Rattle.common.specs.Paper.{numberOf}
 use Rattle.keys.specs.declared.NetworkKeys.{NetworkKeys}
 use Rattle.network.specs.declared.opening.Answer.{Answer}
 use Rattle.network.specs.declared.opening.Answer.the-variants.{Opened, WrongLength, NoCandidate, NotAuthentic, WrongAddress}
@@ -23,7 +24,7 @@ use Rattle.radio.specs.ClearPdu.{clearPdu}
 use Rattle.radio.specs.Credential.{pieces, pieceCount}
 use Rattle.radio.specs.Open.{packed, told, openDone}
 
-pub paper-most : (a : Answer) → paper a ≤ 4
+pub paper-most : (a : Answer) → numberOf (paper a) ≤ 4
 paper-most Opened = omega arith
 paper-most WrongLength = omega arith
 paper-most NoCandidate = omega arith
@@ -69,21 +70,21 @@ module _ (credentials : List ℕ) (iv : ℕ) (pdu out : List ℕ) where
       open-told = simp (le-ltb _ _ room, eo, eh, ec)
 
       pub open-refused :
-          {n r : ℕ} → n ≡ paper (o .answer) → (n ≡ 0 → ⊥) → r ≡ packed n (o .trials) 0 0 → lent r out ≡ openDone credentials iv pdu out
+          {n r : ℕ} → n ≡ numberOf (paper (o .answer)) → (n ≡ 0 → ⊥) → r ≡ packed n (o .trials) 0 0 → lent r out ≡ openDone credentials iv pdu out
       unfolding told
       open-refused en z er =
-          let f : paper (o .answer) ≡ 0 → ⊥ = λ e. z (en ∙ e) in
-          rw (er, en) (rw (ne-eqb (paper (o .answer)) 0 f) at open-told)
+          let f : numberOf (paper (o .answer)) ≡ 0 → ⊥ = λ e. z (en ∙ e) in
+          rw (er, en) (rw (ne-eqb (numberOf (paper (o .answer))) 0 f) at open-told)
 
       -- left is the lent buffer at exit
       pub open-written :
-          {n first octets r : ℕ} {left : List ℕ} → n ≡ paper (o .answer) → n ≡ 0 → first ≡ getD pdu 0 0
+          {n first octets r : ℕ} {left : List ℕ} → n ≡ numberOf (paper (o .answer)) → n ≡ 0 → first ≡ getD pdu 0 0
           → lent octets left ≡ lent (length (clearPdu first (o .header))) (onto (clearPdu first (o .header)) out)
           → r ≡ packed 0 (o .trials) octets (o .header .key) → lent r left ≡ openDone credentials iv pdu out
       unfolding told
       open-written {n} {first} {octets} {r} {left} en z ef ew er =
           let el = ap (λ (w : Lent ℕ). w .answer) ew ∙ ap (λ (x : ℕ). length (clearPdu x (o .header))) ef in
           let eb = ap (λ (w : Lent ℕ). w .buffer) ew ∙ ap (λ (x : ℕ). onto (clearPdu x (o .header)) out) ef in
-          rw (er, el, eb) (rw (eq-eqb (paper (o .answer)) 0 (sym en ∙ z)) at open-told)
+          rw (er, el, eb) (rw (eq-eqb (numberOf (paper (o .answer))) 0 (sym en ∙ z)) at open-told)
 
 pub ruleset open-rules = (open-short, pdu-short, pdu-long, pdu-foreign, open-refused, open-written)

@@ -9,6 +9,7 @@ use lib.Dec.{eqb, ltb}
 use lib.ListN.{length}
 use Rattle.common.specs.Lent.{Lent, lent}
 use Rattle.common.specs.Lists.{padded}
+use Rattle.common.specs.Paper.{numberOf}
 use Rattle.common.proofs.Tests.{by-test}
 use Rattle.keys.specs.declared.NetworkKeys.{NetworkKeys}
 use Rattle.network.specs.declared.header.Header.{Header}
@@ -22,7 +23,7 @@ use Rattle.radio.specs.Credential.{keysOf, pieceAt}
 use Rattle.radio.specs.Seal.{headerFor, sealNumber, sealDone}
 use Rattle.radio.proofs.CredentialLaws.{piece-whole}
 
-pub paper-most : (a : Answer) → paper a ≤ 16
+pub paper-most : (a : Answer) → numberOf (paper a) ≤ 16
 paper-most (Sealed len) = omega arith
 paper-most OutsideRules = omega arith
 paper-most ShortBuffer = omega arith

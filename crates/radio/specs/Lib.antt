@@ -4,3 +4,4 @@ pub mod ClearPdu
 pub mod Open
 pub mod Seal
 pub mod SealOpen
+pub mod Answers

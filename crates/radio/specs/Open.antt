@@ -9,6 +9,7 @@ use lib.ListN.{length, getD}
 use Rattle.common.specs.Choice.{if_then_else_}
 use Rattle.common.specs.Lent.{Lent, lent}
 use Rattle.common.specs.Lists.{onto}
+use Rattle.common.specs.Paper.{numberOf}
 use Rattle.network.specs.declared.opening.Opening.{Opening}
 use Rattle.network.specs.Opening.{paper, opening}
 use Rattle.network.specs.Pdu.{pduOctets}
@@ -23,8 +24,8 @@ packed refusal trials octets place = refusal + 256 * trials + 65536 * octets + 0
 unfoldable pub told : ℕ → List ℕ → Opening → Lent ℕ
 told octet0 out o =
     let clear = clearPdu octet0 (o .header) in
-    if eqb (paper (o .answer)) 0 then lent (packed 0 (o .trials) (length clear) (o .header .key)) (onto clear out) else
-    lent (packed (paper (o .answer)) (o .trials) 0 0) out
+    if eqb (numberOf (paper (o .answer))) 0 then lent (packed 0 (o .trials) (length clear) (o .header .key)) (onto clear out) else
+    lent (packed (numberOf (paper (o .answer))) (o .trials) 0 0) out
 
 -- 16: out is shorter than 29; then refusals 1 to 4 over the first four whole pieces of credentials
 unfoldable pub openDone : List ℕ → ℕ → List ℕ → List ℕ → Lent ℕ

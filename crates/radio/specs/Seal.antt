@@ -10,6 +10,7 @@ use lib.ListN.{length}
 use Rattle.common.specs.Choice.{if_then_else_}
 use Rattle.common.specs.Lent.{Lent, lent}
 use Rattle.common.specs.Lists.{padded}
+use Rattle.common.specs.Paper.{numberOf}
 use Rattle.network.specs.declared.header.Header.{Header}
 use Rattle.network.specs.declared.sealing.Answer.{Answer}
 use Rattle.network.specs.Sealing.{paper, sealedLength, sealing}
@@ -23,7 +24,7 @@ headerFor iv ctl ttl seq src dst transport =
 
 -- refusal + 65536 * length
 unfoldable pub sealNumber : Answer → ℕ
-sealNumber a = paper a + 65536 * sealedLength a
+sealNumber a = numberOf (paper a) + 65536 * sealedLength a
 
 -- 16: out is shorter than 29; 14 iff the credential is not 33 octets, ctl > 1, or the header is outside the rules of the Network PDU
 unfoldable pub sealDone : List ℕ → ℕ → ℕ → ℕ → ℕ → ℕ → ℕ → List ℕ → List ℕ → Lent ℕ

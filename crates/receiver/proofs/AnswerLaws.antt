@@ -1,100 +1,108 @@
 -- An answer is told by its number, word and values: each answer is read back from them. Assumes nothing.
-use mathlib.Core.List.{List}
-use mathlib.Core.Path.{_≡_, refl, sym, ap, _∙_}
-use Prim.Native.Nat.{ℕ}
-use lib.Dec.{eqb}
+use mathlib.Core.List.{List, [], _∷_, _++_}
+use mathlib.Core.Path.{_≡_, refl, ap}
+use Prim.Native.Nat.{ℕ, _-_}
 use lib.ListN.{getD}
-use Rattle.common.specs.Choice.{if_then_else_}
+use Rattle.common.specs.Paper.{Paper, Refusal, Given}
+use Rattle.common.proofs.PaperLaws.{told-apart}
+use Rattle.transport.specs.declared.securing.MessageKey.the-variants.{Application, Device}
+use Rattle.transport.proofs.PaperLaws.{keyAs}
 use Rattle.memory.specs.declared.outgoing.Effect.{Effect}
 use Rattle.memory.specs.declared.outgoing.Effect.the-variants.{Nothing, Marked, Completed, Cancelled}
 use Rattle.memory.specs.declared.pair.Pair.{Pair}
-use Rattle.transport.specs.declared.securing.MessageKey.{MessageKey}
-use Rattle.transport.specs.declared.securing.MessageKey.the-variants.{Application, Device}
-use Rattle.receiver.specs.declared.answer.Refusal.{Refusal}
-use Rattle.receiver.specs.declared.answer.Refusal.the-variants.{ShortBuffer, WrongLength, NoCandidate, NotAuthentic, WrongAddress, Cached, NotForNode, WrongForm, NoSeqAuth, Replayed, Differs, NoEntryLeft, NoSlotLeft, NotOpened, OutsideRules, NoSeqLeft}
+use Rattle.receiver.specs.declared.answer.Refusal as refusal
+use Rattle.receiver.specs.declared.answer.Refusal.the-variants as refusals
 use Rattle.receiver.specs.declared.answer.Answer.{Answer}
 use Rattle.receiver.specs.declared.answer.Answer.the-variants.{Refused, Stored, Repeated, Access, Control, Acknowledgement}
-use Rattle.receiver.specs.Answer.{refusalNumber, Word, refused, stored, repeat, access, control, acknowledgement, Paper, paper}
+use Rattle.receiver.specs.declared.fresh.Answer as fresh-answer
+use Rattle.receiver.specs.declared.fresh.Answer.the-variants as fresh-answers
+use Rattle.receiver.specs.declared.give_up.Answer as ended-answer
+use Rattle.receiver.specs.declared.give_up.Answer.the-variants as ended-answers
+use Rattle.receiver.specs.Answer.{refusalNumber, NumberApart, Word, stored, repeat, access, control, acknowledgement, paper, PaperApart}
+use Rattle.receiver.specs.Fresh as fresh
+use Rattle.receiver.specs.GiveUp as give-up
 
--- the refusal of a number
-abbrev refusalOf : ℕ → Refusal
-refusalOf n =
-    if eqb n 1 then WrongLength else
-    if eqb n 2 then NoCandidate else
-    if eqb n 3 then NotAuthentic else
-    if eqb n 4 then WrongAddress else
-    if eqb n 5 then Cached else
-    if eqb n 6 then NotForNode else
-    if eqb n 7 then WrongForm else
-    if eqb n 8 then NoSeqAuth else
-    if eqb n 9 then Replayed else
-    if eqb n 10 then Differs else
-    if eqb n 11 then NoEntryLeft else
-    if eqb n 12 then NoSlotLeft else
-    if eqb n 13 then NotOpened else
-    if eqb n 14 then OutsideRules else
-    if eqb n 15 then NoSeqLeft else
-    ShortBuffer
+-- ---- a refusal by its number
+abbrev early : List refusal.Refusal
+early = refusals.WrongLength ∷ refusals.NoCandidate ∷ refusals.NotAuthentic ∷ refusals.WrongAddress ∷ refusals.Cached ∷ []
 
-refusal-of-number : (n : Refusal) → refusalOf (refusalNumber n) ≡ n
-refusal-of-number ShortBuffer = refl
-refusal-of-number WrongLength = refl
-refusal-of-number NoCandidate = refl
-refusal-of-number NotAuthentic = refl
-refusal-of-number WrongAddress = refl
-refusal-of-number Cached = refl
-refusal-of-number NotForNode = refl
-refusal-of-number WrongForm = refl
-refusal-of-number NoSeqAuth = refl
-refusal-of-number Replayed = refl
-refusal-of-number Differs = refl
-refusal-of-number NoEntryLeft = refl
-refusal-of-number NoSlotLeft = refl
-refusal-of-number NotOpened = refl
-refusal-of-number OutsideRules = refl
-refusal-of-number NoSeqLeft = refl
+abbrev late : List refusal.Refusal
+late =
+    refusals.NotForNode ∷ refusals.WrongForm ∷ refusals.NoSeqAuth ∷ refusals.Replayed ∷ refusals.Differs ∷ refusals.NoEntryLeft ∷ refusals.NoSlotLeft ∷ refusals.NotOpened ∷ []
 
--- two refusals with one number are the same
-pub number-apart : (m n : Refusal) → refusalNumber m ≡ refusalNumber n → m ≡ n
-number-apart m n e = sym (refusal-of-number m) ∙ ap refusalOf e ∙ refusal-of-number n
+abbrev pub refusalOf : ℕ → refusal.Refusal
+refusalOf n = getD (early ++ late ++ refusals.OutsideRules ∷ refusals.NoSeqLeft ∷ []) (n - 1) refusals.ShortBuffer
 
-abbrev keyOf : ℕ → ℕ → MessageKey
-keyOf kind i = if eqb kind 0 then Application i else Device
+pub refusal-back : (n : refusal.Refusal) → refusalOf (refusalNumber n) ≡ n
+refusal-back refusals.ShortBuffer = refl
+refusal-back refusals.WrongLength = refl
+refusal-back refusals.NoCandidate = refl
+refusal-back refusals.NotAuthentic = refl
+refusal-back refusals.WrongAddress = refl
+refusal-back refusals.Cached = refl
+refusal-back refusals.NotForNode = refl
+refusal-back refusals.WrongForm = refl
+refusal-back refusals.NoSeqAuth = refl
+refusal-back refusals.Replayed = refl
+refusal-back refusals.Differs = refl
+refusal-back refusals.NoEntryLeft = refl
+refusal-back refusals.NoSlotLeft = refl
+refusal-back refusals.NotOpened = refl
+refusal-back refusals.OutsideRules = refl
+refusal-back refusals.NoSeqLeft = refl
 
+pub number-apart : NumberApart
+number-apart = told-apart refusalNumber refusalOf refusal-back
+
+-- ---- an answer of hearing
 abbrev effectOf : ℕ → Effect
-effectOf n =
-    if eqb n 0 then Nothing else
-    if eqb n 1 then Marked else
-    if eqb n 2 then Completed else
-    Cancelled
+effectOf n = getD (Nothing ∷ Marked ∷ Completed ∷ []) n Cancelled
 
 abbrev pairAt : List ℕ → ℕ → ℕ → Pair
 pairAt v i j = record { iv = getD v i 0; seq = getD v j 0 }
 
--- the answer of a number, a word and values
-abbrev answerAs : Word → ℕ → List ℕ → Answer
-answerAs refused n v = Refused (refusalOf n)
-answerAs stored n v = Stored (getD v 0 0) (pairAt v 1 2) (getD v 3 0)
-answerAs repeat n v = Repeated (getD v 0 0) (pairAt v 1 2) (getD v 3 0)
-answerAs access n v = Access (getD v 0 0) (getD v 1 0) (getD v 2 0) (keyOf (getD v 6 0) (getD v 7 0)) (pairAt v 3 4) (getD v 5 0)
-answerAs control n v = Control (getD v 0 0) (getD v 1 0) (getD v 2 0) (getD v 3 0) (pairAt v 4 5) (getD v 6 0)
-answerAs acknowledgement n v = Acknowledgement (getD v 0 0) (getD v 1 0) (effectOf (getD v 2 0))
+abbrev read : Paper Word → Answer
+read (Refusal n v) = Refused (refusalOf n)
+read (Given stored v) = Stored (getD v 0 0) (pairAt v 1 2) (getD v 3 0)
+read (Given repeat v) = Repeated (getD v 0 0) (pairAt v 1 2) (getD v 3 0)
+read (Given access v) = Access (getD v 0 0) (getD v 1 0) (getD v 2 0) (keyAs (getD v 6 0) (getD v 7 0)) (pairAt v 3 4) (getD v 5 0)
+read (Given control v) = Control (getD v 0 0) (getD v 1 0) (getD v 2 0) (getD v 3 0) (pairAt v 4 5) (getD v 6 0)
+read (Given acknowledgement v) = Acknowledgement (getD v 0 0) (getD v 1 0) (effectOf (getD v 2 0))
 
-abbrev answerOf : Paper → Answer
-answerOf p = answerAs (p .word) (p .number) (p .values)
+back : (a : Answer) → read (paper a) ≡ a
+back (Refused n) = ap Refused (refusal-back n)
+back (Stored src auth bits) = refl
+back (Repeated src auth bits) = refl
+back (Access src dst network (Application i) pair len) = refl
+back (Access src dst network Device pair len) = refl
+back (Control src dst network opcode pair len) = refl
+back (Acknowledgement src bits Nothing) = refl
+back (Acknowledgement src bits Marked) = refl
+back (Acknowledgement src bits Completed) = refl
+back (Acknowledgement src bits Cancelled) = refl
 
-answer-of-paper : (a : Answer) → answerOf (paper a) ≡ a
-answer-of-paper (Refused n) = ap Refused (refusal-of-number n)
-answer-of-paper (Stored src auth bits) = refl
-answer-of-paper (Repeated src auth bits) = refl
-answer-of-paper (Access src dst network (Application i) pair len) = refl
-answer-of-paper (Access src dst network Device pair len) = refl
-answer-of-paper (Control src dst network opcode pair len) = refl
-answer-of-paper (Acknowledgement src bits Nothing) = refl
-answer-of-paper (Acknowledgement src bits Marked) = refl
-answer-of-paper (Acknowledgement src bits Completed) = refl
-answer-of-paper (Acknowledgement src bits Cancelled) = refl
+pub paper-apart : PaperApart
+paper-apart = told-apart paper read back
 
--- two answers that this paper gives alike are the same
-pub paper-apart : (a b : Answer) → paper a ≡ paper b → a ≡ b
-paper-apart a b e = sym (answer-of-paper a) ∙ ap answerOf e ∙ answer-of-paper b
+-- ---- of setting up, and of giving up
+abbrev readReady : Paper fresh.Word → fresh-answer.Answer
+readReady (Refusal n v) = fresh-answers.Refused (refusalOf n)
+readReady (Given fresh.ready v) = fresh-answers.Ready
+
+ready-back : (a : fresh-answer.Answer) → readReady (fresh.paper a) ≡ a
+ready-back fresh-answers.Ready = refl
+ready-back (fresh-answers.Refused n) = ap fresh-answers.Refused (refusal-back n)
+
+pub ready-apart : fresh.PaperApart
+ready-apart = told-apart fresh.paper readReady ready-back
+
+abbrev readEnded : Paper give-up.Word → ended-answer.Answer
+readEnded (Refusal n v) = ended-answers.Refused (refusalOf n)
+readEnded (Given give-up.ended v) = ended-answers.Done
+
+ended-back : (a : ended-answer.Answer) → readEnded (give-up.paper a) ≡ a
+ended-back ended-answers.Done = refl
+ended-back (ended-answers.Refused n) = ap ended-answers.Refused (refusal-back n)
+
+pub ended-apart : give-up.PaperApart
+ended-apart = told-apart give-up.paper readEnded ended-back

@@ -8,6 +8,7 @@ use Prim.Native.Nat.{ℕ, _≤_, _<_}
 use native.Mathlib.Omega.{arith}
 use borrow.Author.Tests.{ne-eqb}
 use lib.ListN.{length-replicate, getD-replicate}
+use Rattle.common.specs.Paper.{numberOf}
 use Rattle.common.proofs.Tests.{by-test}
 use Rattle.network.specs.declared.header.Header.{Header}
 use Rattle.network.specs.declared.opening.Answer.{Answer}
@@ -18,11 +19,12 @@ use Rattle.memory.specs.Cache.{cacheEntries, noSeen}
 use Rattle.memory.specs.Session.{sessionSlots, noSession, noSessions, sessionAt, sessionKey, segmentKey, noKey, isFree, begun, stored, complete}
 use Rattle.memory.proofs.ReplayMap.{kept-none}
 use Rattle.memory.proofs.SessionSlots.{session-key}
-use Rattle.memory.proofs.Within.{same-last, Opens, joins-opens}
+use Rattle.memory.proofs.Within.{same-last, Opens}
 use Rattle.node.specs.declared.addresses.Node.{Node}
 use Rattle.node.specs.Made.{WellMade, NextWell}
 use Rattle.node.specs.Setup.{making}
 use Rattle.node.proofs.SetupLaws.{makes-well}
+use Rattle.receiver.specs.declared.fresh.Answer as fresh-answer
 use Rattle.receiver.specs.declared.give_up.GivenUp.{GivenUp}
 use Rattle.receiver.specs.declared.state.Receiver.{Receiver}
 use Rattle.receiver.specs.Fresh.{paper, fresh, settingUp}
@@ -34,7 +36,7 @@ use Rattle.receiver.proofs.Gathered.{gathering-begun, gathering-stored}
 use Rattle.receiver.proofs.GoodState.{Left, good-caching, good-outgoing, good-admitted, good-upgraded, good-freed, good-opened}
 use Rattle.receiver.proofs.Laws.GiveUp.{by-giving-up}
 use Rattle.receiver.proofs.Laws.Heard.{openingOf, caching}
-use Rattle.receiver.proofs.Laws.Ways.{Goes, Ways, walk-left}
+use Rattle.receiver.proofs.Laws.Ways.{Goes, goes-opens, Ways, walk-left}
 use Rattle.receiver.proofs.Opened.{Clear, ClearIn, opening-clear}
 
 -- ---- setup
@@ -61,7 +63,7 @@ good-fresh s e =
     let m = making s in
     by-test (m .ok)
     (λ t. let w = makes-well s t in good-fresh-of (m .node) (m .next) (w .0) (w .1))
-    (λ t. let f : _≡_ {A = ℕ} 14 0 = ap paper (rw t at e) in absurd (omega arith))
+    (λ t. let f : _≡_ {A = ℕ} 14 0 = ap (λ (a : fresh-answer.Answer). numberOf (paper a)) (rw t at e) in absurd (omega arith))
 
 -- ---- hearing
 module _ (q : Receiver) (g : Good q) (h : Header) (c : Clear h) where
@@ -95,15 +97,14 @@ module _ (q : Receiver) (g : Good q) (h : Header) (c : Clear h) where
   unfolding stored
   good-stored seg slot s k t =
       let f = sits seg slot s k in
-      let o : Opens (q .sessions) (segmentKey (h .src) seg) slot = ⊎-elim (λ j. joins-opens (j .0)) (λ j. j .0) (k .stands) in
-      good-opened q g slot (stored s h (seg .sego)) (subst (λ (a : SessionKey). Opens (q .sessions) a slot) (sym (f .key-is)) o) (f .used)
+      good-opened q g slot (stored s h (seg .sego)) (subst (λ (a : SessionKey). Opens (q .sessions) a slot) (sym (f .key-is)) (goes-opens k)) (f .used)
       (gathering-stored s h (seg .sego) (f .gathers) (c .places) (f .within) t)
 
   ways : (msg : List ℕ) → Ways q h msg Left
   unfolding openedAs wholeControlUp acted accessUpAs controlUp
   ways msg =
       record {
-        refuses = λ n trials e. g;
+        refuses = λ n trials l f. g;
         access-whole = λ key trials len left. good-admitted q g h;
         control-whole = λ opcode. good-admitted q g h;
         acknowledges = λ obo seqZero bits. good-outgoing (admitted q h) (good-admitted q g h) _;
@@ -111,7 +112,7 @@ module _ (q : Receiver) (g : Good q) (h : Header) (c : Clear h) where
         stores = good-stored;
         access-gathered = λ slot s key trials len left. good-upgraded (withSession q slot noSession) (good-freed q g slot) s;
         control-gathered = λ slot s. good-upgraded (withSession q slot noSession) (good-freed q g slot) s;
-        frees = λ slot trials. good-freed q g slot;
+        frees = λ seg slot before k f trials. good-freed q g slot;
       }
 
 pub good-hear : GoodHear

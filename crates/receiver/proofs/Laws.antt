@@ -6,6 +6,7 @@
 --   After     what is left behind the cache
 --   Refusal   what a refusal leaves
 --   Fixed     what no call changes
+--   Outgoing  what hearing leaves of the outgoing message
 --   Fresh     what a receiver holds that setup made
 --   GiveUp    giving up a session
 pub mod Heard
@@ -15,5 +16,6 @@ pub mod Ways
 pub mod After
 pub mod Refusal
 pub mod Fixed
+pub mod Outgoing
 pub mod Fresh
 pub mod GiveUp

@@ -1,7 +1,8 @@
 -- Setup (document 01, "What the receiver holds"): 14 outside the numbers of its table, else a receiver that has heard and sent nothing.
-use mathlib.Core.List.{List}
+use mathlib.Core.List.{List, []}
 use Prim.Native.Nat.{ℕ}
 use Rattle.common.specs.Choice.{if_then_else_}
+use Rattle.common.specs.Paper.{Paper, Refusal, Given, ToldApart}
 use Rattle.node.specs.declared.addresses.Node.{Node}
 use Rattle.node.specs.declared.setup.Setup.{Setup}
 use Rattle.node.specs.Setup.{making}
@@ -16,10 +17,16 @@ use Rattle.receiver.specs.declared.fresh.Ready.{Ready}
 use Rattle.receiver.specs.declared.state.Receiver.{Receiver}
 use Rattle.receiver.specs.Answer.{refusalNumber}
 
--- this paper's number of each answer; 0 where nothing is refused
-abbrev pub paper : Answer → ℕ
-paper answer.Ready = 0
-paper (answer.Refused n) = refusalNumber n
+-- this paper's number of each answer; it has no values
+pub data Word : Type 0 where
+  ready : Word
+
+abbrev pub paper : Answer → Paper Word
+paper answer.Ready = Given ready []
+paper (answer.Refused n) = Refusal (refusalNumber n) []
+
+abbrev pub PaperApart : Type 0
+PaperApart = ToldApart paper
 
 -- cache, replay list, sessions and outgoing message are zero
 abbrev pub fresh : Node → List ℕ → Receiver

@@ -1,7 +1,9 @@
 -- Giving up a session; giving up what isn't there is 14 (document 01, "Sending").
+use mathlib.Core.List.{[]}
 use Prim.Native.Nat.{ℕ}
 use lib.Dec.{eqb, ltb}
 use Rattle.common.specs.Choice.{if_then_else_}
+use Rattle.common.specs.Paper.{Paper, Refusal, Given, ToldApart}
 use Rattle.memory.specs.Session.{sessionSlots, noSession, sessionPlace}
 use Rattle.receiver.specs.declared.answer.Refusal.the-variants.{OutsideRules}
 use Rattle.receiver.specs.declared.give_up.Answer.{Answer}
@@ -11,10 +13,16 @@ use Rattle.receiver.specs.declared.state.Receiver.{Receiver}
 use Rattle.receiver.specs.Answer.{refusalNumber}
 use Rattle.receiver.specs.State.{withSession}
 
--- this paper's number of each answer; 0 where nothing is refused
-abbrev pub paper : Answer → ℕ
-paper Done = 0
-paper (Refused n) = refusalNumber n
+-- this paper's number of each answer; it has no values
+pub data Word : Type 0 where
+  ended : Word
+
+abbrev pub paper : Answer → Paper Word
+paper Done = Given ended []
+paper (Refused n) = Refusal (refusalNumber n) []
+
+abbrev pub PaperApart : Type 0
+PaperApart = ToldApart paper
 
 -- 14: there is no session of that source, and SRC 0 is none; else its slot is zeroed
 unfoldable pub givingUp : Receiver → ℕ → GivenUp

@@ -1,4 +1,5 @@
 -- The laws about the definitions of specs/.
+pub mod AnswerLaws
 pub mod RequestLaws
 pub mod TransmissionLaws
 pub mod SegmentLaws

@@ -1,7 +1,8 @@
 -- What a request to send is answered (document 01, "Numbers of the refusals", 14 to 16).
---   paper a    this paper's number of an answer
+--   paper a    this paper's number and values of an answer; PaperApart: no two alike
 --   spoken t   the answer of one transmission
-use Prim.Native.Nat.{ℕ}
+use mathlib.Core.List.{[], _∷_}
+use Rattle.common.specs.Paper as given
 use Rattle.receiver.specs.declared.answer.Refusal.{Refusal}
 use Rattle.receiver.specs.declared.answer.Refusal.the-variants as refusal
 use Rattle.receiver.specs.declared.state.Receiver.{Receiver}
@@ -13,11 +14,17 @@ use Rattle.sending.specs.declared.transmission.Transmission.{Transmissio
 use Rattle.sending.specs.declared.transmission.Transmission.the-variants.{Sent, NoSeqLeft, Unsealed}
 use Rattle.sending.specs.declared.transmission.Transmitted.{Transmitted}
 
--- this paper's number of each answer; 0 where nothing is refused
-abbrev pub paper : Answer → ℕ
-paper (answer.Sent len) = 0
-paper (answer.Started len segN) = 0
-paper (answer.Refused n) = refusalNumber n
+-- this paper's number and values of each answer: the octets of the PDU, and SegN
+pub data Word : Type 0 where
+  sent started : Word
+
+abbrev pub paper : Answer → given.Paper Word
+paper (answer.Sent len) = given.Given sent (len ∷ [])
+paper (answer.Started len segN) = given.Given started (len ∷ segN ∷ [])
+paper (answer.Refused n) = given.Refusal (refusalNumber n) []
+
+abbrev pub PaperApart : Type 0
+PaperApart = given.ToldApart paper
 
 -- a refusal that leaves everything
 abbrev pub refusedAt : Receiver → Refusal → Spoken

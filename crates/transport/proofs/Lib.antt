@@ -7,3 +7,4 @@ pub mod Ranges
 pub mod ReadsBack
 pub mod Examples
 pub mod SecureOpen
+pub mod PaperLaws

@@ -10,6 +10,7 @@ use native.Mathlib.Omega.{arith}
 use borrow.Author.Tests.{ltb-true}
 use lib.Dec.{ltb}
 use lib.ListN.{length}
+use Rattle.common.specs.Paper.{numberOf}
 use Rattle.common.specs.Lent.{Lent, lent}
 use Rattle.common.specs.Lists.{onto}
 use Rattle.common.proofs.Picked.{places, length-places, length-picked}
@@ -128,7 +129,7 @@ says-stands : (c buf : List ℕ) (k : MessageKey) (trials len : ℕ) (b : List �
 says-stands c buf (Application i) trials len b l = l .2
 says-stands c buf Device trials len b l = l .1
 
-says-refused : (c buf : List ℕ) (a : Opened) (b : List ℕ) → Says c buf a b → 0 < paper a → b ≡ buf
+says-refused : (c buf : List ℕ) (a : Opened) (b : List ℕ) → Says c buf a b → 0 < numberOf (paper a) → b ≡ buf
 says-refused c buf (Message k trials len) b l h = absurd (omega arith)
 says-refused c buf (NotOpened trials) b l h = l .1
 says-refused c buf ShortBuffer b l h = l .1

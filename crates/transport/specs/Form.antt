@@ -3,11 +3,15 @@
 --   segmentFits segO segN n full     what a segment of n octets must be
 --   fieldsOf h                       which segment of which message it is
 --   formOf h                         the form of an opened header's transport PDU
+--   isSegment f                      it is a segment of a longer message
+--   paper f                          how a form is given; PaperApart: no two alike
 use mathlib.Core.Bool.{Bool, true, false, not, _&&_, _||_}
+use mathlib.Core.List.{List, [], _∷_}
 use Prim.Native.Nat.{ℕ, _+_}
 use lib.Dec.{eqb, leb}
 use lib.ListN.{getD}
 use Rattle.common.specs.Choice.{if_then_else_}
+use Rattle.common.specs.Paper.{Paper, Refusal, Given, bit, ToldApart}
 use Rattle.network.specs.declared.header.Header.{Header}
 use Rattle.network.specs.Address.{isUnicast}
 use Rattle.transport.specs.declared.form.Form.{Form}
@@ -88,11 +92,29 @@ formAs false false h = accessForm h
 unfoldable pub formOf : Header → Form
 formOf h = formAs (h .ctl) (seg (first h)) h
 
--- this paper's number of each form: a wrong one is refusal 7
-abbrev pub paper : Form → ℕ
-paper (Access akf aid) = 0
-paper (AccessSegment akf aid f) = 0
-paper (Control opcode) = 0
-paper (ControlSegment opcode f) = 0
-paper (Acknowledgement obo seqZero bits) = 0
-paper Wrong = 7
+-- a segment of a longer message
+abbrev pub isSegment : Form → Bool
+isSegment (Access akf aid) = false
+isSegment (AccessSegment akf aid f) = true
+isSegment (Control opcode) = false
+isSegment (ControlSegment opcode f) = true
+isSegment (Acknowledgement obo seqZero bits) = false
+isSegment Wrong = false
+
+-- this paper's number and values of each form: a wrong one is refusal 7
+pub data Word : Type 0 where
+  access access-segment control control-segment acknowledgement : Word
+
+abbrev pub fieldValues : SegmentFields → List ℕ
+fieldValues f = bit (f .szmic) ∷ f .seqzero ∷ f .sego ∷ f .segn ∷ []
+
+abbrev pub paper : Form → Paper Word
+paper (Access akf aid) = Given access (bit akf ∷ aid ∷ [])
+paper (AccessSegment akf aid f) = Given access-segment (bit akf ∷ aid ∷ fieldValues f)
+paper (Control opcode) = Given control (opcode ∷ [])
+paper (ControlSegment opcode f) = Given control-segment (opcode ∷ fieldValues f)
+paper (Acknowledgement obo seqZero bits) = Given acknowledgement (bit obo ∷ seqZero ∷ bits ∷ [])
+paper Wrong = Refusal 7 []
+
+abbrev pub PaperApart : Type 0
+PaperApart = ToldApart paper

@@ -6,6 +6,7 @@ use Prim.Native.Nat.{ℕ, _+_, _<_, _≤_, min}
 use lib.ListN.{length}
 use Rattle.common.specs.Lent.{lent}
 use Rattle.common.specs.Lists.{onto}
+use Rattle.common.specs.Paper.{numberOf}
 use Rattle.modes.specs.Ccm.{micOctets}
 use Rattle.transport.specs.declared.securing.ApplicationKey.{ApplicationKey}
 use Rattle.transport.specs.declared.securing.Envelope.{Envelope}
@@ -85,4 +86,4 @@ PlaceLow =
 abbrev pub RefusedKeeps : Type 0
 RefusedKeeps =
     (keys : List ApplicationKey) (count : ℕ) (device : List ℕ) (e : Envelope) (c buf : List ℕ)
-    → 0 < paper (unsecuring keys count device e c buf .answer) → unsecuring keys count device e c buf .buffer ≡ buf
+    → 0 < numberOf (paper (unsecuring keys count device e c buf .answer)) → unsecuring keys count device e c buf .buffer ≡ buf

@@ -3,13 +3,14 @@
 --   securing key e m buf                    what a call that secures m into buf leaves
 --   unsecuring keys count device e c buf    what a call that opens c into buf leaves
 use mathlib.Core.Bool.{Bool, true, false, _&&_}
-use mathlib.Core.List.{List, []}
+use mathlib.Core.List.{List, [], _∷_}
 use Prim.Native.Nat.{ℕ, _+_, _-_, min}
 use lib.Dec.{eqb, ltb}
 use lib.ListN.{length, getD}
 use Rattle.common.specs.Choice.{if_then_else_}
 use Rattle.common.specs.Lent.{Lent, lent}
 use Rattle.common.specs.Lists.{tab, onto}
+use Rattle.common.specs.Paper.{Paper, Refusal, Given, ToldApart}
 use Rattle.common.specs.Search.{picked}
 use Rattle.common.specs.Trials.{Outcome, Succeeded, Failed, tries}
 use Rattle.aes.specs.KeyExpansion.{keySchedule}
@@ -19,6 +20,7 @@ use Rattle.modes.specs.Ccm.{micOctets, sealed, opening}
 use Rattle.network.specs.Nonce.{applicationNonce, deviceNonce}
 use Rattle.transport.specs.declared.securing.ApplicationKey.{ApplicationKey}
 use Rattle.transport.specs.declared.securing.Envelope.{Envelope}
+use Rattle.transport.specs.declared.securing.MessageKey.{MessageKey}
 use Rattle.transport.specs.declared.securing.MessageKey.the-variants.{Application, Device}
 use Rattle.transport.specs.declared.securing.Opened.{Opened}
 use Rattle.transport.specs.declared.securing.Opened.the-variants.{Message, NotOpened, ShortBuffer}
@@ -92,11 +94,21 @@ unsecuring keys count device e c buf =
     if e .akf then byApplicationKeys keys count e c buf else
     byDeviceKey device e c buf
 
--- this paper's number of each answer; 0 where nothing is refused
-abbrev pub paper : Opened → ℕ
-paper (Message key trials len) = 0
-paper (NotOpened trials) = 13
-paper ShortBuffer = 16
+-- this paper's number and values of each answer: which key opened a message, in two values, the application key's place or the device key; the trials; the octets
+abbrev pub keyValues : MessageKey → List ℕ
+keyValues (Application i) = 0 ∷ i ∷ []
+keyValues Device = 1 ∷ 0 ∷ []
+
+pub data Word : Type 0 where
+  message : Word
+
+abbrev pub paper : Opened → Paper Word
+paper (Message key trials len) = Given message (trials ∷ len ∷ keyValues key)
+paper (NotOpened trials) = Refusal 13 (trials ∷ [])
+paper ShortBuffer = Refusal 16 []
+
+abbrev pub PaperApart : Type 0
+PaperApart = ToldApart paper
 
 -- the number of application keys tried
 abbrev pub trialsOf : Opened → ℕ

@@ -1,7 +1,9 @@
 -- SeqAuth (MP 3.5.3.1) is the IV Index followed by the sequence number that a segmented message was begun with: here that number.
+use mathlib.Core.List.{[], _∷_}
 use Prim.Native.Nat.{ℕ, _+_, _-_, _*_, _/_, _%_}
 use lib.Dec.{leb}
 use Rattle.common.specs.Choice.{if_then_else_}
+use Rattle.common.specs.Paper.{Paper, Refusal, Given, ToldApart}
 use Rattle.transport.specs.declared.seq_auth.SeqAuth.{SeqAuth}
 use Rattle.transport.specs.declared.seq_auth.SeqAuth.the-variants.{At, Nowhere}
 
@@ -13,7 +15,13 @@ seqAuth seq seqZero =
     if leb 8192 seq then At ((seq / 8192 - 1) * 8192 + end) else
     Nowhere
 
--- this paper's number of each answer: none is refusal 8
-abbrev pub paper : SeqAuth → ℕ
-paper (At n) = 0
-paper Nowhere = 8
+-- this paper's number and values of each answer: none is refusal 8
+pub data Word : Type 0 where
+  begun : Word
+
+abbrev pub paper : SeqAuth → Paper Word
+paper (At n) = Given begun (n ∷ [])
+paper Nowhere = Refusal 8 []
+
+abbrev pub PaperApart : Type 0
+PaperApart = ToldApart paper

@@ -36,7 +36,7 @@ module _ (r : Receiver) where
   unfolding openedAs wholeControlUp acted accessUpAs controlUp admitted upgraded
   ways h msg =
       record {
-        refuses = λ n trials e. written;
+        refuses = λ n trials l f. written;
         access-whole = λ key trials len left. written;
         control-whole = λ opcode. written;
         acknowledges = λ obo seqZero bits. written;
@@ -44,7 +44,7 @@ module _ (r : Receiver) where
         stores = λ seg slot before g e. written;
         access-gathered = λ slot s key trials len left. written;
         control-gathered = λ slot s. written;
-        frees = λ slot trials. written;
+        frees = λ seg slot before g f trials. written;
       }
 
   pub fixed-heard : (fwd msg pdu : List ℕ) → Fixed r (hearing r pdu fwd msg .heard .receiver)

@@ -1,4 +1,5 @@
--- A message by its form: a segment is one, whatever it is a segment of; a whole message that is admitted is handed up. Assumes nothing.
+-- A message by its form: a segment is one, whatever it is a segment of; a whole message that is admitted is handed up, and only its replay entry is written; an acknowledgement acts.
+-- Assumes nothing.
 use mathlib.Core.Bool.{Bool}
 use mathlib.Core.List.{List}
 use mathlib.Core.Path.{_≡_, refl}
@@ -15,11 +16,14 @@ use Rattle.transport.specs.declared.securing.Opened.the-variants.{Message}
 use Rattle.transport.specs.Fields.{opcode}
 use Rattle.transport.specs.Form.{formOf}
 use Rattle.transport.specs.Securing.{unsecuring}
+use Rattle.memory.specs.Outgoing.{acknowledging}
+use Rattle.memory.specs.Replay.{accepted}
 use Rattle.receiver.specs.declared.answer.Answer.the-variants as answer
 use Rattle.receiver.specs.declared.state.Receiver.{Receiver}
 use Rattle.receiver.specs.declared.whole.Admission.the-variants as admission
 use Rattle.receiver.specs.Hearing.{takenAs}
 use Rattle.receiver.specs.Segmented.{segmented}
+use Rattle.receiver.specs.State.{withReplay, withOutgoing}
 use Rattle.receiver.specs.Whole as whole
 
 module _ (r : Receiver) (h : Header) (msg : List ℕ) where
@@ -51,3 +55,17 @@ module _ (r : Receiver) (h : Header) (msg : List ℕ) where
       (onto parameters msg)
   unfolding takenAs whole.wholeControl whole.unless whole.wholeControlUp
   taken-control opcode parameters e a m = rw (e, a, m) refl
+
+  -- an acknowledgement that is admitted
+  pub taken-acknowledgement :
+      (obo : Bool) (seqZero bits : ℕ) → formOf h ≡ form.Acknowledgement obo seqZero bits → whole.admission (r .replay) h ≡ admission.Admitted
+      → (let a = acknowledging (r .out) h obo seqZero bits in
+      takenAs (formOf h) r h msg
+      ≡ lent (record { answer = answer.Acknowledgement (h .src) bits (a .effect); trials = 0; receiver = withOutgoing (whole.admitted r h) (a .out) }) msg)
+  unfolding takenAs whole.wholeAcknowledgement whole.unless whole.acted
+  taken-acknowledgement obo seqZero bits e a = rw (e, a) refl
+
+  -- it leaves all but the replay list
+  pub admitted-is : whole.admitted r h ≡ withReplay r (accepted (r .replay) (h .src) (whole.pairOf h))
+  unfolding whole.admitted
+  admitted-is = refl

@@ -1,9 +1,11 @@
 -- What a receiver that setup made holds: nothing is in the cache, no source has an entry or a session, and so every message is new and admitted. Assumes nothing.
+--   by-setting-up   setup answers that it is ready, or 14
 --   fresh-is        it is a fresh one, of the node that setup made
 --   fresh-unseen    its cache has seen nothing of a source
 --   fresh-admits    it admits every whole message
 use mathlib.Core.Bool.{false}
 use mathlib.Core.Path.{_≡_, refl, sym}
+use Rattle.common.proofs.Tests.{by-choice}
 use Rattle.network.specs.declared.header.Header.{Header}
 use Rattle.node.specs.declared.setup.Setup.{Setup}
 use Rattle.node.specs.Setup.{making}
@@ -12,11 +14,18 @@ use Rattle.memory.specs.Replay.{noEntry}
 use Rattle.memory.proofs.CacheLaws.{seen-none}
 use Rattle.memory.proofs.ReplayLaws.{stale-none}
 use Rattle.memory.proofs.ReplayMap.{lookUp-none, hasRoom-none}
+use Rattle.receiver.specs.declared.answer.Refusal.the-variants.{OutsideRules}
+use Rattle.receiver.specs.declared.fresh.Answer.{Answer}
+use Rattle.receiver.specs.declared.fresh.Answer.the-variants.{Ready, Refused}
 use Rattle.receiver.specs.declared.whole.Admission.the-variants.{Admitted}
 use Rattle.receiver.specs.Fresh.{fresh, settingUp}
 use Rattle.receiver.specs.Whole.{pairOf, admission}
 
 module _ (s : Setup) where
+  pub by-setting-up : (P : Answer → Type 0) → P Ready → P (Refused OutsideRules) → P (settingUp s .answer)
+  unfolding settingUp
+  by-setting-up P ready refused = by-choice P (making s .ok) (λ _. ready) (λ _. refused)
+
   pub fresh-is : settingUp s .receiver ≡ fresh (making s .node) (making s .next)
   unfolding settingUp
   fresh-is = refl

@@ -1,11 +1,12 @@
 -- A call refuses before the cache and leaves everything, or the PDU opened and is new, and passes: the tests in front are walked once. One that opens and is in the
 -- cache leaves everything; one that is new, and for this node, leaves what the message of its form leaves. Assumes nothing.
---   early            the refusals before the cache: 16, 1 to 5
+--   early, late      the refusals before the cache, 16 and 1 to 5, and behind it, 6 to 13
 --   walk-hearing     what holds of each such refusal, and of what a PDU leaves that passes, holds of the call
 --   heard-unopened   one that does not open is refused so
+--   heard-closed     and as its opening is
 --   heard-again, heard-new   one that opens
 --   heard-forwarded, heard-kept   what it forwards
-use mathlib.Core.Bool.{Bool, true, false, _||_}
+use mathlib.Core.Bool.{Bool, true, false, _&&_, _||_}
 use mathlib.Core.List.{List}
 use mathlib.Core.Path.{_≡_, refl, ap, _∙_}
 use Prim.Native.Nat.{ℕ, _≤_}
@@ -13,11 +14,13 @@ use borrow.Author.Tests.{le-ltb, ltb-false}
 use lib.Dec.{eqb, leb, ltb}
 use lib.ListN.{length}
 use Rattle.common.specs.Lent.{Lent, lent}
+use Rattle.common.specs.Paper.{numberOf}
 use Rattle.common.proofs.Tests.{by-choice}
 use Rattle.network.specs.declared.header.Header.{Header}
 use Rattle.network.specs.declared.opening.Answer as opening-answer
 use Rattle.network.specs.declared.opening.Answer.the-variants as network
 use Rattle.network.specs.declared.opening.Opening.{Opening}
+use Rattle.network.specs.Opening as opened
 use Rattle.network.specs.Opening.{opening}
 use Rattle.network.specs.Sealing.{sealedLength, forwards, forwarding}
 use Rattle.network.specs.Pdu.{pduOctets}
@@ -36,6 +39,10 @@ use Rattle.receiver.specs.State.{withCache}
 -- 16 and 1 to 5
 abbrev pub early : Refusal → Bool
 early n = eqb (refusalNumber n) 16 || leb (refusalNumber n) 5
+
+-- 6 to 13
+abbrev pub late : Refusal → Bool
+late n = leb 6 (refusalNumber n) && leb (refusalNumber n) 13
 
 -- refusal n, and everything as it was
 pub record Refuses (r : Receiver) (fwd msg : List ℕ) (n : Refusal) (o : Outcome) : Type 0 where
@@ -77,6 +84,23 @@ module _ (r : Receiver) (fwd msg pdu : List ℕ) where
 
   pub heard-unopened : (o .answer ≡ network.Opened → ⊥) → Early r fwd msg (hearing r pdu fwd msg)
   heard-unopened n = walk-hearing (Early r fwd msg) (λ n trials e. (n, record { is-early = e; tried = trials; leaves = refl })) (λ e _. absurd (n e))
+
+  -- ---- one that does not open: it carries the number of its opening, with its trials
+  abbrev pub RefusedAs : opening-answer.Answer → ℕ → Outcome → Type 0
+  RefusedAs a trials x = (n : Refusal) × (refusalNumber n ≡ numberOf (opened.paper a)) × (x ≡ outcome (refusedHeard r n trials) fwd msg)
+
+  closed-as : (a : opening-answer.Answer) (h : Header) (trials : ℕ) → (a ≡ network.Opened → ⊥) → RefusedAs a trials (openedAs a r h trials fwd msg)
+  unfolding openedAs
+  closed-as network.WrongLength h trials f = (refusal.WrongLength, refl, refl)
+  closed-as network.NoCandidate h trials f = (refusal.NoCandidate, refl, refl)
+  closed-as network.NotAuthentic h trials f = (refusal.NotAuthentic, refl, refl)
+  closed-as network.WrongAddress h trials f = (refusal.WrongAddress, refl, refl)
+  closed-as network.Opened h trials f = absurd (f refl)
+
+  pub heard-closed :
+      pduOctets ≤ length fwd → messageOctets ≤ length msg → (o .answer ≡ network.Opened → ⊥) → RefusedAs (o .answer) (o .trials) (hearing r pdu fwd msg)
+  unfolding hearing
+  heard-closed wide big n = rw (le-ltb (length fwd) pduOctets wide, le-ltb (length msg) messageOctets big) (closed-as (o .answer) (o .header) (o .trials) n)
 
 -- ---- a PDU that opens
 module _ (r : Receiver) (pdu fwd msg : List ℕ) (wide : pduOctets ≤ length fwd) (big : messageOctets ≤ length msg) (h : Header) (trials : ℕ)

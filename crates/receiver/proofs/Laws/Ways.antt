@@ -3,18 +3,21 @@
 -- `taken`, with what was tested on the way. That 13 leaves the buffer is transport's law about securing, and 16 cannot come back from there since the buffer's length was
 -- tested first. Assumes nothing.
 --   Goes          the session that a segment goes to
+--   freesSlot     whether a refusal frees the slot of a completed session
 --   Ways          what holds on each way of a PDU that passes the cache
 --   walk-taken    so it holds of what such a PDU leaves
 --   walk-left     what r has, and what each way leaves, has the receiver that a call leaves
-use mathlib.Core.Bool.{Bool, false}
+use mathlib.Core.Bool.{Bool, true, false, _&&_}
 use mathlib.Core.List.{List}
-use mathlib.Core.Logic.{_⊎_, inl, inr}
-use mathlib.Core.Path.{_≡_, refl, sym, subst}
+use mathlib.Core.Logic.{_⊎_, inl, inr, ⊎-elim}
+use mathlib.Core.Path.{_≡_, refl, sym, ap, subst}
 use Prim.Native.Nat.{ℕ, _≤_, _<_}
 use native.Mathlib.Omega.{arith}
+use lib.Dec.{eqb}
 use lib.ListN.{length, drop}
 use Rattle.common.specs.Choice.{if_then_else_}
 use Rattle.common.specs.Lent.{Lent, lent}
+use Rattle.common.specs.Paper.{numberOf}
 use Rattle.common.proofs.Tests.{by-choice}
 use Rattle.network.specs.declared.header.Header.{Header}
 use Rattle.network.specs.declared.opening.Answer.the-variants as network
@@ -28,7 +31,7 @@ use Rattle.transport.specs.declared.securing.Opened.{Opened}
 use Rattle.transport.specs.declared.securing.Opened.the-variants.{Message, NotOpened, ShortBuffer}
 use Rattle.transport.specs.declared.seq_auth.SeqAuth.{SeqAuth}
 use Rattle.transport.specs.declared.seq_auth.SeqAuth.the-variants.{At, Nowhere}
-use Rattle.transport.specs.Form.{formOf}
+use Rattle.transport.specs.Form.{formOf, isSegment}
 use Rattle.transport.specs.Ranges.{InRange, Kept}
 use Rattle.transport.specs.Securing.{unsecuring, paper}
 use Rattle.transport.specs.SeqAuth.{seqAuth}
@@ -43,7 +46,7 @@ use Rattle.memory.specs.declared.session.Segment.{Segment}
 use Rattle.memory.specs.declared.session.Session.{Session}
 use Rattle.memory.specs.Decision.{decision}
 use Rattle.memory.specs.Session.{noSession, sessionAt, segmentKey, begun, stored, complete, blockAck}
-use Rattle.memory.proofs.Within.{Joins, Opens, Within, decision-within}
+use Rattle.memory.proofs.Within.{Joins, Opens, joins-opens, Within, decision-within}
 use Rattle.node.specs.Addresses.{forNode}
 use Rattle.receiver.specs.declared.answer.Answer.the-variants.{Stored, Repeated}
 use Rattle.receiver.specs.declared.answer.Refusal.{Refusal}
@@ -52,11 +55,12 @@ use Rattle.receiver.specs.declared.answer.Taken.{Taken}
 use Rattle.receiver.specs.declared.state.Receiver.{Receiver}
 use Rattle.receiver.specs.declared.whole.Admission.{Admission}
 use Rattle.receiver.specs.declared.whole.Admission.the-variants.{Admitted, Replayed, NoEntryLeft}
+use Rattle.receiver.specs.Answer.{refusalNumber}
 use Rattle.receiver.specs.Hearing.{Outcome, takenAs, taken, passed, hearing}
 use Rattle.receiver.specs.Segmented.{segmentOf, messageOf, sessionEnvelope, controlUp, accessUpAs, accessUp, gathered, placedAs, placed, segmentedAs, segmented}
 use Rattle.receiver.specs.State.{withSession}
 use Rattle.receiver.specs.Whole.{refusedAt, admission, wholeEnvelope, openedAs, openedWhole, unless, wholeAccess, wholeControlUp, wholeControl, acted, wholeAcknowledgement}
-use Rattle.receiver.proofs.Laws.Heard.{early, openingOf, caching, walk-hearing}
+use Rattle.receiver.proofs.Laws.Heard.{late, openingOf, caching, walk-hearing}
 
 -- the session s that a segment goes to: its source's own, on whose terms it is, or one begun
 pub record Goes (q : Receiver) (h : Header) (seg : Segment) (slot : ℕ) (s : Session) : Type 0 where
@@ -64,10 +68,18 @@ pub record Goes (q : Receiver) (h : Header) (seg : Segment) (slot : ℕ) (s : Se
   pub segO-most : seg .sego ≤ seg .terms .segn
   pub stands : (Joins (q .sessions) (h .src) seg slot × (s ≡ sessionAt (q .sessions) slot)) ⊎ (Opens (q .sessions) (segmentKey (h .src) seg) slot × (s ≡ begun (h .src) seg))
 
+-- it might have been opened there
+pub goes-opens : {q : Receiver} {h : Header} {seg : Segment} {slot : ℕ} {s : Session} → Goes q h seg slot s → Opens (q .sessions) (segmentKey (h .src) seg) slot
+goes-opens g = ⊎-elim (λ j. joins-opens (j .0)) (λ j. j .0) (g .stands)
+
+-- 13 of a segment, whose session is complete by then
+abbrev pub freesSlot : Header → Refusal → Bool
+freesSlot h n = eqb (refusalNumber n) 13 && isSegment (formOf h)
+
 -- what holds on each way behind the cache
 pub record Ways (q : Receiver) (h : Header) (msg : List ℕ) (P : Lent Taken → Type 0) : Type 0 where
-  -- 6 to 13, and nothing changed
-  pub refuses : (n : Refusal) (trials : ℕ) → early n ≡ false → P (lent (refusedAt q n trials) msg)
+  -- 6 to 13, and 13 of a whole message: nothing changed
+  pub refuses : (n : Refusal) (trials : ℕ) → late n ≡ true → freesSlot h n ≡ false → P (lent (refusedAt q n trials) msg)
   -- a message in one PDU
   pub access-whole : (key : MessageKey) (trials len : ℕ) (left : List ℕ) → P (lent (openedAs q h (Message key trials len)) left)
   pub control-whole : (opcode : ℕ) → P (wholeControlUp q h opcode msg)
@@ -84,24 +96,27 @@ pub record Ways (q : Receiver) (h : Header) (msg : List ℕ) (P : Lent Taken →
       → P (lent (accessUpAs (withSession q slot noSession) s (Message key trials len)) left)
   pub control-gathered : (slot : ℕ) (s : Session) → P (controlUp (withSession q slot noSession) s msg)
   -- 13 of its message
-  pub frees : (slot trials : ℕ) → P (lent (refusedAt (withSession q slot noSession) refusal.NotOpened trials) msg)
+  pub frees :
+      (seg : Segment) (slot : ℕ) (before : Session) → Goes q h seg slot before → freesSlot h refusal.NotOpened ≡ true
+      → (trials : ℕ) → P (lent (refusedAt (withSession q slot noSession) refusal.NotOpened trials) msg)
 
 -- 9 and 11 of a whole message are two of the refusals
 by-admission :
-    {A : Type 0} (P : A → Type 0) (a : Admission) {refuse : Refusal → A} {t : A} → ((n : Refusal) → early n ≡ false → P (refuse n)) → P t → P (unless a refuse t)
+    {A : Type 0} (P : A → Type 0) (h : Header) (a : Admission) {refuse : Refusal → A} {t : A}
+    → ((n : Refusal) → late n ≡ true → freesSlot h n ≡ false → P (refuse n)) → P t → P (unless a refuse t)
 unfolding unless
-by-admission P Replayed f p = f _ refl
-by-admission P NoEntryLeft f p = f _ refl
-by-admission P Admitted f p = p
+by-admission P h Replayed f p = f _ refl refl
+by-admission P h NoEntryLeft f p = f _ refl refl
+by-admission P h Admitted f p = p
 
 module _ (q : Receiver) (h : Header) (msg : List ℕ) (room : messageOctets ≤ length msg) (P : Lent Taken → Type 0) (w : Ways q h msg P) where
-  refused : (n : Refusal) → early n ≡ false → P (lent (refusedAt q n 0) msg)
+  refused : (n : Refusal) → late n ≡ true → freesSlot h n ≡ false → P (lent (refusedAt q n 0) msg)
   refused n = w .refuses n 0
 
   -- ---- a message is opened, or no key opens it
   module _ (t : Opened → Taken) (opens : (key : MessageKey) (trials len : ℕ) (left : List ℕ) → P (lent (t (Message key trials len)) left))
       (none : (trials : ℕ) → P (lent (t (NotOpened trials)) msg)) where
-    by-opened : (o : Opened) (left : List ℕ) → (0 < paper o → left ≡ msg) → (o ≡ ShortBuffer → ⊥) → P (lent (t o) left)
+    by-opened : (o : Opened) (left : List ℕ) → (0 < numberOf (paper o) → left ≡ msg) → (o ≡ ShortBuffer → ⊥) → P (lent (t o) left)
     by-opened (Message key trials len) left e n = opens key trials len left
     by-opened (NotOpened trials) left e n = subst (λ (b : List ℕ). P (lent (t (NotOpened trials)) b)) (sym (e (omega arith))) (none trials)
     by-opened ShortBuffer left e n = absurd (n refl)
@@ -115,22 +130,22 @@ module _ (q : Receiver) (h : Header) (msg : List ℕ) (room : messageOctets ≤ 
         (λ s. omega (arith, unsecuring-short (q .node .appkeys) (q .node .applications) (q .node .device) e c msg s))
 
   -- ---- whole messages
-  walk-access : (akf : Bool) (aid : ℕ) → P (wholeAccess q h akf aid msg)
+  walk-access : (akf : Bool) (aid : ℕ) → isSegment (formOf h) ≡ false → P (wholeAccess q h akf aid msg)
   unfolding wholeAccess openedWhole openedAs
-  walk-access akf aid =
-      by-admission P (admission (q .replay) h) refused
-      (by-unsecuring (openedAs q h) (w .access-whole) (λ trials. w .refuses refusal.NotOpened trials refl) (wholeEnvelope h akf aid) (drop 1 (transportOf h)))
+  walk-access akf aid one =
+      by-admission P h (admission (q .replay) h) refused
+      (by-unsecuring (openedAs q h) (w .access-whole) (λ trials. w .refuses refusal.NotOpened trials refl one) (wholeEnvelope h akf aid) (drop 1 (transportOf h)))
 
   walk-control : (opcode : ℕ) → P (wholeControl q h opcode msg)
   unfolding wholeControl
-  walk-control opcode = by-admission P (admission (q .replay) h) refused (w .control-whole opcode)
+  walk-control opcode = by-admission P h (admission (q .replay) h) refused (w .control-whole opcode)
 
   walk-acknowledgement : (obo : Bool) (seqZero bits : ℕ) → P (lent (wholeAcknowledgement q h obo seqZero bits) msg)
   unfolding wholeAcknowledgement
-  walk-acknowledgement obo seqZero bits = by-admission (λ (t : Taken). P (lent t msg)) (admission (q .replay) h) refused (w .acknowledges obo seqZero bits)
+  walk-acknowledgement obo seqZero bits = by-admission (λ (t : Taken). P (lent t msg)) h (admission (q .replay) h) refused (w .acknowledges obo seqZero bits)
 
   -- ---- segments
-  module _ (seg : Segment) (slot : ℕ) (before : Session) (g : Goes q h seg slot before) where
+  module _ (many : isSegment (formOf h) ≡ true) (seg : Segment) (slot : ℕ) (before : Session) (g : Goes q h seg slot before) where
     walk-gathered : P (gathered q slot (stored before h (seg .sego)) msg)
     unfolding gathered accessUp accessUpAs
     walk-gathered =
@@ -138,46 +153,46 @@ module _ (q : Receiver) (h : Header) (msg : List ℕ) (room : messageOctets ≤ 
         let free = withSession q slot noSession in
         by-choice P (complete s) {x = if s .terms .ctl then controlUp free s msg else accessUp free s msg}
         (λ _. by-choice P (s .terms .ctl) {x = controlUp free s msg} {y = accessUp free s msg} (λ _. w .control-gathered slot s)
-        (λ _. by-unsecuring (accessUpAs free s) (w .access-gathered slot s) (w .frees slot) (sessionEnvelope s) (messageOf s)))
+        (λ _. by-unsecuring (accessUpAs free s) (w .access-gathered slot s) (w .frees seg slot before g many) (sessionEnvelope s) (messageOf s)))
         (w .stores seg slot before g)
 
-  module _ (seg : Segment) (n : seg .terms .segn < 32) (o : seg .sego ≤ seg .terms .segn) where
+  module _ (many : isSegment (formOf h) ≡ true) (seg : Segment) (n : seg .terms .segn < 32) (o : seg .sego ≤ seg .terms .segn) where
     walk-placed : (d : Decision) → Within (q .sessions) (h .src) seg d → P (placedAs d q h seg msg)
     unfolding placedAs
     walk-placed (decided.Repeat bits) i = w .repeats (seg .auth) bits
-    walk-placed (decided.Join slot) i = walk-gathered seg slot _ (record { segN-fits = n; segO-most = o; stands = inl (i, refl) })
-    walk-placed (decided.Open slot) i = walk-gathered seg slot _ (record { segN-fits = n; segO-most = o; stands = inr (i, refl) })
-    walk-placed decided.Stale i = refused refusal.Replayed refl
-    walk-placed decided.Differs i = refused refusal.Differs refl
-    walk-placed decided.NoEntryLeft i = refused refusal.NoEntryLeft refl
-    walk-placed decided.NoSlotLeft i = refused refusal.NoSlotLeft refl
+    walk-placed (decided.Join slot) i = walk-gathered many seg slot _ (record { segN-fits = n; segO-most = o; stands = inl (i, refl) })
+    walk-placed (decided.Open slot) i = walk-gathered many seg slot _ (record { segN-fits = n; segO-most = o; stands = inr (i, refl) })
+    walk-placed decided.Stale i = refused refusal.Replayed refl refl
+    walk-placed decided.Differs i = refused refusal.Differs refl refl
+    walk-placed decided.NoEntryLeft i = refused refusal.NoEntryLeft refl refl
+    walk-placed decided.NoSlotLeft i = refused refusal.NoSlotLeft refl refl
 
-  module _ (fields : SegmentFields) (full : ℕ) (i : InRange fields (h .len) full) where
+  module _ (many : isSegment (formOf h) ≡ true) (fields : SegmentFields) (full : ℕ) (i : InRange fields (h .len) full) where
     walk-segmented-as : (a : SeqAuth) → P (segmentedAs a q h fields msg)
     unfolding segmentedAs placed
-    walk-segmented-as Nowhere = refused refusal.NoSeqAuth refl
+    walk-segmented-as Nowhere = refused refusal.NoSeqAuth refl refl
     walk-segmented-as (At auth) =
         let seg = segmentOf h fields auth in
-        walk-placed seg (i .segN-fits) (segO-fits fields (h .len) full i) (decision (q .replay) (q .sessions) (h .src) seg) (decision-within (q .replay) (q .sessions) (h .src) seg)
+        walk-placed many seg (i .segN-fits) (segO-fits fields (h .len) full i) (decision (q .replay) (q .sessions) (h .src) seg) (decision-within (q .replay) (q .sessions) (h .src) seg)
 
     walk-segmented : P (segmented q h fields msg)
     unfolding segmented
     walk-segmented = walk-segmented-as (seqAuth (h .seq) (fields .seqzero))
 
   -- ---- by the form
-  walk-form : (f : Form) → Kept h f → P (takenAs f q h msg)
+  walk-form : (f : Form) → formOf h ≡ f → Kept h f → P (takenAs f q h msg)
   unfolding takenAs
-  walk-form form.Wrong k = refused refusal.WrongForm refl
-  walk-form (form.Access akf aid) k = walk-access akf aid
-  walk-form (form.AccessSegment akf aid fields) k = walk-segmented fields 16 (k .2)
-  walk-form (form.Control opcode) k = walk-control opcode
-  walk-form (form.ControlSegment opcode fields) k = walk-segmented fields 12 (k .2)
-  walk-form (form.Acknowledgement obo seqZero bits) k = walk-acknowledgement obo seqZero bits
+  walk-form form.Wrong e k = refused refusal.WrongForm refl refl
+  walk-form (form.Access akf aid) e k = walk-access akf aid (ap isSegment e)
+  walk-form (form.AccessSegment akf aid fields) e k = walk-segmented (ap isSegment e) fields 16 (k .2)
+  walk-form (form.Control opcode) e k = walk-control opcode
+  walk-form (form.ControlSegment opcode fields) e k = walk-segmented (ap isSegment e) fields 12 (k .2)
+  walk-form (form.Acknowledgement obo seqZero bits) e k = walk-acknowledgement obo seqZero bits
 
   pub walk-taken : P (taken q h msg)
   unfolding taken
   walk-taken =
-      by-choice P (forNode (q .node) (h .dst)) {x = takenAs (formOf h) q h msg} (λ _. walk-form (formOf h) (keeps-to-ranges h)) (λ _. refused refusal.NotForNode refl)
+      by-choice P (forNode (q .node) (h .dst)) {x = takenAs (formOf h) q h msg} (λ _. walk-form (formOf h) refl (keeps-to-ranges h)) (λ _. refused refusal.NotForNode refl refl)
 
 -- ---- what a call leaves of the receiver
 module _ (r : Receiver) (pdu fwd msg : List ℕ) (P : Receiver → Type 0) where

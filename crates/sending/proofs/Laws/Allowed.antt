@@ -3,8 +3,10 @@
 --   access-allows, control-allows   the message besides
 --   application-there               an application key that may be used is there, and bound to the network key
 --   whole-short                     a message that goes whole is short
---   segment-allowed                 a segment is allowed where its tests pass
-use mathlib.Core.Bool.{Bool, true, false, not, false≢true}
+--   access-alone, control-alone     a segmented message is begun where none is kept
+--   sendable-allowed                a DST that may be sent to is one that may be sealed
+--   segment-allowed, segment-allows   a segment is allowed where its tests pass, and there alone
+use mathlib.Core.Bool.{Bool, true, false, _||_, not, false≢true}
 use mathlib.Core.Path.{_≡_, refl}
 use Prim.Native.Nat.{ℕ, _+_, _≤_, _<_, min}
 use native.Mathlib.Omega.{arith}
@@ -13,7 +15,9 @@ use lib.Dec.{eqb, leb, ltb}
 use Rattle.common.specs.Bits.{hasBit}
 use Rattle.common.proofs.Tests.{and-first, and-second}
 use Rattle.modes.specs.Ccm.{micOctets}
-use Rattle.network.specs.Address.{kindOf}
+use Rattle.network.specs.declared.address.AddressKind.{AddressKind}
+use Rattle.network.specs.declared.address.AddressKind.the-variants as address
+use Rattle.network.specs.Address.{kindOf, destinationKind}
 use Rattle.network.specs.Candidates.{networkKeyPlaces}
 use Rattle.node.specs.declared.addresses.Node.{Node}
 use Rattle.transport.specs.declared.securing.MessageKey.{MessageKey}
@@ -121,6 +125,32 @@ control-allows r q opcode len e =
       parameters-most = leb-true len 256 (and-first (leb len 256) _ e3);
     }
 
+-- ---- a segmented message is begun where none is kept
+pub access-alone :
+    (r : Receiver) (q : Request) (key : MessageKey) (szmic : Bool) (len : ℕ) → accessAllowed r q key szmic len ≡ true → isWhole szmic len ≡ false → r .out .src ≡ 0
+unfolding accessAllowed
+access-alone r q key szmic len a w =
+    let e1 = and-second (requestAllowed (r .node) q) _ a in
+    let e2 = and-second (keyAllowed (r .node) q key) _ e1 in
+    let e3 : isWhole szmic len || eqb (r .out .src) 0 ≡ true = and-second (sizeAllowed szmic len) _ e2 in
+    eqb-true (r .out .src) 0 (rw w at e3)
+
+pub control-alone : (r : Receiver) (q : Request) (opcode len : ℕ) → controlAllowed r q opcode len ≡ true → leb len 11 ≡ false → r .out .src ≡ 0
+unfolding controlAllowed
+control-alone r q opcode len a w =
+    let e1 = and-second (requestAllowed (r .node) q) _ a in
+    let e2 = and-second (leb 1 opcode) _ e1 in
+    let e3 = and-second (leb opcode 0x7F) _ e2 in
+    let e4 : leb len 11 || eqb (r .out .src) 0 ≡ true = and-second (leb len 256) _ e3 in
+    eqb-true (r .out .src) 0 (rw w at e4)
+
+-- ---- a DST that may be sent to passes refusal 4's rule
+pub sendable-allowed : (k : AddressKind) (ctl : Bool) → sendableKind k ≡ true → destinationKind ctl k ≡ true
+sendable-allowed address.Unassigned ctl e = absurd (false≢true e)
+sendable-allowed address.Unicast ctl e = refl
+sendable-allowed address.Virtual ctl e = absurd (false≢true e)
+sendable-allowed address.Group ctl e = refl
+
 -- ---- a segment: a message is kept, it is one of it and not yet heard, and the SEQ is at most 8,191 after that of segment 0
 pub segment-allowed :
     (r : Receiver) (element n : ℕ) → (r .out .src ≡ 0 → ⊥) → n ≤ r .out .terms .segn → n ≤ 31 → hasBit (r .out .heard) n ≡ false
@@ -134,3 +164,19 @@ segment-allowed r element n z last low unheard near =
       unheard,
       le-leb (nextSeq r element) (r .out .auth .seq + 8191) near,
     ) refl
+
+-- and where it is allowed, it is one of the message, and its SEQ is near
+pub record SegmentAllows (r : Receiver) (element n : ℕ) : Type 0 where
+  pub segment-there : n ≤ r .out .terms .segn
+  pub near : nextSeq r element ≤ r .out .auth .seq + 8191
+
+pub segment-allows : (r : Receiver) (element n : ℕ) → segmentAllowed r element n ≡ true → SegmentAllows r element n
+unfolding segmentAllowed
+segment-allows r element n e =
+    let e1 = and-second (not (eqb (r .out .src) 0)) _ e in
+    let e2 = and-second (leb n (r .out .terms .segn)) _ e1 in
+    let e3 = and-second (leb n 31) _ e2 in
+    record {
+      segment-there = leb-true n (r .out .terms .segn) (and-first (leb n (r .out .terms .segn)) _ e1);
+      near = leb-true (nextSeq r element) (r .out .auth .seq + 8191) (and-second (not (hasBit (r .out .heard) n)) _ e3);
+    }

@@ -2,6 +2,7 @@
 -- one walk down each call's chain of tests, with the tests that hold at its end. Assumes nothing.
 --   walk-..                        each call
 --   ..-whole, ..-begun, ..-sent    what a call says where its tests pass
+--   acknowledgement-..             an acknowledgement, sent or refused
 --   chosen-..                      what is acknowledged
 use mathlib.Core.Bool.{Bool, true, false}
 use mathlib.Core.List.{List}
@@ -13,7 +14,7 @@ use lib.ListN.{length}
 use Rattle.common.specs.Bits.{allBits}
 use Rattle.common.specs.Choice.{if_then_else_}
 use Rattle.common.specs.Lent.{Lent, lent}
-use Rattle.common.proofs.Tests.{by-choice}
+use Rattle.common.proofs.Tests.{by-test, by-choice}
 use Rattle.network.specs.declared.header.Header.{Header}
 use Rattle.network.specs.Address.{isUnicast}
 use Rattle.network.specs.Pdu.{pduOctets}
@@ -31,18 +32,18 @@ use Rattle.sending.specs.declared.acknowledge.Chosen.{Chosen}
 use Rattle.sending.specs.declared.answer.Spoken.{Spoken}
 use Rattle.sending.specs.declared.request.Request.{Request}
 use Rattle.sending.specs.Access.{keyed, isWhole, accessAllowed, envelopeOf, wholeHeader, outgoingOf, sayingAccess, sendingAccess}
-use Rattle.sending.specs.Acknowledge.{chosen, acknowledgementHeader, sayingAcknowledgement, acknowledging}
+use Rattle.sending.specs.Acknowledge.{noChoice, chosen, acknowledgementHeader, sayingAcknowledgement, acknowledging}
 use Rattle.sending.specs.Answer.{refusedAt}
 use Rattle.sending.specs.Control as control
 use Rattle.sending.specs.Segment.{segmentHeader, starting, elementOf, segmentAllowed, sendingSegment}
 use Rattle.sending.specs.Transmission.{sendingIv}
-use Rattle.sending.proofs.Laws.Transmitted.{saying}
+use Rattle.sending.proofs.Laws.Transmitted.{checked, saying}
 
 -- what an access message is sent as: whole, or begun
 abbrev pub accessHeader : Receiver → Request → MessageKey → Bool → List ℕ → Header
 accessHeader r q key szmic payload = let k = keyed (r .node) key in wholeHeader (envelopeOf r q k szmic) q k payload
 
-module _ (r : Receiver) (buf : List ℕ) (P : Lent Spoken → Type 0) (refused : (n : Refusal) → P (lent (refusedAt r n) buf)) where
+module _ (r : Receiver) (buf : List ℕ) (P : Lent Spoken → Type 0) (refused : (n : Refusal) → checked n ≡ true → P (lent (refusedAt r n) buf)) where
   abbrev short : Lent Spoken
   short = lent (refusedAt r refusal.ShortBuffer) buf
 
@@ -64,11 +65,11 @@ module _ (r : Receiver) (buf : List ℕ) (P : Lent Spoken → Type 0) (refused :
     unfolding sendingAccess sayingAccess
     walk-access said started =
         let k = keyed (r .node) key in
-        by-choice P (ltb (length buf) pduOctets) {x = short} {y = if allowed then sayingAccess r q key szmic payload buf else outside} (λ _. refused refusal.ShortBuffer)
+        by-choice P (ltb (length buf) pduOctets) {x = short} {y = if allowed then sayingAccess r q key szmic payload buf else outside} (λ _. refused refusal.ShortBuffer refl)
         (λ _. by-choice P allowed {x = sayingAccess r q key szmic payload buf} {y = outside}
         (λ a. by-choice P whole {x = saying r (q .element) (accessHeader r q key szmic payload) buf}
         {y = starting r (q .element) (outgoingOf (envelopeOf r q k szmic) q k payload) buf} (said a) (started a))
-        (λ _. refused refusal.OutsideRules))
+        (λ _. refused refusal.OutsideRules refl))
 
   module _ (q : Request) (opcode : ℕ) (parameters : List ℕ) where
     abbrev fine : Bool
@@ -81,11 +82,11 @@ module _ (r : Receiver) (buf : List ℕ) (P : Lent Spoken → Type 0) (refused :
     unfolding control.sendingControl control.sayingControl
     walk-control said started =
         let h = control.wholeHeader (sendingIv (r .node)) q opcode parameters in
-        by-choice P (ltb (length buf) pduOctets) {x = short} {y = if fine then control.sayingControl r q opcode parameters buf else outside} (λ _. refused refusal.ShortBuffer)
+        by-choice P (ltb (length buf) pduOctets) {x = short} {y = if fine then control.sayingControl r q opcode parameters buf else outside} (λ _. refused refusal.ShortBuffer refl)
         (λ _. by-choice P fine {x = control.sayingControl r q opcode parameters buf} {y = outside}
         (λ a. by-choice P (leb (length parameters) 11) {x = saying r (q .element) h buf} {y = starting r (q .element) (control.outgoingOf r q opcode parameters) buf}
         (said a) (started a))
-        (λ _. refused refusal.OutsideRules))
+        (λ _. refused refusal.OutsideRules refl))
 
   pub walk-segment :
       (n : ℕ)
@@ -96,10 +97,10 @@ module _ (r : Receiver) (buf : List ℕ) (P : Lent Spoken → Type 0) (refused :
       let element = elementOf (r .node) (r .out .src) in
       let sent = saying r element (segmentHeader (r .out) n) buf in
       by-choice P (ltb (length buf) pduOctets) {x = short} {y = if ltb element elementPlaces then (if segmentAllowed r element n then sent else outside) else outside}
-      (λ _. refused refusal.ShortBuffer)
+      (λ _. refused refusal.ShortBuffer refl)
       (λ _. by-choice P (ltb element elementPlaces) {x = if segmentAllowed r element n then sent else outside} {y = outside}
-      (λ t. by-choice P (segmentAllowed r element n) {x = sent} {y = outside} (said (ltb-true element elementPlaces t)) (λ _. refused refusal.OutsideRules))
-      (λ _. refused refusal.OutsideRules))
+      (λ t. by-choice P (segmentAllowed r element n) {x = sent} {y = outside} (said (ltb-true element elementPlaces t)) (λ _. refused refusal.OutsideRules refl))
+      (λ _. refused refusal.OutsideRules refl))
 
   pub walk-acknowledge :
       (net src : ℕ)
@@ -113,12 +114,12 @@ module _ (r : Receiver) (buf : List ℕ) (P : Lent Spoken → Type 0) (refused :
       let sent = saying r element (acknowledgementHeader (sendingIv (r .node)) net src c) buf in
       by-choice P (ltb (length buf) pduOctets) {x = short}
       {y = if ltb net (min (r .node .networks) networkKeyPlaces) then (if isUnicast (c .dst) then (if ltb element elementPlaces then sent else outside) else outside) else outside}
-      (λ _. refused refusal.ShortBuffer)
+      (λ _. refused refusal.ShortBuffer refl)
       (λ _. by-choice P (ltb net (min (r .node .networks) networkKeyPlaces)) {x = if isUnicast (c .dst) then (if ltb element elementPlaces then sent else outside) else outside} {y = outside}
       (λ _. by-choice P (isUnicast (c .dst)) {x = if ltb element elementPlaces then sent else outside} {y = outside}
-      (λ _. by-choice P (ltb element elementPlaces) {x = sent} {y = outside} (λ t. said (ltb-true element elementPlaces t)) (λ _. refused refusal.OutsideRules))
-      (λ _. refused refusal.OutsideRules))
-      (λ _. refused refusal.OutsideRules))
+      (λ _. by-choice P (ltb element elementPlaces) {x = sent} {y = outside} (λ t. said (ltb-true element elementPlaces t)) (λ _. refused refusal.OutsideRules refl))
+      (λ _. refused refusal.OutsideRules refl))
+      (λ _. refused refusal.OutsideRules refl))
 
 -- ---- where the tests pass
 module _ (r : Receiver) (buf : List ℕ) (wide : pduOctets ≤ length buf) where
@@ -159,7 +160,34 @@ module _ (r : Receiver) (buf : List ℕ) (wide : pduOctets ≤ length buf) where
   acknowledgement-sent net src c e there unicast low =
       rw (e, le-ltb (length buf) pduOctets wide, lt-ltb net (min (r .node .networks) networkKeyPlaces) there, unicast, lt-ltb (elementOf (r .node) (c .dst)) elementPlaces low) refl
 
+  -- ---- an acknowledgement is refused 14: the network key is not there, or what is chosen was not sent to a unicast address
+  pub acknowledgement-no-key :
+      (net src : ℕ) → min (r .node .networks) networkKeyPlaces ≤ net → acknowledging r net src buf ≡ lent (refusedAt r refusal.OutsideRules) buf
+  unfolding acknowledging
+  acknowledgement-no-key net src past = rw (le-ltb (length buf) pduOctets wide, le-ltb net (min (r .node .networks) networkKeyPlaces) past) refl
+
+  pub acknowledgement-not-unicast :
+      (net src : ℕ) (c : Chosen) → chosen (r .replay) (r .sessions) src ≡ c → isUnicast (c .dst) ≡ false
+      → acknowledging r net src buf ≡ lent (refusedAt r refusal.OutsideRules) buf
+  unfolding acknowledging
+  acknowledgement-not-unicast net src c e other =
+      by-test (ltb net (min (r .node .networks) networkKeyPlaces))
+      (λ t. rw (e, le-ltb (length buf) pduOctets wide, t, other) refl)
+      (λ t. rw (le-ltb (length buf) pduOctets wide, t) refl)
+
+-- ---- an acknowledgement is said as any header is
+pub acknowledgement-said :
+    (r : Receiver) (element net src : ℕ) (c : Chosen) (buf : List ℕ)
+    → sayingAcknowledgement r element net src c buf ≡ saying r element (acknowledgementHeader (sendingIv (r .node)) net src c) buf
+unfolding sayingAcknowledgement
+acknowledgement-said r element net src c buf = refl
+
 -- ---- what is acknowledged of a source
+-- no source is 0
+pub chosen-zero : (replay : List Entry) (sessions : List Session) → chosen replay sessions 0 ≡ noChoice
+unfolding chosen
+chosen-zero replay sessions = refl
+
 module _ (replay : List Entry) (sessions : List Session) (src : ℕ) (z : src ≡ 0 → ⊥) where
   abbrev own : ℕ
   own = sessionPlace sessions (record { src = src })

@@ -3,31 +3,49 @@
 --   headerSent                            the header of a transport PDU, as an element sends it
 --   whole-access, whole-control           a message that goes in one PDU is sent so
 --   segment-out                           and so is each segment of the message that is kept
+--   acknowledgement-long, -out            and an acknowledgement, of seven octets
+--   segment-unheard                       whatever of it is heard
 --   Keeps, keeps-access, keeps-control    what is kept of a message in segments
 --   envelope-is                           what the second nonce rests on
 use mathlib.Core.Bool.{Bool, true, false}
 use mathlib.Core.List.{List, _∷_, _++_}
 use mathlib.Core.Path.{_≡_, refl}
 use Prim.Native.Nat.{ℕ, _-_, _%_, _≤_}
-use lib.ListN.{length, take}
+use native.Mathlib.Omega.{arith}
+use lib.ListN.{length, take, length-append}
 use Rattle.common.specs.Chunks.{chunk, chunkCount}
 use Rattle.common.specs.Lists.{padded}
 use Rattle.network.specs.declared.header.Header.{Header}
+use Rattle.network.specs.Octets.{octets}
+use Rattle.network.proofs.OctetsLaws.{length-octets}
 use Rattle.network.proofs.TrialLaws.{take-padded}
 use Rattle.transport.specs.declared.securing.Envelope.{Envelope}
 use Rattle.transport.specs.Securing.{secured}
-use Rattle.transport.specs.Segment.{messageOctets, accessOctet, controlOctet, fullOctets, segmentFront}
+use Rattle.transport.specs.Segment.{messageOctets, accessOctet, controlOctet, fullOctets, segmentFront, acknowledgementNumber, acknowledgementOctets}
 use Rattle.memory.specs.declared.outgoing.Outgoing.{Outgoing}
 use Rattle.memory.specs.declared.pair.Pair.{Pair}
 use Rattle.memory.specs.declared.session.Terms.{Terms}
+use Rattle.memory.specs.Outgoing.{withHeard}
 use Rattle.receiver.specs.declared.state.Receiver.{Receiver}
 use Rattle.sending.specs.declared.access.KeyUsed.{KeyUsed}
+use Rattle.sending.specs.declared.acknowledge.Chosen.{Chosen}
 use Rattle.sending.specs.declared.request.Request.{Request}
 use Rattle.sending.specs.Access.{envelopeOf, wholePdu, wholeHeader, lastSegment, outgoingOf}
+use Rattle.sending.specs.Acknowledge.{acknowledgementHeader}
 use Rattle.sending.specs.Control as control
-use Rattle.sending.specs.Request.{ttlOf}
+use Rattle.sending.specs.Request.{unnamedTtl, ttlOf}
 use Rattle.sending.specs.Segment.{outgoingChunk, segmentPdu, segmentHeader}
 use Rattle.sending.specs.Transmission.{sendingIv, addressOf, nextSeq, stamped}
+
+-- an acknowledgement has seven octets
+pub acknowledgement-long : (obo : Bool) (seqZero bits : ℕ) → length (acknowledgementOctets obo seqZero bits) ≡ 7
+unfolding acknowledgementOctets
+acknowledgement-long obo seqZero bits =
+    let n = acknowledgementNumber obo seqZero in
+    let e = length-append (octets 2 n) (octets 4 bits) in
+    let two = length-octets 2 n in
+    let four = length-octets 4 bits in
+    omega arith
 
 -- ---- as it is sent
 module _ (r : Receiver) (element : ℕ) where
@@ -71,6 +89,19 @@ module _ (r : Receiver) (element : ℕ) where
       (segmentFront (t .first) (t .szmic) (o .auth .seq % 8192) segO (t .segn) ++ chunk (fullOctets (t .ctl)) (take (o .len) (o .bytes)) segO))
   unfolding stamped segmentHeader segmentPdu outgoingChunk
   segment-out o segO = refl
+
+  -- the seven octets of an acknowledgement, OBO 0
+  pub acknowledgement-out :
+      (iv net src : ℕ) (c : Chosen)
+      → stamped r element (acknowledgementHeader iv net src c)
+      ≡ headerSent net iv true unnamedTtl src (acknowledgementOctets false (c .auth .seq % 8192) (c .bits))
+  unfolding stamped acknowledgementHeader
+  acknowledgement-out iv net src c = rw (acknowledgement-long false (c .auth .seq % 8192) (c .bits)) refl
+
+-- what is heard of a message is no part of its segments
+pub segment-unheard : (o : Outgoing) (heard segO : ℕ) → segmentHeader (withHeard o heard) segO ≡ segmentHeader o segO
+unfolding segmentHeader segmentPdu outgoingChunk
+segment-unheard o heard segO = refl
 
 -- ---- as it is kept
 -- whose it is, its SeqAuth, what its segments have in common, its TTL, its octets; nothing of it is acknowledged yet

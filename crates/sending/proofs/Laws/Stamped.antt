@@ -3,6 +3,7 @@
 --   Stamps, stamps               a header, stamped
 --   address-local                an element's address is local
 --   element-back, element-low    its address leads back to it, and a local address to one of eight elements
+--   address-back                 which has that address
 --   sending-near                 the IV Index that is sent with
 --   address-fixed, element-fixed   setup fixed which element has which address
 use mathlib.Core.Bool.{true}
@@ -48,6 +49,14 @@ module _ (node : Node) (made : WellMade node) where
   pub element-low : (a : ℕ) → isLocal node a ≡ true → elementOf node a < elementPlaces
   unfolding elementOf
   element-low a t = let b = local-bounds node a t .1 in let f = local-bounds node a t .0 in rw t (omega arith)
+
+  pub address-back : (a : ℕ) → isLocal node a ≡ true → addressOf node (elementOf node a) ≡ a
+  unfolding addressOf elementOf
+  address-back a t =
+      let b = local-bounds node a t .1 in
+      let f = local-bounds node a t .0 in
+      let l = made .last-most in
+      rw t (omega arith)
 
   -- ---- the IV Index
   pub sending-near : (sendingIv node ≡ node .iv) ⊎ (sendingIv node + 1 ≡ node .iv)

@@ -1,16 +1,17 @@
 -- One transmission: it leaves everything, or the PDU was sealed with the element's next SEQ, which is used. Each test on the way is walked once; what is said of a transmission,
 -- and starting a message, follow its answer. Assumes nothing.
+--   checked n                 the refusals of sending
 --   Sends                     the tests that a transmission passes
 --   used r element            the receiver with that SEQ used
 --   by-saying, by-starting    what holds of each refusal and of a PDU sent holds of the call
 --   saying-is, starting-is    what is sent where the tests pass
 --   by-stopping               giving up the outgoing message
-use mathlib.Core.Bool.{true}
+use mathlib.Core.Bool.{Bool, true, _&&_}
 use mathlib.Core.List.{List}
 use mathlib.Core.Path.{_≡_, refl, ap}
 use Prim.Native.Nat.{ℕ, _+_, _≤_, _<_}
 use borrow.Author.Tests.{lt-ltb, le-ltb, ltb-true, ltb-false}
-use lib.Dec.{eqb, ltb}
+use lib.Dec.{eqb, leb, ltb}
 use lib.ListN.{length, set}
 use lib.Seq.{getD-set-same}
 use Rattle.common.specs.Lent.{Lent, lent}
@@ -30,6 +31,7 @@ use Rattle.receiver.specs.declared.answer.Refusal.the-variants as refusal
 use Rattle.receiver.specs.declared.give_up.Answer.the-variants as give-up
 use Rattle.receiver.specs.declared.give_up.GivenUp.{GivenUp}
 use Rattle.receiver.specs.declared.state.Receiver.{Receiver}
+use Rattle.receiver.specs.Answer.{refusalNumber}
 use Rattle.receiver.specs.State.{withOutgoing}
 use Rattle.sending.specs.declared.answer.Answer.the-variants as answer
 use Rattle.sending.specs.declared.answer.Spoken.{Spoken}
@@ -40,6 +42,10 @@ use Rattle.sending.specs.Segment.{segmentHeader, startedAs, starting}
 use Rattle.sending.specs.Stop.{stopping}
 use Rattle.sending.specs.Transmission.{nextSeq, withNext, stamped, noTransmission, sentAs, transmitted}
 use Rattle.sending.proofs.NewSeq.{next-rises}
+
+-- 16, 14 and 15
+abbrev pub checked : Refusal → Bool
+checked n = leb 14 (refusalNumber n) && leb (refusalNumber n) 16
 
 -- the element's next SEQ is used, and nothing else is changed
 abbrev pub used : Receiver → ℕ → Receiver
@@ -106,11 +112,11 @@ module _ (r : Receiver) (element : ℕ) (h : Header) (buf : List ℕ) where
       (λ _. unsealed))
 
   pub by-saying :
-      (P : Lent Spoken → Type 0) → ((n : Refusal) → P (lent (refusedAt r n) buf))
+      (P : Lent Spoken → Type 0) → ((n : Refusal) → checked n ≡ true → P (lent (refusedAt r n) buf))
       → (Sends r element h buf → P (lent (record { answer = answer.Sent (length pdu); receiver = used r element }) (onto pdu buf))) → P (saying r element h buf)
   unfolding spoken
   by-saying P refused sent =
-      by-transmitted (λ (t : Lent Transmitted). P (lent (spoken (t .answer)) (t .buffer))) (refused refusal.NoSeqLeft) (refused refusal.OutsideRules) sent
+      by-transmitted (λ (t : Lent Transmitted). P (lent (spoken (t .answer)) (t .buffer))) (refused refusal.NoSeqLeft refl) (refused refusal.OutsideRules refl) sent
 
 -- ---- a message is begun: segment 0 is sent, and it is kept
 module _ (r : Receiver) (element : ℕ) (o : Outgoing) (buf : List ℕ) where
@@ -127,11 +133,11 @@ module _ (r : Receiver) (element : ℕ) (o : Outgoing) (buf : List ℕ) where
   starting-is s = rw (transmitted-is r element first buf s) refl
 
   pub by-starting :
-      (P : Lent Spoken → Type 0) → ((n : Refusal) → P (lent (refusedAt r n) buf)) → (Sends r element first buf → P begun) → P (starting r element o buf)
+      (P : Lent Spoken → Type 0) → ((n : Refusal) → checked n ≡ true → P (lent (refusedAt r n) buf)) → (Sends r element first buf → P begun) → P (starting r element o buf)
   unfolding starting
   by-starting P refused sent =
       by-transmitted r element first buf (λ (t : Lent Transmitted). P (lent (startedAs (t .answer .answer) (t .answer .receiver) o) (t .buffer)))
-      (refused refusal.NoSeqLeft) (refused refusal.OutsideRules) sent
+      (refused refusal.NoSeqLeft refl) (refused refusal.OutsideRules refl) sent
 
 -- ---- the outgoing message is given up
 pub by-stopping :
