@@ -28,9 +28,21 @@ use Rattle.demands.proofs.Pieces.{Row, row-more, row-made}
 use Rattle.demands.proofs.SentLaws.{keptAs, sendingAs, Way, Whole, Begun, way, step-is}
 
 -- ---- tables
-each-table : {A : Type 0} (P : A → Type 0) (f : ℕ → A) (n m : ℕ) → ((j : ℕ) → n ≤ j → j < n + m → P (f j)) → Each P (tabFrom f n m)
+-- what holds of each, one after another
+infixr 5 _then_
+pub _then_ : {A B : Type 0} → A → B → A × B
+a then b = (a, b)
+
+pub each-table : {A : Type 0} (P : A → Type 0) (f : ℕ → A) (n m : ℕ) → ((j : ℕ) → n ≤ j → j < n + m → P (f j)) → Each P (tabFrom f n m)
 each-table P f n zero g = tt {0}
 each-table P f n (suc m) g = (g n (omega arith) (omega arith), each-table P f (suc n) m (λ j a b. g j (omega arith) (omega arith)))
+
+-- what holds of each number of a table
+pub each-below : (P : ℕ → Type 0) (n m : ℕ) → Each P (tabFrom (λ i. i) n m) → (k : ℕ) → n ≤ k → k < n + m → P k
+each-below P n zero e k a b = absurd (omega arith)
+each-below P n (suc m) e k a b =
+    by-test (eqb k n) (λ t. subst P (sym (eqb-true k n t)) (e .0))
+    (λ t. let x = eqb-false k n t in each-below P (suc n) m (e .1) k (omega arith) (omega arith))
 
 each-piece : (P : Piece → Type 0) (ps : List Piece) → Each P ps → (i : ℕ) → i < length ps → P (pieceAt ps i)
 each-piece P [] e i h = absurd (omega arith)

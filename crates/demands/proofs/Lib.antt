@@ -37,6 +37,8 @@ pub mod ReadBack
 pub mod GoesOut
 pub mod InOrder
 pub mod Instance
+pub mod CrowdKeys
+pub mod Crowd
 pub mod Forwarding
 pub mod ForwardingMet
 pub mod AcknowledgedMet

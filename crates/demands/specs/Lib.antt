@@ -12,4 +12,5 @@ pub mod GoesOut
 pub mod InOrder
 pub mod Forwarding
 pub mod Instance
+pub mod Crowd
 pub mod Invariant
