@@ -236,23 +236,23 @@ unopened :
 unfolding opens
 unopened j keys pdu e t = ap (λ (k : NetworkKeys). tried k j 0x12345678 pdu .ok) e ∙ t
 
-second-0 : opens (node .materials) 0x12345678 (segmentPdu node (speechAt crowd 6) 0 0x000700 7) 0 ≡ false
+sent-0 : segmentPdu node (speechAt crowd 6) 0 0x000700 7 ≡ pdu0
 unfolding headerOf segmentOf lastOf octetsOf segmentFront segmentNumber controlOctet octets
-second-0 = rw (second-key, sealed-0) (unopened 0 firstKeys pdu0 first-key tried-0)
+sent-0 = rw second-key sealed-0
 
-second-1 : opens (node .materials) 0x12345678 (segmentPdu node (speechAt crowd 6) 1 0x000701 7) 0 ≡ false
+sent-1 : segmentPdu node (speechAt crowd 6) 1 0x000701 7 ≡ pdu1
 unfolding headerOf segmentOf lastOf octetsOf segmentFront segmentNumber controlOctet octets
-second-1 = rw (second-key, sealed-1) (unopened 0 firstKeys pdu1 first-key tried-1)
+sent-1 = rw second-key sealed-1
 
 by-second : (i : ℕ) → OwnFirst 6 i (0x000700 + i) → fitting 6 i (0x000700 + i) ≡ true → Arrives node crowd spent (sent 6 i)
 by-second i own t = tested-arrives 6 i (0x000700 + i) (omega arith) t own
 
 own-0 : OwnFirst 6 0 0x000700
-own-0 zero h = second-0
+own-0 zero h = rw sent-0 (unopened 0 firstKeys pdu0 first-key tried-0)
 own-0 (suc j) h = absurd (omega arith)
 
 own-1 : OwnFirst 6 1 0x000701
-own-1 zero h = second-1
+own-1 zero h = rw sent-1 (unopened 0 firstKeys pdu1 first-key tried-1)
 own-1 (suc j) h = absurd (omega arith)
 
 -- ---- PDUs that no key opens
@@ -350,4 +350,5 @@ crowd-met =
       short-refused = rw answers-short refl;
       nid-refused = rw answers-nid refl;
       forged-refused = rw answers-forged refl;
+      forged-else = rw sent-1 refl;
     }

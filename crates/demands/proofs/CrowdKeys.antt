@@ -1,26 +1,34 @@
--- The two network keys of the crowd, and what they make of a PDU, computed from the definitions, cipher and all, each step a fact of its own: what is derived of each key, the PDUs that the
--- second seals, and the trials of them by the first, which does not authenticate them. Assumes nothing.
-use mathlib.Core.Bool.{true, false}
+-- The two network keys of the crowd, and what they make of a PDU: computed from the definitions, cipher and all, in steps. What is derived of each key; the PDUs that the second seals; and
+-- their trials by the first, which authenticates none. A message of at most sixteen octets is xored with one block of the stream, so each block is computed once. Assumes nothing.
+use mathlib.Core.Bool.{Bool, true, false, _&&_}
 use mathlib.Core.List.{List, [], _∷_, _++_}
-use mathlib.Core.Path.{_≡_, refl}
-use Prim.Native.Nat.{ℕ, _%_}
-use lib.ListN.{getD}
-use Rattle.common.specs.Lists.{padded, xored}
+use mathlib.Core.Path.{_≡_, refl, ap, _∙_}
+use Prim.Native.Nat.{ℕ, _+_, _-_, _/_, _%_, _≤_}
+use native.Mathlib.Omega.{arith}
+use lib.Bits.{bitXor}
+use lib.Dec.{ltb}
+use lib.ListN.{length, getD, take, drop}
+use Rattle.common.specs.Lists.{padded, xored, same}
+use Rattle.common.proofs.Lists.{tab-ext}
+use Rattle.common.proofs.Tests.{by-test}
 use Rattle.aes.specs.Field.{xtime}
 use Rattle.aes.specs.Sbox.{sboxTable, sbox}
 use Rattle.aes.specs.Cipher.{subBytes, shiftRows, threeTimes, mixColumn, mixColumns, addRoundKey, round, lastRound, rounds, cipher}
 use Rattle.aes.specs.KeyExpansion.{wordOf, subWord, rotWord, xPower, rcon, temp, w, fourWords, roundKey, keySchedule}
-use Rattle.modes.specs.Ccm.{ccmBlock, firstBlock, macInput, macBlock, stream, streamOctet, ctr, mic, sealed, decrypted}
+use Rattle.modes.specs.declared.ccm.MicSize.{MicSize}
+use Rattle.modes.specs.declared.ccm.MicSize.the-variants.{Eight}
+use Rattle.modes.specs.Ccm.{micOctets, ccmBlock, firstBlock, macInput, macBlock, stream, streamOctet, ctr, mic, sealed, decrypted}
 use Rattle.modes.specs.Chain.{blocks, chain}
 use Rattle.modes.specs.Cmac.{shiftLeft, constRb, double, subkey1, subkey2, blockCount, complete, lastBlock, cmac}
 use Rattle.keys.specs.declared.NetworkKeys.{NetworkKeys}
 use Rattle.keys.specs.Derivation.{mac, k2T, k2T1, k2T2, k2T3, k2}
 use Rattle.keys.proofs.Salts.{salt-k2}
 use Rattle.network.specs.declared.header.Header.{Header}
+use Rattle.network.specs.Header.{transportOf}
 use Rattle.network.specs.Nonce.{ctlTtl, networkNonce}
 use Rattle.network.specs.Octets.{octets, numberFrom, number}
-use Rattle.network.specs.Pdu.{firstOctet, clearFront, privacyBlock, obfuscated, bodyOf, pduOf, frontOf}
-use Rattle.network.specs.Trial.{headerOf, nonceOf, bodyTried, tried}
+use Rattle.network.specs.Pdu.{netMic, firstOctet, clearFront, privacyBlock, obfuscated, bodyOf, pduOf, frontOf}
+use Rattle.network.specs.Trial.{ctlOf, nonceOf, bodyTried, tried}
 use Rattle.demands.specs.Crowd.{secondKey, forged}
 use Rattle.demands.specs.Instance.{networkKey}
 
@@ -31,11 +39,11 @@ salt = 0x4f ∷ 0x90 ∷ 0x48 ∷ 0x0c ∷ 0x18 ∷ 0x71 ∷ 0xbf ∷ 0xbf ∷ 0
 
 -- k2 from its four CMACs
 module _ (key t t1 t2 t3 : List ℕ) where
-  pub record Derives : Type 0 where
-    pub t-is : mac salt key ≡ t
-    pub t1-is : mac t (0x00 ∷ 0x01 ∷ []) ≡ t1
-    pub t2-is : mac t (t1 ++ (0x00 ∷ 0x02 ∷ [])) ≡ t2
-    pub t3-is : mac t (t2 ++ (0x00 ∷ 0x03 ∷ [])) ≡ t3
+  record Derives : Type 0 where
+    t-is : mac salt key ≡ t
+    t1-is : mac t (0x00 ∷ 0x01 ∷ []) ≡ t1
+    t2-is : mac t (t1 ++ (0x00 ∷ 0x02 ∷ [])) ≡ t2
+    t3-is : mac t (t2 ++ (0x00 ∷ 0x03 ∷ [])) ≡ t3
 
   derived : Derives → k2 key ≡ record { nid = getD t1 15 0 % 128; encryption = t2; privacy = t3 }
   unfolding k2 k2T k2T1 k2T2 k2T3
@@ -85,8 +93,37 @@ second-macs = record { t-is = refl; t1-is = refl; t2-is = refl; t3-is = refl }
 pub second-is : k2 secondKey ≡ secondKeys
 second-is = derived secondKey _ _ _ _ second-macs
 
+-- ---- CCM of a short message
+module _ (ks : List (List ℕ)) (nonce : List ℕ) where
+  -- at most sixteen octets are xored with one block of the stream
+  ctr-short : (m : List ℕ) → length m ≤ 16 → ctr ks nonce m ≡ xored (length m) m (stream ks nonce 1)
+  unfolding ctr streamOctet xored
+  ctr-short m h =
+      tab-ext (λ j. bitXor (getD m j 0) (getD (stream ks nonce (j / 16 + 1)) (j % 16) 0)) (λ j. bitXor (getD m j 0) (getD (stream ks nonce 1) j 0)) (length m)
+      (λ j b. let e : j / 16 + 1 ≡ 1 = omega arith in let f : j % 16 ≡ j = omega arith in rw (e, f) refl)
+
+  module _ (size : MicSize) where
+    -- the encrypted message and its MIC
+    abbrev shut : List ℕ → List ℕ
+    shut m = xored (length m) m (stream ks nonce 1) ++ mic ks nonce (micOctets size) m
+
+    sealed-short : (m : List ℕ) → length m ≤ 16 → sealed ks nonce size m ≡ shut m
+    unfolding sealed
+    sealed-short m h = ap (λ (x : List ℕ). x ++ mic ks nonce (micOctets size) m) (ctr-short m h)
+
+    -- what stands before the MIC, and whether the MIC is that of the result
+    abbrev front : List ℕ → List ℕ
+    front c = take (length c - micOctets size) c
+
+    abbrev verdict : List ℕ → Bool
+    verdict c = same (mic ks nonce (micOctets size) (xored (length (front c)) (front c) (stream ks nonce 1))) (drop (length c - micOctets size) c)
+
+    decrypted-short : (c : List ℕ) → length (front c) ≤ 16 → decrypted ks nonce size c .answer ≡ verdict c
+    unfolding decrypted
+    decrypted-short c h = ap (λ (m : List ℕ). same (mic ks nonce (micOctets size) m) (drop (length c - micOctets size) c)) (ctr-short (front c) h)
+
 -- ---- the PDUs that the second seals
-abbrev pub header0 : Header
+abbrev header0 : Header
 header0 =
     record {
       key = 1;
@@ -105,14 +142,7 @@ pdu0 =
     0x68 ∷ 0xa0 ∷ 0xbb ∷ 0x03 ∷ 0xc8 ∷ 0x35 ∷ 0x7e ∷ 0xc5 ∷ 0x3a ∷ 0xec ∷ 0xf8 ∷ 0x91 ∷ 0xbe ∷ 0x8b
     ∷ 0xc9 ∷ 0xb5 ∷ 0xb3 ∷ 0x7e ∷ 0x35 ∷ 0xbf ∷ 0xb9 ∷ 0x1c ∷ 0x28 ∷ 0x54 ∷ 0xbc ∷ 0x52 ∷ 0x8b ∷ 0x99 ∷ 0xef ∷ []
 
-pub sealed-0 : pduOf secondKeys header0 ≡ pdu0
-unfolding pduOf firstOctet obfuscated privacyBlock clearFront bodyOf ctlTtl networkNonce octets
-    keySchedule roundKey fourWords w temp rcon xPower rotWord subWord wordOf
-    cipher rounds lastRound round addRoundKey mixColumns mixColumn threeTimes shiftRows subBytes sbox sboxTable xtime xored
-    chain blocks sealed mic ctr streamOctet stream macBlock macInput firstBlock ccmBlock
-sealed-0 = refl
-
-abbrev pub header1 : Header
+abbrev header1 : Header
 header1 =
     record {
       key = 1;
@@ -131,38 +161,93 @@ pdu1 =
     0x68 ∷ 0x7c ∷ 0x3b ∷ 0x93 ∷ 0x11 ∷ 0x5c ∷ 0x41 ∷ 0xaf ∷ 0x86 ∷ 0x50 ∷ 0xb3 ∷ 0x77 ∷ 0xcf ∷ 0x11
     ∷ 0xae ∷ 0x3b ∷ 0x4f ∷ 0xa1 ∷ 0xdb ∷ 0x7c ∷ 0x64 ∷ 0x72 ∷ []
 
-pub sealed-1 : pduOf secondKeys header1 ≡ pdu1
-unfolding pduOf firstOctet obfuscated privacyBlock clearFront bodyOf ctlTtl networkNonce octets
-    keySchedule roundKey fourWords w temp rcon xPower rotWord subWord wordOf
-    cipher rounds lastRound round addRoundKey mixColumns mixColumn threeTimes shiftRows subBytes sbox sboxTable xtime xored
-    chain blocks sealed mic ctr streamOctet stream macBlock macInput firstBlock ccmBlock
-sealed-1 = refl
+-- octets 1-6 that a key gives in clear: the first of each, and of the forged one the second
+abbrev clear0 : List ℕ
+clear0 = 0xae ∷ 0x0a ∷ 0x88 ∷ 0x90 ∷ 0xdc ∷ 0xa6 ∷ []
 
--- ---- their trials by the first, and those of the forged one by both
-pub tried-0 : tried firstKeys 0 0x12345678 pdu0 .ok ≡ false
-unfolding tried frontOf obfuscated privacyBlock bodyTried nonceOf headerOf number numberFrom decrypted ctlTtl networkNonce octets
+abbrev clear1 : List ℕ
+clear1 = 0x42 ∷ 0x97 ∷ 0x73 ∷ 0x64 ∷ 0x30 ∷ 0x34 ∷ []
+
+abbrev clearForged : List ℕ
+clearForged = 0x87 ∷ 0x00 ∷ 0x07 ∷ 0x01 ∷ 0x00 ∷ 0x08 ∷ []
+
+-- the privacy keys' part: octets 1-6 hidden, and in clear
+record Fronts : Type 0 where
+  hidden-0 : obfuscated secondKeys 0x12345678 (clearFront header0) (take 7 (drop 7 pdu0)) ≡ take 6 (drop 1 pdu0)
+  hidden-1 : obfuscated secondKeys 0x12345678 (clearFront header1) (take 7 (drop 7 pdu1)) ≡ take 6 (drop 1 pdu1)
+  clear-0 : frontOf firstKeys 0x12345678 pdu0 ≡ clear0
+  clear-1 : frontOf firstKeys 0x12345678 pdu1 ≡ clear1
+  clear-first : frontOf firstKeys 0x12345678 forged ≡ clear1
+  clear-second : frontOf secondKeys 0x12345678 forged ≡ clearForged
+
+fronts : Fronts
+unfolding frontOf obfuscated privacyBlock clearFront ctlTtl octets
     keySchedule roundKey fourWords w temp rcon xPower rotWord subWord wordOf
     cipher rounds lastRound round addRoundKey mixColumns mixColumn threeTimes shiftRows subBytes sbox sboxTable xtime xored
-    chain blocks sealed mic ctr streamOctet stream macBlock macInput firstBlock ccmBlock
-tried-0 = refl
+fronts = record { hidden-0 = refl; hidden-1 = refl; clear-0 = refl; clear-1 = refl; clear-first = refl; clear-second = refl }
+
+-- the encryption keys' part: a body sealed, by its SEQ; and the verdict on one, by octets 1-6 in clear
+abbrev bodyBy : (seq : ℕ) → Header → List ℕ
+bodyBy seq h = shut (keySchedule (secondKeys .encryption)) (networkNonce true 7 seq 0x0008 0x12345678) Eight (octets 2 0x0001 ++ transportOf h)
+
+abbrev verdictBy : NetworkKeys → (clear pdu : List ℕ) → Bool
+verdictBy keys clear pdu = verdict (keySchedule (keys .encryption)) (nonceOf 0x12345678 clear) (netMic (ctlOf clear)) (drop 7 pdu)
+
+record Bodies : Type 0 where
+  body-0 : bodyBy 0x000700 header0 ≡ drop 7 pdu0
+  body-1 : bodyBy 0x000701 header1 ≡ drop 7 pdu1
+  false-0 : verdictBy firstKeys clear0 pdu0 ≡ false
+  false-1 : verdictBy firstKeys clear1 pdu1 ≡ false
+  false-first : verdictBy firstKeys clear1 forged ≡ false
+  false-second : verdictBy secondKeys clearForged forged ≡ false
+
+bodies : Bodies
+unfolding nonceOf number numberFrom ctlTtl networkNonce octets mic stream macBlock macInput firstBlock ccmBlock chain blocks
+    keySchedule roundKey fourWords w temp rcon xPower rotWord subWord wordOf
+    cipher rounds lastRound round addRoundKey mixColumns mixColumn threeTimes shiftRows subBytes sbox sboxTable xtime xored
+bodies = record { body-0 = refl; body-1 = refl; false-0 = refl; false-1 = refl; false-first = refl; false-second = refl }
+
+-- a PDU from its body, and from octets 1-6 as they are sent
+pdu-by :
+    (keys : NetworkKeys) (h : Header) (body hidden : List ℕ) → bodyOf keys h ≡ body → obfuscated keys (h .iv) (clearFront h) (take 7 body) ≡ hidden
+    → pduOf keys h ≡ firstOctet (h .iv) (keys .nid) ∷ hidden ++ body
+unfolding pduOf
+pdu-by keys h body hidden e f = rw (e, f)
+
+pub sealed-0 : pduOf secondKeys header0 ≡ pdu0
+unfolding firstOctet bodyOf octets
+sealed-0 =
+    let body =
+    sealed-short (keySchedule (secondKeys .encryption)) (networkNonce true 7 0x000700 0x0008 0x12345678) Eight (octets 2 0x0001 ++ transportOf header0) (omega arith)
+    ∙ bodies .body-0 in
+    pdu-by secondKeys header0 (drop 7 pdu0) (take 6 (drop 1 pdu0)) body (fronts .hidden-0)
+
+pub sealed-1 : pduOf secondKeys header1 ≡ pdu1
+unfolding firstOctet bodyOf octets
+sealed-1 =
+    let body =
+    sealed-short (keySchedule (secondKeys .encryption)) (networkNonce true 7 0x000701 0x0008 0x12345678) Eight (octets 2 0x0001 ++ transportOf header1) (omega arith)
+    ∙ bodies .body-1 in
+    pdu-by secondKeys header1 (drop 7 pdu1) (take 6 (drop 1 pdu1)) body (fronts .hidden-1)
+
+-- ---- a key that does not authenticate a PDU
+unauthentic :
+    (keys : NetworkKeys) (place : ℕ) (pdu clear : List ℕ) → frontOf keys 0x12345678 pdu ≡ clear
+    → length (front (keySchedule (keys .encryption)) (nonceOf 0x12345678 clear) (netMic (ctlOf clear)) (drop 7 pdu)) ≤ 16 → verdictBy keys clear pdu ≡ false
+    → tried keys place 0x12345678 pdu .ok ≡ false
+unfolding tried bodyTried
+unauthentic keys place pdu clear e h v =
+    let d = decrypted-short (keySchedule (keys .encryption)) (nonceOf 0x12345678 clear) (netMic (ctlOf clear)) (drop 7 pdu) h ∙ v in
+    rw e (by-test (ctlOf clear && ltb (length pdu) 18) (λ t. rw t refl) (λ t. rw (t, d) refl))
+
+pub tried-0 : tried firstKeys 0 0x12345678 pdu0 .ok ≡ false
+tried-0 = unauthentic firstKeys 0 pdu0 clear0 (fronts .clear-0) (omega arith) (bodies .false-0)
 
 pub tried-1 : tried firstKeys 0 0x12345678 pdu1 .ok ≡ false
-unfolding tried frontOf obfuscated privacyBlock bodyTried nonceOf headerOf number numberFrom decrypted ctlTtl networkNonce octets
-    keySchedule roundKey fourWords w temp rcon xPower rotWord subWord wordOf
-    cipher rounds lastRound round addRoundKey mixColumns mixColumn threeTimes shiftRows subBytes sbox sboxTable xtime xored
-    chain blocks sealed mic ctr streamOctet stream macBlock macInput firstBlock ccmBlock
-tried-1 = refl
+tried-1 = unauthentic firstKeys 0 pdu1 clear1 (fronts .clear-1) (omega arith) (bodies .false-1)
 
 pub forged-first : tried firstKeys 0 0x12345678 forged .ok ≡ false
-unfolding tried frontOf obfuscated privacyBlock bodyTried nonceOf headerOf number numberFrom decrypted ctlTtl networkNonce octets
-    keySchedule roundKey fourWords w temp rcon xPower rotWord subWord wordOf
-    cipher rounds lastRound round addRoundKey mixColumns mixColumn threeTimes shiftRows subBytes sbox sboxTable xtime xored
-    chain blocks sealed mic ctr streamOctet stream macBlock macInput firstBlock ccmBlock
-forged-first = refl
+forged-first = unauthentic firstKeys 0 forged clear1 (fronts .clear-first) (omega arith) (bodies .false-first)
 
 pub forged-second : tried secondKeys 1 0x12345678 forged .ok ≡ false
-unfolding tried frontOf obfuscated privacyBlock bodyTried nonceOf headerOf number numberFrom decrypted ctlTtl networkNonce octets
-    keySchedule roundKey fourWords w temp rcon xPower rotWord subWord wordOf
-    cipher rounds lastRound round addRoundKey mixColumns mixColumn threeTimes shiftRows subBytes sbox sboxTable xtime xored
-    chain blocks sealed mic ctr streamOctet stream macBlock macInput firstBlock ccmBlock
-forged-second = refl
+forged-second = unauthentic secondKeys 1 forged clearForged (fronts .clear-second) (omega arith) (bodies .false-second)

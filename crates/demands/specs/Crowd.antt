@@ -7,7 +7,7 @@ use mathlib.Core.Bool.{true, false}
 use mathlib.Core.List.{List, [], _∷_}
 use mathlib.Core.Path.{_≡_}
 use Prim.Native.Nat.{ℕ, _+_, _-_, _<_}
-use lib.ListN.{length, getD, replicate}
+use lib.ListN.{length, getD, take, replicate}
 use Rattle.common.specs.Lists.{tab}
 use Rattle.common.specs.Paper.{numberOf}
 use Rattle.network.specs.Candidates.{keyAt}
@@ -19,13 +19,14 @@ use Rattle.node.specs.declared.setup.Setup.{Setup}
 use Rattle.node.specs.Setup.{nothing, withNetworkKey, withApplicationKey, withDeviceKey, withElements, withGroup, withIndex}
 use Rattle.demands.specs.Instance.{networkKey, applicationKey, deviceKey, arrival, order}
 use Rattle.demands.specs.Interleaved.{Segment, Foreign, Ask, Own, Arrival, nodeOf, speechAt, Scene, AllCome}
-use Rattle.demands.specs.Speech.{Words, Access, Control, Speech, lastOf}
+use Rattle.demands.specs.Speech.{Words, Access, Control, Speech, lastOf, segmentPdu}
 
 -- ---- the receiver
 -- a network key that has the NID of `networkKey`
 abbrev pub secondKey : List ℕ
 secondKey = 0x00 ∷ 0x4b ∷ replicate 14 0
 
+-- two network keys, an application key bound to the first, the device key, one element, one group; relay is on
 abbrev pub hall : Setup
 hall =
     let keyed = withApplicationKey (withNetworkKey (withNetworkKey nothing networkKey) secondKey) 0 applicationKey in
@@ -33,13 +34,14 @@ hall =
     withIndex addressed 0x12345678 false true
 
 -- ---- the speakers
--- a message under the IV Index of now, and under the one before
+-- a message under the current IV Index, and under the one before
 abbrev pub said : (src dst network seq : ℕ) → Words → Speech
 said src dst network seq words = record { src = src; dst = dst; network = network; auth = record { iv = 0x12345678; seq = seq }; words = words }
 
 abbrev pub saidBefore : (src dst network seq : ℕ) → Words → Speech
 saidBefore src dst network seq words = record { src = src; dst = dst; network = network; auth = record { iv = 0x12345677; seq = seq }; words = words }
 
+-- eight speakers, one message each
 abbrev pub crowd : List Speech
 crowd =
     -- 380 octets under the application key, with a TransMIC of 4
@@ -89,6 +91,7 @@ sentAnew k i = arrival (Segment k i (speechAt crowd k .auth .seq + 64 + i) 7)
 abbrev pub descending : List Arrival
 descending = tab (λ i. sent 0 (31 - i)) 32
 
+-- those of the others, and what else comes
 abbrev pub others : List Arrival
 others =
     sent 1 0
@@ -141,3 +144,5 @@ pub record CrowdMet : Type 0 where
   pub short-refused : refusalOf (nodeOf hall) tooShort ≡ 1
   pub nid-refused : refusalOf (nodeOf hall) otherNid ≡ 2
   pub forged-refused : refusalOf (nodeOf hall) forged ≡ 3
+  -- the third is what its speaker sent, but for the last octet
+  pub forged-else : take 21 forged ≡ take 21 (segmentPdu (nodeOf hall) (speechAt crowd 6) 1 0x000701 7)
