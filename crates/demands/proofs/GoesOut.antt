@@ -33,6 +33,7 @@ use Rattle.node.specs.declared.addresses.Node.{Node}
 use Rattle.node.specs.Made.{WellMade}
 use Rattle.receiver.specs.declared.state.Receiver.{Receiver}
 use Rattle.receiver.specs.Good.{Good}
+use Rattle.sending.specs.declared.answer.Answer as said-answer
 use Rattle.sending.specs.declared.answer.Spoken.{Spoken}
 use Rattle.sending.specs.declared.request.Request.{Request}
 use Rattle.sending.specs.Access as access
@@ -43,7 +44,7 @@ use Rattle.sending.proofs.Laws.Allowed.{Asked, whole-short, sendable-allowed}
 use Rattle.sending.proofs.Laws.Calls.{access-whole, access-begun, control-whole, control-begun}
 use Rattle.sending.proofs.Laws.Stamped.{stamps}
 use Rattle.sending.proofs.Laws.Transmitted.{saying, Sends, saying-is, starting-is}
-use Rattle.demands.specs.Call.{Call, SendSegment, Outcome, madeBy, leftSaid, step, run, after}
+use Rattle.demands.specs.Call.{Call, SendSegment, Said, Outcome, madeBy, leftSaid, step, run, after}
 use Rattle.demands.specs.GoesOut.{restAs, accepted, pduCount, GoesOut, StaysKept, SegmentGoes}
 use Rattle.demands.specs.Interleaved.{Each}
 use Rattle.demands.specs.ReadBack.{sayCall, goesWhole, saidBy, segNAs, Shared}
@@ -267,3 +268,18 @@ last-answered sender q words buf good sent w =
     let e = step-is sender q words buf in
     let By : Outcome → Type 0 = λ x. segNAs (x .answer) ≡ lastOf (sender .node) (saidBy sender q words) in
     subst By (sym e) (last-way sender good q words buf w (way sender q words buf (subst (λ (x : Outcome). x .made ≡ true) e sent)))
+
+-- 0 where it goes whole
+whole-way :
+    (sender : Receiver) (q : Request) (words : Words) (buf : List ℕ) → goesWhole words ≡ true → Way sender q words (sendingAs sender q words buf)
+    → segNAs (leftSaid (sendingAs sender q words buf) .answer) ≡ 0
+whole-way sender q words buf w (Whole a v g) = ap (λ (x : said-answer.Answer). segNAs (Said x)) (g .says)
+whole-way sender q words buf w (Begun a v g) = absurd (true≢false (sym w ∙ v))
+
+pub whole-answered :
+    (sender : Receiver) (q : Request) (words : Words) (buf : List ℕ) → step sender (sayCall q words buf) .made ≡ true → goesWhole words ≡ true
+    → segNAs (step sender (sayCall q words buf) .answer) ≡ 0
+whole-answered sender q words buf sent w =
+    let e = step-is sender q words buf in
+    let By : Outcome → Type 0 = λ x. segNAs (x .answer) ≡ 0 in
+    subst By (sym e) (whole-way sender q words buf w (way sender q words buf (subst (λ (x : Outcome). x .made ≡ true) e sent)))

@@ -37,6 +37,7 @@ pub mod ReadBack
 pub mod GoesOut
 pub mod InOrder
 pub mod Instance
+pub mod SendingsMet
 pub mod CrowdKeys
 pub mod Crowd
 pub mod Forwarding

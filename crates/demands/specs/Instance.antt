@@ -1,12 +1,13 @@
--- Premises are met: a scene of two speakers for demand 3, a message that is sent and read back for demand 2, and a PDU that is forwarded. Keys are those of MP's sample data.
+-- Premises are met: a scene of two speakers for demand 3, messages that are sent and read back for demand 2, and a PDU that is forwarded. Keys are those of MP's sample data.
 --   shed                the receiver's setup: one network key, one application key, one element
 --   boxes, traffic      two boxes' messages, their segments interleaved, with repeats, a PDU that no key opens, a request to acknowledge and a message of the shed's own
 --   SceneMet            all premises of demand 3 hold of it
 --   AcknowledgementMet  those of `AcknowledgementRead` besides, where the first box hears the acknowledgement
---   SendingMet          all premises of demand 2 hold of a box's report to the shed, sent in full and heard out of order, with a repeat, a relay's copies and a PDU that no key opens
+--   SendingsMet         all premises of demand 2 hold of messages to the shed, in segments and whole, access and control, sent in full and heard out of order, with a repeat, a relay's copies and a
+--                       PDU that no key opens; from a box set up just now, one with the update flag set, and one that was used before
 --   ForwardingMet       all premises of `Forwards` hold of a PDU that one box sends another past the shed, and it is forwarded
 use mathlib.Core.Bool.{true, false}
-use mathlib.Core.List.{List, [], _∷_, _++_}
+use mathlib.Core.List.{List, [], _∷_, _++_, map}
 use mathlib.Core.Path.{_≡_}
 use Prim.Native.Nat.{ℕ, _≤_}
 use lib.ListN.{replicate}
@@ -25,12 +26,12 @@ use Rattle.receiver.specs.Good.{Good}
 use Rattle.sending.specs.declared.request.Request.{Request}
 use Rattle.sending.specs.declared.request.Ttl.the-variants.{Unnamed}
 use Rattle.demands.specs.Acknowledged.{Speaker, Hears}
-use Rattle.demands.specs.Call.{Call, SendAccess, Acknowledge, Outcome, step}
+use Rattle.demands.specs.Call.{Call, Hear, SendAccess, Acknowledge, Outcome, step}
 use Rattle.demands.specs.Forwarding.{Passes}
 use Rattle.demands.specs.GoesOut.{restOf}
-use Rattle.demands.specs.Interleaved.{Event, Segment, Foreign, Ask, Own, Arrival, start, nodeOf, Scene, AllCome, behind, AskedOf}
-use Rattle.demands.specs.ReadBack.{sayCall, pduMade, madeOf, segNAs, Incoming, Made, Relayed, Unopened, Hearing, brings, Telling}
-use Rattle.demands.specs.Speech.{Words, Access, Control, Speech}
+use Rattle.demands.specs.Interleaved.{Event, Segment, Foreign, Ask, Own, Arrival, start, nodeOf, Scene, AllCome, handed, behind, AskedOf}
+use Rattle.demands.specs.ReadBack.{sayCall, saidBy, pduMade, madeOf, segNAs, Incoming, Made, Relayed, Unopened, Hearing, brings, Telling}
+use Rattle.demands.specs.Speech.{Words, Access, Control, Speech, handUp}
 
 abbrev pub networkKey : List ℕ
 networkKey = 0x7d ∷ 0xd7 ∷ 0x36 ∷ 0x4c ∷ 0xd8 ∷ 0x42 ∷ 0xad ∷ 0x18 ∷ 0xc1 ∷ 0x7c ∷ 0x2b ∷ 0x82 ∷ 0x0c ∷ 0x84 ∷ 0xc3 ∷ 0xd6 ∷ []
@@ -100,32 +101,80 @@ abbrev pub SceneMet : Type 0
 SceneMet = Scene shed boxes traffic × AllCome shed boxes traffic
 
 -- ---- demand 2
--- a box on the bench sends 20 octets under the application key with a TransMIC of 8: three segments, and no TTL named
+-- a box on the bench sends to the shed, no TTL named
 abbrev pub bench : Setup
 bench = nodeAt 0x0002
 
 abbrev pub toShed : Request
 toShed = record { element = 0; dst = 0x0001; ttl = Unnamed; network = 0 }
 
+-- 20 octets under the application key with a TransMIC of 8: three segments
 abbrev pub report : Words
 report = Access (Application 0) true (replicate 20 0x5a)
 
 abbrev pub lentPdu : List ℕ
 lentPdu = replicate pduOctets 0
 
--- the shed hears its last segment first, a PDU that no key opens, segment 0 from a relay, the last once more, and segment 1
+-- what the shed hears, with the buffers that it is lent
 abbrev pub hearing : Incoming → Hearing
 hearing w = record { what = w; forward = lentPdu; message = replicate messageOctets 0 }
 
-abbrev pub overheard : List Hearing
-overheard = hearing (Made 2) ∷ hearing (Unopened (0x68 ∷ [])) ∷ hearing (Relayed 0 6) ∷ hearing (Relayed 2 5) ∷ hearing (Made 1) ∷ []
+-- a sender's message to the shed, sent in full, of which these are heard: the premises hold, and each segment comes
+abbrev pub Told : Receiver → Words → List Incoming → Type 0
+Told sender words l =
+    (let calls = restOf sender toShed words lentPdu in
+    Telling sender shed toShed words lentPdu calls (map hearing l)
+    × ((i : ℕ) → i ≤ segNAs (step sender (sayCall toShed words lentPdu) .answer) → brings (madeOf sender toShed words lentPdu calls) i (map hearing l) ≡ true))
 
-abbrev pub SendingMet : Type 0
-SendingMet =
-    (let calls = restOf (start bench) toShed report lentPdu in
-    Telling (start bench) shed toShed report lentPdu calls overheard
-    -- and each segment comes
-    × ((i : ℕ) → i ≤ segNAs (step (start bench) (sayCall toShed report lentPdu) .answer) → brings (madeOf (start bench) toShed report lentPdu calls) i overheard ≡ true))
+-- the last of three segments first, a PDU that no key opens, segment 0 from a relay, the last once more, and segment 1
+abbrev pub overheard : List Incoming
+overheard = Made 2 ∷ Unopened (0x68 ∷ []) ∷ Relayed 0 6 ∷ Relayed 2 5 ∷ Made 1 ∷ []
+
+-- eight octets, which go in one PDU; it is heard twice
+abbrev pub short : Words
+short = Access (Application 0) false (replicate 8 0x21)
+
+abbrev pub heardTwice : List Incoming
+heardTwice = Unopened (0x68 ∷ []) ∷ Relayed 0 6 ∷ Made 0 ∷ []
+
+-- a control message of two segments
+abbrev pub command : Words
+command = Control 0x11 (replicate 12 0x3c)
+
+-- the last segment first, and once more from a relay
+abbrev pub heardBackwards : List Incoming
+heardBackwards = Made 1 ∷ Relayed 1 6 ∷ Made 0 ∷ []
+
+-- a box with the update flag set
+abbrev pub updating : Setup
+updating = withIndex bench 0x12345678 true true
+
+-- the shed sends the box a message whole
+abbrev pub toBox : Request
+toBox = record { element = 0; dst = 0x0002; ttl = Unnamed; network = 0 }
+
+abbrev pub greeting : List ℕ
+greeting = pduMade (step (start shed) (sayCall toBox short lentPdu))
+
+-- the box hears it, and then sends one whole
+abbrev pub greeted : Outcome
+greeted = step (start bench) (Hear greeting lentPdu (replicate messageOctets 0))
+
+abbrev pub inUse : Receiver
+inUse = step (greeted .receiver) (sayCall toShed short lentPdu) .receiver
+
+pub record SendingsMet : Type 0 where
+  -- a fresh sender: in segments, whole, and a control message in segments
+  pub in-segments : Told (start bench) report overheard
+  pub whole : Told (start bench) short heardTwice
+  pub control : Told (start bench) command heardBackwards
+  -- one with the flag set, which sends under the IV Index before
+  pub under-flag : Told (start updating) report overheard
+  pub index-before : saidBy (start updating) toShed report .auth .iv ≡ 0x12345677
+  -- one that was used before: a message was handed up, and its next SEQ is 1
+  pub in-use : Told inUse report overheard
+  pub message-heard : handed greeted ≡ handUp (saidBy (start shed) toBox short) ∷ []
+  pub number-used : saidBy inUse toShed report .auth .seq ≡ 1
 
 -- ---- an acknowledgement that is read
 -- the first box has begun its message with SEQ 0x000100, and keeps it
