@@ -39,7 +39,7 @@ use Rattle.demands.specs.Crowd.{secondKey, hall, crowd, lasts, tooShort,
 use Rattle.demands.specs.Instance.{networkKey, arrival, order}
 use Rattle.demands.specs.Interleaved as scene
 use Rattle.demands.specs.Interleaved.{Event, Segment, Foreign, Ask, Own, Arrival, Each, Spent, speechAt, come, Comes, Arrives, AllCome}
-use Rattle.demands.specs.Speech.{Access, Speech, keyOf, envelopeOf, octetsOf, lastOf, segmentOf, headerOf, segmentPdu, WordsRead, Speakable}
+use Rattle.demands.specs.Speech.{Access, Speech, keyOf, envelopeOf, octetsOf, lastOf, segmentOf, headerOf, segmentPdu, WordsRead, Speakable, networkPlace}
 use Rattle.demands.proofs.CrowdKeys.{firstKeys, first-is, secondKeys, second-is, pdu0, sealed-0, pdu1, sealed-1, tried-0, tried-1, forged-first, forged-second}
 use Rattle.demands.proofs.InOrder.{_then_, each-table, each-below}
 use Rattle.demands.proofs.SpeechCut.{cut-is, last-low}
@@ -332,6 +332,10 @@ all-come k i hk hi =
     let low = last-low node (speechAt crowd k) (speaks k hk) in
     rw (come-is k hk) (has-all (lasts k) i (omega arith) (omega arith))
 
+two-trials : networkPlace node (speechAt crowd 6) ≡ 2
+unfolding candidates picked
+two-trials = rw (first-key, second-key) refl
+
 pub crowd-met : CrowdMet
 crowd-met =
     record {
@@ -347,6 +351,7 @@ crowd-met =
       all-come = all-come;
       segn-is = segn-is;
       one-nid = rw (first-key, second-key) refl;
+      second-trial = two-trials;
       short-refused = rw answers-short refl;
       nid-refused = rw answers-nid refl;
       forged-refused = rw answers-forged refl;

@@ -19,7 +19,7 @@ use Rattle.node.specs.declared.setup.Setup.{Setup}
 use Rattle.node.specs.Setup.{nothing, withNetworkKey, withApplicationKey, withDeviceKey, withElements, withGroup, withIndex}
 use Rattle.demands.specs.Instance.{networkKey, applicationKey, deviceKey, arrival, order}
 use Rattle.demands.specs.Interleaved.{Segment, Foreign, Ask, Own, Arrival, nodeOf, speechAt, Scene, AllCome}
-use Rattle.demands.specs.Speech.{Words, Access, Control, Speech, lastOf, segmentPdu}
+use Rattle.demands.specs.Speech.{Words, Access, Control, Speech, lastOf, segmentPdu, networkPlace}
 
 -- ---- the receiver
 -- a network key that has the NID of `networkKey`
@@ -138,8 +138,9 @@ pub record CrowdMet : Type 0 where
   pub scene : Scene hall crowd rush
   pub all-come : AllCome hall crowd rush
   pub segn-is : (k : ℕ) → k < length crowd → lastOf (nodeOf hall) (speechAt crowd k) ≡ lasts k
-  -- the first network key has the NID of the second, and is tried on what the second sealed
+  -- the first network key has the NID of the second, and is tried before it on what the second sealed
   pub one-nid : keyAt (nodeOf hall .materials) 0 .nid ≡ keyAt (nodeOf hall .materials) 1 .nid
+  pub second-trial : networkPlace (nodeOf hall) (speechAt crowd 6) ≡ 2
   -- the PDUs that no key opens are refused 1, 2 and 3
   pub short-refused : refusalOf (nodeOf hall) tooShort ≡ 1
   pub nid-refused : refusalOf (nodeOf hall) otherNid ≡ 2
