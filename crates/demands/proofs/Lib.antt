@@ -38,8 +38,6 @@ pub mod GoesOut
 pub mod InOrder
 pub mod Instance
 pub mod SendingsMet
-pub mod CrowdKeys
-pub mod Crowd
 pub mod Forwarding
 pub mod ForwardingMet
 pub mod AcknowledgedMet

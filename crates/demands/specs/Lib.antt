@@ -12,5 +12,4 @@ pub mod GoesOut
 pub mod InOrder
 pub mod Forwarding
 pub mod Instance
-pub mod Crowd
 pub mod Invariant

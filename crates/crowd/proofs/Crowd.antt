@@ -35,14 +35,14 @@ use Rattle.node.specs.Setup.{boundWithin, keysValid, nextWithin, elementsValid,
 use Rattle.node.specs.declared.addresses.Node.{Node}
 use Rattle.receiver.specs.declared.fresh.Answer.the-variants.{Ready}
 use Rattle.receiver.specs.Fresh.{settingUp}
-use Rattle.demands.specs.Crowd.{secondKey, hall, crowd, lasts, tooShort, otherNid, forged, sent, descending, others, alternating, rush, CrowdMet}
+use Rattle.crowd.specs.Crowd.{secondKey, hall, crowd, lasts, tooShort, otherNid, forged, sent, descending, others, alternating, rush, CrowdMet}
 use Rattle.demands.specs.Instance.{networkKey, arrival, order}
 use Rattle.demands.specs.Interleaved as scene
 use Rattle.demands.specs.Interleaved.{Event, Segment, Foreign, Ask, Own, Arrival, Each, Spent, speechAt, come, Comes, Arrives, AllCome}
 use Rattle.demands.specs.Speech.{Access, Speech, keyOf, envelopeOf, octetsOf, lastOf, segmentOf, headerOf, segmentPdu, WordsRead, Speakable, networkPlace}
-use Rattle.demands.proofs.CrowdKeys.{firstKeys, first-is, secondKeys, second-is, pdu0, sealed-0, pdu1, sealed-1, tried-0, tried-1, forged-first, forged-second}
+use Rattle.crowd.proofs.CrowdKeys.{firstKeys, first-is, secondKeys, second-is, pdu0, sealed-0, pdu1, sealed-1, tried-0, tried-1, forged-first, forged-second}
 use Rattle.demands.proofs.InOrder.{_then_, each-table, each-below}
 use Rattle.demands.proofs.SpeechCut.{cut-is, last-low}
 
 ready : settingUp hall .answer ≡ Ready
 unfolding settingUp making valid keysValid boundWithin elementsValid nextWithin groupsValid indexValid first kindOf

@@ -29,8 +29,8 @@ use Rattle.network.specs.Nonce.{ctlTtl, networkNonce}
 use Rattle.network.specs.Octets.{octets, numberFrom, number}
 use Rattle.network.specs.Pdu.{netMic, firstOctet, clearFront, privacyBlock, obfuscated, bodyOf, pduOf, frontOf}
 use Rattle.network.specs.Trial.{ctlOf, nonceOf, bodyTried, tried}
-use Rattle.demands.specs.Crowd.{secondKey, forged}
+use Rattle.crowd.specs.Crowd.{secondKey, forged}
 use Rattle.demands.specs.Instance.{networkKey}
 
 -- ---- what is derived
 -- s1("smk2")

@@ -1,0 +1,2 @@
+-- A crowd that meets the premises of demand 3.
+pub mod Crowd
