@@ -8,7 +8,7 @@ use borrow.Author.Needs.{needs}
 use lib.ListN.{length, take, drop}
 use Rattle.common.proofs.Lists.{length-mapped}
 use Rattle.memory.specs.declared.cache.Seen.{Seen}
-use Rattle.memory.specs.Cache.{cacheEntries}
+use Rattle.memory.specs.Cache.{cacheEntries, noSeen}
 use Rattle.text.specs.Written.{putting}
 use Rattle.text.proofs.WrittenLaws.{put-then}
 use Rattle.answers.specs.Looking.{seenText}
@@ -37,10 +37,9 @@ loop-again : tie.Need-loop-again Inv-loop μ-loop
 loop-again c =
     let l = c .before .before .before .before .before .before .loop in
     let a = c .before .before .before .before .before .before .before .before .before .before .before .before .before .before .before .args in
-    let none : Seen = record { src = 0; seq = 0 } in
-    let here = rotated none (a .cache .entries) (a .cache .next % cacheEntries) (l .i) (l .inv .1) (l .inv .0) (omega arith) in
+    let here = rotated noSeen (a .cache .entries) (a .cache .next % cacheEntries) (l .i) (l .inv .1) (l .inv .0) (omega arith) in
     let text = ap (λ (e : Seen). putting (seenText (e .src) (e .seq)) (l .out) (l .to)) (sym here) in
-    (l .inv .0, l .inv .1, so-more none (omega arith) (l .inv .2) (c .before .before .put-seen .ensures ∙ text))
+    (l .inv .0, l .inv .1, so-more noSeen (omega arith) (l .inv .2) (c .before .before .put-seen .ensures ∙ text))
 
 returns : tie.Need-returns Inv-loop μ-loop
 returns c =
