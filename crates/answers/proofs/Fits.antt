@@ -24,6 +24,7 @@ use Rattle.memory.specs.Session.{sessionSlots, isFree}
 use Rattle.transport.specs.declared.securing.MessageKey.{MessageKey}
 use Rattle.transport.specs.declared.securing.MessageKey.the-variants.{Application, Device}
 use Rattle.transport.specs.Segment.{messageOctets}
+use Rattle.node.specs.Addresses.{elementPlaces}
 use Rattle.receiver.specs.declared.answer.Answer.{Answer}
 use Rattle.receiver.specs.declared.answer.Answer.the-variants.{Refused, Stored, Repeated, Access, Control, Acknowledgement}
 use Rattle.receiver.specs.Answer.{refusalNumber}
@@ -135,9 +136,9 @@ noted-fits reply.Refused = omega (arith, refused-most 14)
 -- ---- what a receiver holds: at most 8 elements, 16 cache entries, 32 replay entries and 8 sessions
 next-most : (next : List ℕ) (elements : ℕ) → AtMost 148 (nextText next elements)
 next-most next elements =
-    let l : List ℕ = take (min elements 8) next in
-    let few : length l ≤ 8 = omega (arith, length-take (min elements 8) next) in
-    both (label-most "seq") (both (placed-most (λ i seq. named " " 6 seq) 18 (λ i seq. named-most " " 6 seq) 8 0 l few) (label-most "\n"))
+    let l : List ℕ = take (min elements elementPlaces) next in
+    let few : length l ≤ elementPlaces = omega (arith, length-take (min elements elementPlaces) next) in
+    both (label-most "seq") (both (placed-most (λ i seq. named " " 6 seq) 18 (λ i seq. named-most " " 6 seq) elementPlaces 0 l few) (label-most "\n"))
 
 seen-most : (src seq : ℕ) → AtMost 36 (seenText src seq)
 seen-most src seq = by-choice (AtMost 36) (eqb src 0) (λ t. none) (λ t. both (named-most " " 4 src) (named-most ":" 6 seq))

@@ -13,6 +13,7 @@ use lib.Seq.{take-all, getD-take, getD-drop, getD-append-add}
 use Rattle.common.specs.Choice.{if_then_else_}
 use Rattle.common.specs.Lent.{lent}
 use Rattle.common.proofs.Tests.{by-test}
+use Rattle.memory.specs.Cache.{cacheEntries}
 use Rattle.text.specs.Written.{putting}
 use Rattle.text.proofs.WrittenLaws.{put-then, put-nothing, put-within, put-length}
 use Rattle.answers.specs.Looking.{placedText}
@@ -72,21 +73,21 @@ module _ (out : List ℕ) (at r : ℕ) (o : List ℕ) (n : ℕ) (s : List ℕ) w
 
 pub ruleset held-rules = (where-none, where-some, put-then)
 
--- ---- a list of 16 from place n on, and then its front: what stands at a place
+-- ---- the cache from place n on, and then its front: what stands at a place
 pub rotated :
-    {A : Type 0} (d : A) (l : List A) (n i : ℕ) → length l ≡ 16 → n < 16 → i < 16 → getD (drop n l ++ take n l) i d ≡ getD l ((n + i) % 16) d
+    {A : Type 0} (d : A) (l : List A) (n i : ℕ) → length l ≡ cacheEntries → n < cacheEntries → i < cacheEntries → getD (drop n l ++ take n l) i d ≡ getD l ((n + i) % cacheEntries) d
 rotated d l n i e hn hi =
-    let back : length (drop n l) ≡ 16 - n = length-drop n l ∙ ap (λ (k : ℕ). k - n) e in
-    by-test (ltb (n + i) 16)
+    let back : length (drop n l) ≡ cacheEntries - n = length-drop n l ∙ ap (λ (k : ℕ). k - n) e in
+    by-test (ltb (n + i) cacheEntries)
     (λ t.
-    let low : n + i < 16 = ltb-true (n + i) 16 t in
-    let same : n + i ≡ (n + i) % 16 = omega arith in
+    let low : n + i < cacheEntries = ltb-true (n + i) cacheEntries t in
+    let same : n + i ≡ (n + i) % cacheEntries = omega arith in
     List·getD-append (drop n l) (take n l) d i (omega arith) ∙ getD-drop n l i d ∙ ap (λ (k : ℕ). getD l k d) same)
     (λ t.
-    let high : 16 ≤ n + i = ltb-false (n + i) 16 t in
-    let k = n + i - 16 in
+    let high : cacheEntries ≤ n + i = ltb-false (n + i) cacheEntries t in
+    let k = n + i - cacheEntries in
     let place : i ≡ length (drop n l) + k = omega arith in
-    let same : k ≡ (n + i) % 16 = omega arith in
+    let same : k ≡ (n + i) % cacheEntries = omega arith in
     ap (λ (j : ℕ). getD (drop n l ++ take n l) j d) place
     ∙ getD-append-add (drop n l) (take n l) k d ∙ getD-take n l k d (omega arith) ∙ ap (λ (j : ℕ). getD l j d) same)
 

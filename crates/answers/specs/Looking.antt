@@ -14,6 +14,7 @@ use Rattle.memory.specs.declared.session.Session.{Session}
 use Rattle.memory.specs.declared.outgoing.Outgoing.{Outgoing}
 use Rattle.memory.specs.Cache.{cacheEntries}
 use Rattle.memory.specs.Session.{isFree}
+use Rattle.node.specs.Addresses.{elementPlaces}
 use Rattle.receiver.specs.declared.state.Receiver.{Receiver}
 use Rattle.text.specs.Octets.{octets}
 use Rattle.answers.specs.Answer.{named, pairText, segmentsText}
@@ -25,7 +26,7 @@ placedText f i (x ∷ l) = f i x ++ placedText f (suc i) l
 
 -- each element's next SEQ; there are 8 at most
 abbrev pub nextText : List ℕ → ℕ → List ℕ
-nextText next elements = octets "seq" ++ (placedText (λ i seq. named " " 6 seq) 0 (take (min elements 8) next) ++ octets "\n")
+nextText next elements = octets "seq" ++ (placedText (λ i seq. named " " 6 seq) 0 (take (min elements elementPlaces) next) ++ octets "\n")
 
 -- one cache entry; SRC 0 marks an empty place, here and below
 abbrev pub seenText : ℕ → ℕ → List ℕ

@@ -20,7 +20,7 @@ module _ (h : Header) where
   -- h's entry stands at a place, and so many were filled behind it
   stands :
       (c : Cache) (l : List Header) (place behind : ℕ) → length (c .entries) ≡ cacheEntries → place < cacheEntries → getD (c .entries) place noSeen ≡ seenOf h
-      → c .next % cacheEntries ≡ (place + 1 + behind) % cacheEntries → behind + length l ≤ 15 → seen (further c l) h ≡ true
+      → c .next % cacheEntries ≡ (place + 1 + behind) % cacheEntries → behind + length l < cacheEntries → seen (further c l) h ≡ true
   unfolding remembered
   stands c [] place behind long low here turn room = seen-at c h place low here
   stands c (x ∷ l) place behind long low here turn room =
@@ -31,10 +31,10 @@ module _ (h : Header) where
 
   -- the places filled last, so many of them, hold others
   abbrev Others : Cache → ℕ → Type 0
-  Others c last = (j : ℕ) → j < cacheEntries → (c .next % cacheEntries + 15 - j) % cacheEntries < last → getD (c .entries) j noSeen ≡ seenOf h → ⊥
+  Others c last = (j : ℕ) → j < cacheEntries → (c .next % cacheEntries + (cacheEntries - 1) - j) % cacheEntries < last → getD (c .entries) j noSeen ≡ seenOf h → ⊥
 
   gone :
-      (c : Cache) (l : List Header) (last : ℕ) → length (c .entries) ≡ cacheEntries → 16 ≤ last + length l → NoneIs h l → Others c last
+      (c : Cache) (l : List Header) (last : ℕ) → length (c .entries) ≡ cacheEntries → cacheEntries ≤ last + length l → NoneIs h l → Others c last
       → seen (further c l) h ≡ false
   unfolding remembered
   gone c [] last long all none others =

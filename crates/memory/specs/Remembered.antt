@@ -4,7 +4,7 @@
 use mathlib.Core.Bool.{true, false}
 use mathlib.Core.List.{List, [], _∷_}
 use mathlib.Core.Path.{_≡_}
-use Prim.Native.Nat.{_≤_}
+use Prim.Native.Nat.{_≤_, _<_}
 use lib.ListN.{length}
 use Rattle.network.specs.declared.header.Header.{Header}
 use Rattle.memory.specs.declared.cache.Cache.{Cache}
@@ -23,9 +23,9 @@ NoneIs h (x ∷ l) = (seenOf x ≡ seenOf h → ⊥) × NoneIs h l
 -- found after 15 further ones, whatever they are
 abbrev pub StillSeen : Type 0
 StillSeen =
-    (c : Cache) (h : Header) (l : List Header) → length (c .entries) ≡ cacheEntries → length l ≤ 15 → seen (further (remembered c h) l) h ≡ true
+    (c : Cache) (h : Header) (l : List Header) → length (c .entries) ≡ cacheEntries → length l < cacheEntries → seen (further (remembered c h) l) h ≡ true
 
 -- gone at the 16th
 abbrev pub SeenNoMore : Type 0
 SeenNoMore =
-    (c : Cache) (h : Header) (l : List Header) → length (c .entries) ≡ cacheEntries → 16 ≤ length l → NoneIs h l → seen (further (remembered c h) l) h ≡ false
+    (c : Cache) (h : Header) (l : List Header) → length (c .entries) ≡ cacheEntries → cacheEntries ≤ length l → NoneIs h l → seen (further (remembered c h) l) h ≡ false

@@ -21,7 +21,7 @@ each k seq = named " " 6 seq
 
 abbrev Inv-loop : tie.InvT-loop
 Inv-loop elements out₀ at next n to₀ i₀ t10 t11 out to i =
-    (n ≡ min elements 8) × (length next ≡ 8) × PutSo each (take (min elements 8) next) n out₀ to₀ out to i
+    (n ≡ min elements elementPlaces) × (length next ≡ elementPlaces) × PutSo each (take (min elements elementPlaces) next) n out₀ to₀ out to i
 
 abbrev μ-loop : tie.MeasureT-loop
 μ-loop elements out₀ at next n to₀ i₀ t10 t11 out to i = n - i
@@ -30,7 +30,7 @@ loop-holds : tie.Need-loop-holds Inv-loop μ-loop
 loop-holds c =
     let begun = c .before .before .before .before .before in
     let a = begun .before .before .args in
-    let eight : length (a .t1) ≡ 8 = begun .before .before .good .0 .1 .0 .1 in
+    let eight : length (a .t1) ≡ elementPlaces = begun .before .before .good .0 .1 .0 .1 in
     let many = length-take (min (a .elements) elementPlaces) (a .t1) in
     (begun .count .ensures, eight, so-none _ _ _ (omega (arith, begun .count .ensures)) (c .before .before .put .ensures))
 

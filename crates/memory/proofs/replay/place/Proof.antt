@@ -5,15 +5,15 @@ use borrow.Author.Needs.{needs}
 use borrow.Author.Tests.{eq-eqb, ne-eqb}
 use lib.Dec.{eqb}
 use Rattle.common.proofs.Search.{Seeking, seek-start, seek-here, seek-on, seek-past}
-use Rattle.memory.specs.Replay.{entryPlace}
+use Rattle.memory.specs.Replay.{replayEntries, entryPlace}
 use Rattle.memory.proofs.replay.place.Statement.{statement}
 use Rattle.memory.proofs.replay.place.Tie as tie
 
 abbrev Inv-loop : tie.InvT-loop
-Inv-loop src replay i₀ i = Seeking (λ e. eqb (e .src) src) 32 replay i
+Inv-loop src replay i₀ i = Seeking (λ e. eqb (e .src) src) replayEntries replay i
 
 abbrev μ-loop : tie.MeasureT-loop
-μ-loop src replay i₀ i = 32 - i
+μ-loop src replay i₀ i = replayEntries - i
 
 pub place-spec : {M : Type 1} → statement M
 unfolding entryPlace
