@@ -35,7 +35,7 @@ use Rattle.node.specs.Setup.{boundWithin, keysValid, nextWithin, elementsValid,
 use Rattle.node.specs.declared.addresses.Node.{Node}
 use Rattle.receiver.specs.declared.fresh.Answer.the-variants.{Ready}
 use Rattle.receiver.specs.Fresh.{settingUp}
-use Rattle.crowd.specs.Crowd.{secondKey, hall, crowd, lasts, tooShort, otherNid, forged, sent, descending, others, alternating, rush, CrowdMet}
+use Rattle.crowd.specs.Crowd.{secondKey, hall, boxTtl, crowd, lasts, tooShort, otherNid, forged, sent, descending, others, alternating, rush, CrowdMet}
 use Rattle.demands.specs.Instance.{networkKey, arrival, order}
 use Rattle.demands.specs.Interleaved as scene
 use Rattle.demands.specs.Interleaved.{Event, Segment, Foreign, Ask, Own, Arrival, Each, Spent, speechAt, come, Comes, Arrives, AllCome}
@@ -185,7 +185,7 @@ spent k n = (n - speechAt crowd k .auth .seq) % 64
 abbrev OwnFirst : (k i seq : ℕ) → Type 0
 OwnFirst k i seq =
     let s = speechAt crowd k in
-    (j : ℕ) → j < s .network → opens (node .materials) (s .auth .iv) (segmentPdu node s i seq 7) j ≡ false
+    (j : ℕ) → j < s .network → opens (node .materials) (s .auth .iv) (segmentPdu node s i seq boxTtl) j ≡ false
 
 -- its buffers have room
 arrives : (e : Event) → Comes node crowd spent e → Arrives node crowd spent (arrival e)
@@ -193,12 +193,12 @@ arrives e c = record { comes = c; room-forward = omega arith; room-message = ome
 
 segment-arrives :
     (k i seq : ℕ) → k < 8 → i ≤ lasts k → i ≡ spent k seq → SegmentOf (speechAt crowd k .auth .seq) seq → seq ≤ 0xFFFFFF → OwnFirst k i seq
-    → Arrives node crowd spent (arrival (Segment k i seq 7))
+    → Arrives node crowd spent (arrival (Segment k i seq boxTtl))
 unfolding headerOf
 segment-arrives k i seq h last e t fits own =
     let w = speaks k h in
     let l = segn-is k h in
-    arrives (Segment k i seq 7)
+    arrives (Segment k i seq boxTtl)
     (record {
       one-of = h;
       segment-there = omega arith;
@@ -215,7 +215,7 @@ fitting k i seq =
     let begun = speechAt crowd k .auth .seq in
     leb i (lasts k) && (eqb i (spent k seq) && (leb begun seq && (leb seq (begun + 8191) && leb seq 0xFFFFFF)))
 
-tested-arrives : (k i seq : ℕ) → k < 8 → fitting k i seq ≡ true → OwnFirst k i seq → Arrives node crowd spent (arrival (Segment k i seq 7))
+tested-arrives : (k i seq : ℕ) → k < 8 → fitting k i seq ≡ true → OwnFirst k i seq → Arrives node crowd spent (arrival (Segment k i seq boxTtl))
 tested-arrives k i seq h t own =
     let begun = speechAt crowd k .auth .seq in
     let t1 = and-second (leb i (lasts k)) _ t in
@@ -226,7 +226,7 @@ tested-arrives k i seq h t own =
     (record { later = leb-true begun seq (and-first (leb begun seq) _ t2); near = near }) (leb-true seq 0xFFFFFF (and-second (leb seq (begun + 8191)) _ t3)) own
 
 -- one under the first network key
-by-first : (k i seq : ℕ) → k < 8 → speechAt crowd k .network ≡ 0 → fitting k i seq ≡ true → Arrives node crowd spent (arrival (Segment k i seq 7))
+by-first : (k i seq : ℕ) → k < 8 → speechAt crowd k .network ≡ 0 → fitting k i seq ≡ true → Arrives node crowd spent (arrival (Segment k i seq boxTtl))
 by-first k i seq h n t = tested-arrives k i seq h t (λ j b. absurd (omega arith))
 
 -- ---- the two under the second, which the first is tried on and does not open
@@ -236,11 +236,11 @@ unopened :
 unfolding opens
 unopened j keys pdu e t = ap (λ (k : NetworkKeys). tried k j 0x12345678 pdu .ok) e ∙ t
 
-sent-0 : segmentPdu node (speechAt crowd 6) 0 0x000700 7 ≡ pdu0
+sent-0 : segmentPdu node (speechAt crowd 6) 0 0x000700 boxTtl ≡ pdu0
 unfolding headerOf segmentOf lastOf octetsOf segmentFront segmentNumber controlOctet octets
 sent-0 = rw second-key sealed-0
 
-sent-1 : segmentPdu node (speechAt crowd 6) 1 0x000701 7 ≡ pdu1
+sent-1 : segmentPdu node (speechAt crowd 6) 1 0x000701 boxTtl ≡ pdu1
 unfolding headerOf segmentOf lastOf octetsOf segmentFront segmentNumber controlOctet octets
 sent-1 = rw second-key sealed-1
 

@@ -29,7 +29,7 @@ use Rattle.network.specs.Nonce.{ctlTtl, networkNonce}
 use Rattle.network.specs.Octets.{octets, numberFrom, number}
 use Rattle.network.specs.Pdu.{netMic, firstOctet, clearFront, privacyBlock, obfuscated, bodyOf, pduOf, frontOf}
 use Rattle.network.specs.Trial.{ctlOf, nonceOf, bodyTried, tried}
-use Rattle.crowd.specs.Crowd.{secondKey, forged}
+use Rattle.crowd.specs.Crowd.{secondKey, boxTtl, forged}
 use Rattle.demands.specs.Instance.{networkKey}
 
 -- ---- what is derived
@@ -37,17 +37,16 @@ use Rattle.demands.specs.Instance.{networkKey}
 abbrev salt : List ℕ
 salt = 0x4f ∷ 0x90 ∷ 0x48 ∷ 0x0c ∷ 0x18 ∷ 0x71 ∷ 0xbf ∷ 0xbf ∷ 0xfd ∷ 0x16 ∷ 0x97 ∷ 0x1f ∷ 0x4d ∷ 0x8d ∷ 0x10 ∷ 0xb1 ∷ []
 
--- k2 from its four CMACs
-module _ (key t t1 t2 t3 : List ℕ) where
-  record Derives : Type 0 where
-    t-is : mac salt key ≡ t
-    t1-is : mac t (0x00 ∷ 0x01 ∷ []) ≡ t1
-    t2-is : mac t (t1 ++ (0x00 ∷ 0x02 ∷ [])) ≡ t2
-    t3-is : mac t (t2 ++ (0x00 ∷ 0x03 ∷ [])) ≡ t3
+-- k2 from its four CMACs: two on the way, and the two keys
+record Derives (key t t1 : List ℕ) (keys : NetworkKeys) : Type 0 where
+  t-is : mac salt key ≡ t
+  t1-is : mac t (0x00 ∷ 0x01 ∷ []) ≡ t1
+  t2-is : mac t (t1 ++ (0x00 ∷ 0x02 ∷ [])) ≡ keys .encryption
+  t3-is : mac t (keys .encryption ++ (0x00 ∷ 0x03 ∷ [])) ≡ keys .privacy
 
-  derived : Derives → k2 key ≡ record { nid = getD t1 15 0 % 128; encryption = t2; privacy = t3 }
-  unfolding k2 k2T k2T1 k2T2 k2T3
-  derived d = rw (salt-k2, d .t-is, d .t1-is, d .t2-is, d .t3-is)
+derived : (key t t1 : List ℕ) (keys : NetworkKeys) → Derives key t t1 keys → k2 key ≡ record { nid = getD t1 15 0 % 128; encryption = keys .encryption; privacy = keys .privacy }
+unfolding k2 k2T k2T1 k2T2 k2T3
+derived key t t1 keys d = rw (salt-k2, d .t-is, d .t1-is, d .t2-is, d .t3-is)
 
 abbrev pub firstKeys : NetworkKeys
 firstKeys =
@@ -57,20 +56,6 @@ firstKeys =
       privacy = 0x8b ∷ 0x84 ∷ 0xee ∷ 0xde ∷ 0xc1 ∷ 0x00 ∷ 0x06 ∷ 0x7d ∷ 0x67 ∷ 0x09 ∷ 0x71 ∷ 0xdd ∷ 0x2a ∷ 0xa7 ∷ 0x00 ∷ 0xcf ∷ [];
     }
 
-first-macs :
-    Derives networkKey
-    (0x39 ∷ 0x88 ∷ 0x5e ∷ 0x04 ∷ 0x63 ∷ 0xba ∷ 0xfd ∷ 0x54 ∷ 0xca ∷ 0x6e ∷ 0x49 ∷ 0x5b ∷ 0x10 ∷ 0x01 ∷ 0x51 ∷ 0x5a ∷ [])
-    (0x88 ∷ 0xda ∷ 0xd4 ∷ 0x89 ∷ 0x2e ∷ 0x81 ∷ 0xfe ∷ 0xcb ∷ 0xe0 ∷ 0x61 ∷ 0xeb ∷ 0xd3 ∷ 0xfb ∷ 0x09 ∷ 0x32 ∷ 0x68 ∷ [])
-    (0x09 ∷ 0x53 ∷ 0xfa ∷ 0x93 ∷ 0xe7 ∷ 0xca ∷ 0xac ∷ 0x96 ∷ 0x38 ∷ 0xf5 ∷ 0x88 ∷ 0x20 ∷ 0x22 ∷ 0x0a ∷ 0x39 ∷ 0x8e ∷ [])
-    (0x8b ∷ 0x84 ∷ 0xee ∷ 0xde ∷ 0xc1 ∷ 0x00 ∷ 0x06 ∷ 0x7d ∷ 0x67 ∷ 0x09 ∷ 0x71 ∷ 0xdd ∷ 0x2a ∷ 0xa7 ∷ 0x00 ∷ 0xcf ∷ [])
-unfolding mac cmac lastBlock complete blockCount subkey2 subkey1 double constRb shiftLeft chain blocks
-    keySchedule roundKey fourWords w temp rcon xPower rotWord subWord wordOf
-    cipher rounds lastRound round addRoundKey mixColumns mixColumn threeTimes shiftRows subBytes sbox sboxTable xtime xored
-first-macs = record { t-is = refl; t1-is = refl; t2-is = refl; t3-is = refl }
-
-pub first-is : k2 networkKey ≡ firstKeys
-first-is = derived networkKey _ _ _ _ first-macs
-
 abbrev pub secondKeys : NetworkKeys
 secondKeys =
     record {
@@ -79,19 +64,33 @@ secondKeys =
       privacy = 0xef ∷ 0xd9 ∷ 0x46 ∷ 0x99 ∷ 0xbf ∷ 0x3c ∷ 0x4f ∷ 0x70 ∷ 0xcd ∷ 0xcc ∷ 0xd9 ∷ 0x18 ∷ 0xc7 ∷ 0xeb ∷ 0x56 ∷ 0xdc ∷ [];
     }
 
-second-macs :
-    Derives secondKey
-    (0x9d ∷ 0xe4 ∷ 0x03 ∷ 0x83 ∷ 0x33 ∷ 0xf0 ∷ 0xec ∷ 0x90 ∷ 0xfc ∷ 0xac ∷ 0x76 ∷ 0xa7 ∷ 0xe0 ∷ 0xa6 ∷ 0x86 ∷ 0xb0 ∷ [])
-    (0x85 ∷ 0x45 ∷ 0xfe ∷ 0x9d ∷ 0xc4 ∷ 0xd2 ∷ 0x64 ∷ 0x41 ∷ 0x1f ∷ 0x17 ∷ 0x8f ∷ 0xa1 ∷ 0x04 ∷ 0xbc ∷ 0x65 ∷ 0xe8 ∷ [])
-    (0x8e ∷ 0xa6 ∷ 0x34 ∷ 0x25 ∷ 0xd0 ∷ 0xac ∷ 0x7f ∷ 0x3a ∷ 0xe6 ∷ 0x26 ∷ 0x6e ∷ 0x39 ∷ 0x4d ∷ 0xfe ∷ 0x1d ∷ 0xba ∷ [])
-    (0xef ∷ 0xd9 ∷ 0x46 ∷ 0x99 ∷ 0xbf ∷ 0x3c ∷ 0x4f ∷ 0x70 ∷ 0xcd ∷ 0xcc ∷ 0xd9 ∷ 0x18 ∷ 0xc7 ∷ 0xeb ∷ 0x56 ∷ 0xdc ∷ [])
+record Macs : Type 0 where
+  first :
+      Derives networkKey
+      (0x39 ∷ 0x88 ∷ 0x5e ∷ 0x04 ∷ 0x63 ∷ 0xba ∷ 0xfd ∷ 0x54 ∷ 0xca ∷ 0x6e ∷ 0x49 ∷ 0x5b ∷ 0x10 ∷ 0x01 ∷ 0x51 ∷ 0x5a ∷ [])
+      (0x88 ∷ 0xda ∷ 0xd4 ∷ 0x89 ∷ 0x2e ∷ 0x81 ∷ 0xfe ∷ 0xcb ∷ 0xe0 ∷ 0x61 ∷ 0xeb ∷ 0xd3 ∷ 0xfb ∷ 0x09 ∷ 0x32 ∷ 0x68 ∷ [])
+      firstKeys
+  second :
+      Derives secondKey
+      (0x9d ∷ 0xe4 ∷ 0x03 ∷ 0x83 ∷ 0x33 ∷ 0xf0 ∷ 0xec ∷ 0x90 ∷ 0xfc ∷ 0xac ∷ 0x76 ∷ 0xa7 ∷ 0xe0 ∷ 0xa6 ∷ 0x86 ∷ 0xb0 ∷ [])
+      (0x85 ∷ 0x45 ∷ 0xfe ∷ 0x9d ∷ 0xc4 ∷ 0xd2 ∷ 0x64 ∷ 0x41 ∷ 0x1f ∷ 0x17 ∷ 0x8f ∷ 0xa1 ∷ 0x04 ∷ 0xbc ∷ 0x65 ∷ 0xe8 ∷ [])
+      secondKeys
+
+macs : Macs
 unfolding mac cmac lastBlock complete blockCount subkey2 subkey1 double constRb shiftLeft chain blocks
     keySchedule roundKey fourWords w temp rcon xPower rotWord subWord wordOf
     cipher rounds lastRound round addRoundKey mixColumns mixColumn threeTimes shiftRows subBytes sbox sboxTable xtime xored
-second-macs = record { t-is = refl; t1-is = refl; t2-is = refl; t3-is = refl }
+macs =
+    record {
+      first = record { t-is = refl; t1-is = refl; t2-is = refl; t3-is = refl };
+      second = record { t-is = refl; t1-is = refl; t2-is = refl; t3-is = refl };
+    }
+
+pub first-is : k2 networkKey ≡ firstKeys
+first-is = derived networkKey _ _ firstKeys (macs .first)
 
 pub second-is : k2 secondKey ≡ secondKeys
-second-is = derived secondKey _ _ _ _ second-macs
+second-is = derived secondKey _ _ secondKeys (macs .second)
 
 -- ---- CCM of a short message
 module _ (ks : List (List ℕ)) (nonce : List ℕ) where
@@ -123,19 +122,13 @@ module _ (ks : List (List ℕ)) (nonce : List ℕ) where
     decrypted-short c h = ap (λ (m : List ℕ). same (mic ks nonce (micOctets size) m) (drop (length c - micOctets size) c)) (ctr-short (front c) h)
 
 -- ---- the PDUs that the second seals
+-- both are of one speech, and differ in SEQ and transport PDU
+abbrev headerWith : (seq len : ℕ) → List ℕ → Header
+headerWith seq len octets =
+    record { key = 1; iv = 0x12345678; ctl = true; ttl = boxTtl; seq = seq; src = 0x0008; dst = 0x0001; len = len; transport = padded 16 octets }
+
 abbrev header0 : Header
-header0 =
-    record {
-      key = 1;
-      iv = 0x12345678;
-      ctl = true;
-      ttl = 7;
-      seq = 0x000700;
-      src = 0x0008;
-      dst = 0x0001;
-      len = 12;
-      transport = padded 16 (0x92 ∷ 0x1c ∷ 0x00 ∷ 0x01 ∷ 0x3c ∷ 0x3c ∷ 0x3c ∷ 0x3c ∷ 0x3c ∷ 0x3c ∷ 0x3c ∷ 0x3c ∷ []);
-    }
+header0 = headerWith 0x000700 12 (0x92 ∷ 0x1c ∷ 0x00 ∷ 0x01 ∷ 0x3c ∷ 0x3c ∷ 0x3c ∷ 0x3c ∷ 0x3c ∷ 0x3c ∷ 0x3c ∷ 0x3c ∷ [])
 
 abbrev pub pdu0 : List ℕ
 pdu0 =
@@ -143,18 +136,7 @@ pdu0 =
     ∷ 0xc9 ∷ 0xb5 ∷ 0xb3 ∷ 0x7e ∷ 0x35 ∷ 0xbf ∷ 0xb9 ∷ 0x1c ∷ 0x28 ∷ 0x54 ∷ 0xbc ∷ 0x52 ∷ 0x8b ∷ 0x99 ∷ 0xef ∷ []
 
 abbrev header1 : Header
-header1 =
-    record {
-      key = 1;
-      iv = 0x12345678;
-      ctl = true;
-      ttl = 7;
-      seq = 0x000701;
-      src = 0x0008;
-      dst = 0x0001;
-      len = 5;
-      transport = padded 16 (0x92 ∷ 0x1c ∷ 0x00 ∷ 0x21 ∷ 0x3c ∷ []);
-    }
+header1 = headerWith 0x000701 5 (0x92 ∷ 0x1c ∷ 0x00 ∷ 0x21 ∷ 0x3c ∷ [])
 
 abbrev pub pdu1 : List ℕ
 pdu1 =
@@ -186,16 +168,19 @@ unfolding frontOf obfuscated privacyBlock clearFront ctlTtl octets
     cipher rounds lastRound round addRoundKey mixColumns mixColumn threeTimes shiftRows subBytes sbox sboxTable xtime xored
 fronts = record { hidden-0 = refl; hidden-1 = refl; clear-0 = refl; clear-1 = refl; clear-first = refl; clear-second = refl }
 
--- the encryption keys' part: a body sealed, by its SEQ; and the verdict on one, by octets 1-6 in clear
-abbrev bodyBy : (seq : ℕ) → Header → List ℕ
-bodyBy seq h = shut (keySchedule (secondKeys .encryption)) (networkNonce true 7 seq 0x0008 0x12345678) Eight (octets 2 0x0001 ++ transportOf h)
+-- the encryption keys' part: a body sealed, as CTL 1 asks; and the verdict on one, by octets 1-6 in clear
+abbrev nonceFor : Header → List ℕ
+nonceFor h = networkNonce true (h .ttl) (h .seq) (h .src) (h .iv)
+
+abbrev bodyBy : Header → List ℕ
+bodyBy h = shut (keySchedule (secondKeys .encryption)) (nonceFor h) Eight (octets 2 (h .dst) ++ transportOf h)
 
 abbrev verdictBy : NetworkKeys → (clear pdu : List ℕ) → Bool
 verdictBy keys clear pdu = verdict (keySchedule (keys .encryption)) (nonceOf 0x12345678 clear) (netMic (ctlOf clear)) (drop 7 pdu)
 
 record Bodies : Type 0 where
-  body-0 : bodyBy 0x000700 header0 ≡ drop 7 pdu0
-  body-1 : bodyBy 0x000701 header1 ≡ drop 7 pdu1
+  body-0 : bodyBy header0 ≡ drop 7 pdu0
+  body-1 : bodyBy header1 ≡ drop 7 pdu1
   false-0 : verdictBy firstKeys clear0 pdu0 ≡ false
   false-1 : verdictBy firstKeys clear1 pdu1 ≡ false
   false-first : verdictBy firstKeys clear1 forged ≡ false
@@ -214,21 +199,17 @@ pdu-by :
 unfolding pduOf
 pdu-by keys h body hidden e f = rw (e, f)
 
+body-by : (h : Header) → h .ctl ≡ true → length (octets 2 (h .dst) ++ transportOf h) ≤ 16 → bodyOf secondKeys h ≡ bodyBy h
+unfolding bodyOf
+body-by h c short = rw c (sealed-short (keySchedule (secondKeys .encryption)) (nonceFor h) Eight (octets 2 (h .dst) ++ transportOf h) short)
+
 pub sealed-0 : pduOf secondKeys header0 ≡ pdu0
-unfolding firstOctet bodyOf octets
-sealed-0 =
-    let body =
-    sealed-short (keySchedule (secondKeys .encryption)) (networkNonce true 7 0x000700 0x0008 0x12345678) Eight (octets 2 0x0001 ++ transportOf header0) (omega arith)
-    ∙ bodies .body-0 in
-    pdu-by secondKeys header0 (drop 7 pdu0) (take 6 (drop 1 pdu0)) body (fronts .hidden-0)
+unfolding firstOctet octets
+sealed-0 = pdu-by secondKeys header0 (drop 7 pdu0) (take 6 (drop 1 pdu0)) (body-by header0 refl (omega arith) ∙ bodies .body-0) (fronts .hidden-0)
 
 pub sealed-1 : pduOf secondKeys header1 ≡ pdu1
-unfolding firstOctet bodyOf octets
-sealed-1 =
-    let body =
-    sealed-short (keySchedule (secondKeys .encryption)) (networkNonce true 7 0x000701 0x0008 0x12345678) Eight (octets 2 0x0001 ++ transportOf header1) (omega arith)
-    ∙ bodies .body-1 in
-    pdu-by secondKeys header1 (drop 7 pdu1) (take 6 (drop 1 pdu1)) body (fronts .hidden-1)
+unfolding firstOctet octets
+sealed-1 = pdu-by secondKeys header1 (drop 7 pdu1) (take 6 (drop 1 pdu1)) (body-by header1 refl (omega arith) ∙ bodies .body-1) (fronts .hidden-1)
 
 -- ---- a key that does not authenticate a PDU
 unauthentic :

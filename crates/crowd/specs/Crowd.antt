@@ -41,6 +41,10 @@ said src dst network seq words = record { src = src; dst = dst; network = networ
 abbrev pub saidBefore : (src dst network seq : ℕ) → Words → Speech
 saidBefore src dst network seq words = record { src = src; dst = dst; network = network; auth = record { iv = 0x12345677; seq = seq }; words = words }
 
+-- the TTL that their segments come with
+abbrev pub boxTtl : ℕ
+boxTtl = 7
+
 -- eight speakers, one message each
 abbrev pub crowd : List Speech
 crowd =
@@ -82,10 +86,10 @@ forged =
 
 -- segment i of speech k, its SEQ being the i-th from SeqAuth on; and once more, 64 numbers later
 abbrev pub sent : (k i : ℕ) → Arrival
-sent k i = arrival (Segment k i (speechAt crowd k .auth .seq + i) 7)
+sent k i = arrival (Segment k i (speechAt crowd k .auth .seq + i) boxTtl)
 
 abbrev pub sentAnew : (k i : ℕ) → Arrival
-sentAnew k i = arrival (Segment k i (speechAt crowd k .auth .seq + 64 + i) 7)
+sentAnew k i = arrival (Segment k i (speechAt crowd k .auth .seq + 64 + i) boxTtl)
 
 -- those of the long message, the last first
 abbrev pub descending : List Arrival
@@ -146,4 +150,4 @@ pub record CrowdMet : Type 0 where
   pub nid-refused : refusalOf (nodeOf hall) otherNid ≡ 2
   pub forged-refused : refusalOf (nodeOf hall) forged ≡ 3
   -- the third is what its speaker sent, but for the last octet
-  pub forged-else : take 21 forged ≡ take 21 (segmentPdu (nodeOf hall) (speechAt crowd 6) 1 0x000701 7)
+  pub forged-else : take 21 forged ≡ take 21 (segmentPdu (nodeOf hall) (speechAt crowd 6) 1 0x000701 boxTtl)
