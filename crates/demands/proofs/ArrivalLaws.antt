@@ -46,7 +46,7 @@ use Rattle.receiver.proofs.Good.{good-hear}
 use Rattle.receiver.proofs.GoodState.{good-cache}
 use Rattle.receiver.proofs.Laws.Fixed.{fixed-heard}
 use Rattle.receiver.proofs.Laws.Heard.{heard-closed, heard-again, Leaves, heard-new}
-use Rattle.demands.specs.Call.{Call, Hear, GiveUp, SendAccess, SendControl, SendSegment, Acknowledge, Stop, Heard, Outcome, leftHeard, step}
+use Rattle.demands.specs.Call.{Call, Hear, GiveUp, SendAccess, SendControl, SendSegment, Acknowledge, Stop, Heard, Outcome, messageFor, leftHeard, step}
 use Rattle.demands.specs.Interleaved as scene
 use Rattle.demands.specs.Interleaved.{Event, Segment, Foreign, Ask, Own, speechAt, callAs, comeWith, isLastMissing, Spent, isOwn, Comes, isStored, handed, SegmentAnswered, ForeignAnswered, AnsweredAs}
 use Rattle.demands.specs.Refusal.{noKeyOpens}
@@ -68,7 +68,7 @@ has-with x i j low h =
     (λ t. let e = eqb-true j i t in rw e (has-with-own x i low))
     (λ t. has-with-other x i j (eqb-false j i t) ∙ h)
 
--- the buffers that a call of hearing is lent
+-- the buffer that a call of hearing is lent for forwarding
 abbrev forwardOf : Call → List ℕ
 forwardOf (Hear pdu fwd msg) = fwd
 forwardOf (GiveUp src) = []
@@ -77,15 +77,6 @@ forwardOf (SendControl q opcode parameters buf) = []
 forwardOf (SendSegment n buf) = []
 forwardOf (Acknowledge net src buf) = []
 forwardOf Stop = []
-
-abbrev messageOf : Call → List ℕ
-messageOf (Hear pdu fwd msg) = msg
-messageOf (GiveUp src) = []
-messageOf (SendAccess q key szmic payload buf) = []
-messageOf (SendControl q opcode parameters buf) = []
-messageOf (SendSegment n buf) = []
-messageOf (Acknowledge net src buf) = []
-messageOf Stop = []
 
 -- a call of the receiver's own hands up nothing
 own-none : (r : Receiver) (c : Call) → isOwn c ≡ true → handed (step r c) ≡ []
@@ -102,7 +93,7 @@ module _ (node : Node) (speeches : List Speech) (spent : Spent) where
   Seen r filled = Scenery node speeches spent r filled
 
   pub record Next (r : Receiver) (filled : ℕ → ℕ) (e : Event) (c : Call) : Type 0 where
-    pub answers : AnsweredAs node speeches filled r e (forwardOf c) (messageOf c) (step r c)
+    pub answers : AnsweredAs node speeches filled r e (forwardOf c) (messageFor c) (step r c)
     pub scenery : Seen (step r c .receiver) (λ k. comeWith k (filled k) e)
 
   module _ (made : WellMade node) (few : length speeches ≤ 8) (speak : (k : ℕ) → k < length speeches → Speakable node (speechAt speeches k))
@@ -298,13 +289,13 @@ module _ (node : Node) (speeches : List Speech) (spent : Spent) where
 
   module _ (r : Receiver) (filled : ℕ → ℕ) (c : Call) where
     hands-as : (e : Event) → Next node speeches spent r filled e c → handed (step r c) ≡ dueOf filled e
-    hands-as (Segment k i seq ttl) n = answered-hands node (speechAt speeches k) (filled k) i (messageOf c) (step r c) (n .answers)
+    hands-as (Segment k i seq ttl) n = answered-hands node (speechAt speeches k) (filled k) i (messageFor c) (step r c) (n .answers)
     hands-as (Foreign pdu) n = ap handed (n .answers .2)
     hands-as (Ask net src) n = n .answers
     hands-as (Own c) n = n .answers
 
     stores-as : (e : Event) → Next node speeches spent r filled e c → StoresAt filled e (step r c)
-    stores-as (Segment k i seq ttl) n = answered-stores node (speechAt speeches k) (filled k) i (messageOf c) (step r c) (n .answers)
+    stores-as (Segment k i seq ttl) n = answered-stores node (speechAt speeches k) (filled k) i (messageFor c) (step r c) (n .answers)
     stores-as (Foreign pdu) n = tt {0}
     stores-as (Ask net src) n = tt {0}
     stores-as (Own c) n = tt {0}

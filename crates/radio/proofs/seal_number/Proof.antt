@@ -7,14 +7,9 @@ use Rattle.radio.proofs.SealLaws.{paper-most}
 use Rattle.radio.proofs.seal_number.Statement.{statement}
 use Rattle.radio.proofs.seal_number.Tie as tie
 
-add-result : tie.Need-add-result
-add-result c = omega (arith, paper-most (c .before .before .args .answer))
-
-returns : tie.Need-returns
-unfolding sealNumber
-returns c = omega arith
-
 pub seal-number-spec : {M : Type 1} → statement M
+unfolding sealNumber
 seal-number-spec =
     tie.close (tie.spec
-    (λ c κs. search needs) (λ c κs. search needs) (λ c. search needs) (λ c. search needs) add-result returns)
+    (λ c κs. search needs) (λ c κs. search needs) (λ c. search needs) (λ c. search needs)
+    (λ c. omega (arith, paper-most (c .before .before .args .answer))) (λ c. omega arith))

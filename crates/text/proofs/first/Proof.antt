@@ -8,13 +8,5 @@ use lib.Seq.{take-all}
 use Rattle.text.proofs.first.Statement.{statement}
 use Rattle.text.proofs.first.Tie as tie
 
-slice-aggregate-result : tie.Need-slice-aggregate-result
-slice-aggregate-result c = simp length-take (omega arith)
-
-returns-2 : tie.Need-returns-2
-returns-2 c = sym (take-all _ _ (c .if1 .left))
-
 pub first-spec : {M : Type 1} → statement M
-first-spec = tie.close
-    (tie.spec
-    slice-aggregate-result (λ c. search needs) returns-2)
+first-spec = tie.close (tie.spec (λ c. simp length-take (omega arith)) (λ c. search needs) (λ c. sym (take-all _ _ (c .if1 .left))))

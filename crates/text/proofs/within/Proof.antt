@@ -5,13 +5,8 @@ use lib.ListN.{length-take}
 use Rattle.text.proofs.within.Statement.{statement}
 use Rattle.text.proofs.within.Tie as tie
 
-returns : tie.Need-returns
-returns c = ((omega arith, simp length-take (omega arith)), omega arith)
-
-returns-2 : tie.Need-returns-2
-returns-2 c = ((omega arith, simp length-take (omega arith)), omega arith)
-
 pub within-spec : {M : Type 1} → statement M
-within-spec = tie.close
+within-spec =
+    tie.close
     (tie.spec
-    returns returns-2)
+    (λ c. ((omega arith, simp length-take (omega arith)), omega arith)) (λ c. ((omega arith, simp length-take (omega arith)), omega arith)))

@@ -5,8 +5,5 @@ use Rattle.commands.proofs.DeskLaws.{forgotten}
 use Rattle.commands.proofs.desk.forget.Statement.{statement}
 use Rattle.commands.proofs.desk.forget.Tie as tie
 
-returns : tie.Need-returns
-returns c = forgotten (c .before .args .d) _ (c .none .ensures)
-
 pub forget-spec : {M : Type 1} → statement M
-forget-spec = tie.close (tie.spec (λ c κs. search needs) returns)
+forget-spec = tie.close (tie.spec (λ c κs. search needs) (λ c. forgotten (c .before .args .d) _ (c .none .ensures)))

@@ -5,9 +5,6 @@ use Rattle.memory.specs.Cache.{seen}
 use Rattle.memory.proofs.cache.is_seen.Statement.{statement}
 use Rattle.memory.proofs.cache.is_seen.Tie as tie
 
-returns : tie.Need-returns
-unfolding seen
-returns c = rw (c .place .ensures, c .before .entry .ensures)
-
 pub is-seen-spec : {M : Type 1} → statement M
-is-seen-spec = tie.close (tie.spec (λ c κs. search needs) (λ c κs. search needs) returns)
+unfolding seen
+is-seen-spec = tie.close (tie.spec (λ c κs. search needs) (λ c κs. search needs) (λ c. rw (c .place .ensures, c .before .entry .ensures)))

@@ -6,9 +6,6 @@ use Rattle.memory.specs.Cache.{remembered}
 use Rattle.memory.proofs.cache.remember.Statement.{statement}
 use Rattle.memory.proofs.cache.remember.Tie as tie
 
-returns : tie.Need-returns
-unfolding remembered
-returns c = rw (c .entry .ensures) refl
-
 pub remember-spec : {M : Type 1} → statement M
-remember-spec = tie.close (tie.spec (λ c κs. search needs) (λ c. search needs) (λ c. search needs) (λ c. search needs) returns)
+unfolding remembered
+remember-spec = tie.close (tie.spec (λ c κs. search needs) (λ c. search needs) (λ c. search needs) (λ c. search needs) (λ c. rw (c .entry .ensures) refl))

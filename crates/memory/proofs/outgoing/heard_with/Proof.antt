@@ -5,9 +5,6 @@ use Rattle.memory.specs.Outgoing.{heardWith}
 use Rattle.memory.proofs.outgoing.heard_with.Statement.{statement}
 use Rattle.memory.proofs.outgoing.heard_with.Tie as tie
 
-returns : tie.Need-returns
-unfolding heardWith
-returns c = rw (c .before .all .ensures)
-
 pub heard-with-spec : {M : Type 1} → statement M
-heard-with-spec = tie.close (tie.spec (λ c. search needs) (λ c κs. search needs) returns)
+unfolding heardWith
+heard-with-spec = tie.close (tie.spec (λ c. search needs) (λ c κs. search needs) (λ c. rw (c .before .all .ensures)))

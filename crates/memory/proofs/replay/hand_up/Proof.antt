@@ -6,9 +6,9 @@ use Rattle.memory.specs.Replay.{handedUp}
 use Rattle.memory.proofs.replay.hand_up.Statement.{statement}
 use Rattle.memory.proofs.replay.hand_up.Tie as tie
 
-returns : tie.Need-returns
-unfolding handedUp
-returns c = c .insert .ensures ∙ rw (c .before .raise .ensures, c .before .before .look-up .ensures)
-
 pub hand-up-spec : {M : Type 1} → statement M
-hand-up-spec = tie.close (tie.spec (λ c κs. search needs) (λ c κs. search needs) (λ c κs. search needs) returns)
+unfolding handedUp
+hand-up-spec =
+    tie.close (tie.spec
+    (λ c κs. search needs) (λ c κs. search needs) (λ c κs. search needs)
+    (λ c. c .insert .ensures ∙ rw (c .before .raise .ensures, c .before .before .look-up .ensures)))

@@ -5,11 +5,5 @@ use Rattle.memory.proofs.ReplayLaws.{room-rules}
 use Rattle.memory.proofs.replay.has_room.Statement.{statement}
 use Rattle.memory.proofs.replay.has_room.Tie as tie
 
-returns : tie.Need-returns
-returns c = search room-rules
-
-returns-2 : tie.Need-returns-2
-returns-2 c = search room-rules
-
 pub has-room-spec : {M : Type 1} → statement M
-has-room-spec = tie.close (tie.spec (λ c κs. search needs) returns (λ c κs. search needs) returns-2)
+has-room-spec = tie.close (tie.spec (λ c κs. search needs) (λ c. search room-rules) (λ c κs. search needs) (λ c. search room-rules))

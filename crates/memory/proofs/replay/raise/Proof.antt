@@ -5,11 +5,5 @@ use Rattle.memory.proofs.ReplayLaws.{raise-rules}
 use Rattle.memory.proofs.replay.raise.Statement.{statement}
 use Rattle.memory.proofs.replay.raise.Tie as tie
 
-returns : tie.Need-returns
-returns c = search raise-rules
-
-returns-2 : tie.Need-returns-2
-returns-2 c = search raise-rules
-
 pub raise-spec : {M : Type 1} → statement M
-raise-spec = tie.close (tie.spec returns (λ c κs. search needs) returns-2)
+raise-spec = tie.close (tie.spec (λ c. search raise-rules) (λ c κs. search needs) (λ c. search raise-rules))

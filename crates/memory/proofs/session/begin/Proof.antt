@@ -5,9 +5,6 @@ use Rattle.memory.specs.Session.{begun}
 use Rattle.memory.proofs.session.begin.Statement.{statement}
 use Rattle.memory.proofs.session.begin.Tie as tie
 
-returns : tie.Need-returns
-unfolding begun
-returns c = rw (c .none .ensures)
-
 pub begin-spec : {M : Type 1} → statement M
-begin-spec = tie.close (tie.spec (λ c κs. search needs) returns)
+unfolding begun
+begin-spec = tie.close (tie.spec (λ c κs. search needs) (λ c. rw (c .none .ensures)))

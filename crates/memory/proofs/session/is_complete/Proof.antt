@@ -5,9 +5,6 @@ use Rattle.memory.specs.Session.{complete}
 use Rattle.memory.proofs.session.is_complete.Statement.{statement}
 use Rattle.memory.proofs.session.is_complete.Tie as tie
 
-returns : tie.Need-returns
-unfolding complete
-returns c = rw (c .before .all .ensures)
-
 pub is-complete-spec : {M : Type 1} → statement M
-is-complete-spec = tie.close (tie.spec (λ c. search needs) (λ c κs. search needs) returns)
+unfolding complete
+is-complete-spec = tie.close (tie.spec (λ c. search needs) (λ c κs. search needs) (λ c. rw (c .before .all .ensures)))

@@ -5,11 +5,6 @@ use Rattle.memory.proofs.SessionLaws.{place-rules}
 use Rattle.memory.proofs.session.octet_place.Statement.{statement}
 use Rattle.memory.proofs.session.octet_place.Tie as tie
 
-returns : tie.Need-returns
-returns c = search place-rules
-
-returns-2 : tie.Need-returns-2
-returns-2 c = search place-rules
-
 pub octet-place-spec : {M : Type 1} → statement M
-octet-place-spec = tie.close (tie.spec (λ c. search needs) (λ c. search needs) returns (λ c. search needs) (λ c. search needs) returns-2)
+octet-place-spec =
+    tie.close (tie.spec (λ c. search needs) (λ c. search needs) (λ c. search place-rules) (λ c. search needs) (λ c. search needs) (λ c. search place-rules))

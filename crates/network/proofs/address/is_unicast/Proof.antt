@@ -5,9 +5,6 @@ use Rattle.network.specs.Address.{isUnicast}
 use Rattle.network.proofs.address.is_unicast.Statement.{statement}
 use Rattle.network.proofs.address.is_unicast.Tie as tie
 
-returns : tie.Need-returns
-unfolding isUnicast
-returns c = cc
-
 pub is-unicast-spec : {M : Type 1} → statement M
-is-unicast-spec = tie.close (tie.spec (λ c κs. search needs) (λ c κs. search needs) returns)
+unfolding isUnicast
+is-unicast-spec = tie.close (tie.spec (λ c κs. search needs) (λ c κs. search needs) (λ c. cc))

@@ -6,14 +6,11 @@ use Rattle.network.specs.Octets.{octets}
 use Rattle.network.proofs.nonce.shaped.Statement.{statement}
 use Rattle.network.proofs.nonce.shaped.Tie as tie
 
-returns : tie.Need-returns
-unfolding octets
-returns c = refl
-
 pub shaped-spec : {M : Type 1} → statement M
+unfolding octets
 shaped-spec =
     tie.close (tie.spec
     (λ c. search needs) (λ c. search needs) (λ c. search needs) (λ c. search needs)
     (λ c. search needs) (λ c. search needs) (λ c. search needs) (λ c. search needs)
     (λ c. search needs) (λ c. search needs) (λ c. search needs)
-    returns)
+    (λ c. refl))

@@ -4,8 +4,5 @@ use borrow.Author.Needs.{needs}
 use Rattle.network.proofs.opening.refuse.Statement.{statement}
 use Rattle.network.proofs.opening.refuse.Tie as tie
 
-returns : tie.Need-returns
-returns c = rw (c .none .ensures)
-
 pub refuse-spec : {M : Type 1} → statement M
-refuse-spec = tie.close (tie.spec (λ c κs. search needs) returns)
+refuse-spec = tie.close (tie.spec (λ c κs. search needs) (λ c. rw (c .none .ensures)))

@@ -6,11 +6,6 @@ use Rattle.network.specs.Pdu.{firstOctet}
 use Rattle.network.proofs.sealing.first_octet.Statement.{statement}
 use Rattle.network.proofs.sealing.first_octet.Tie as tie
 
-returns : tie.Need-returns
-unfolding firstOctet
-returns c = refl
-
 pub first-octet-spec : {M : Type 1} → statement M
-first-octet-spec =
-    tie.close (tie.spec
-    (λ c. search needs) (λ c. search needs) (λ c. search needs) returns)
+unfolding firstOctet
+first-octet-spec = tie.close (tie.spec (λ c. search needs) (λ c. search needs) (λ c. search needs) (λ c. refl))

@@ -8,13 +8,9 @@ use Rattle.common.specs.Choice.{if_then_else_}
 use Rattle.network.proofs.sealing.pdu_len.Statement.{statement}
 use Rattle.network.proofs.sealing.pdu_len.Tie as tie
 
-returns : tie.Need-returns
-returns c = ap (λ (b : Bool). 9 + c .before .args .len + (if b then 8 else 4)) (sym (c .if1 .taken))
-
-returns-2 : tie.Need-returns-2
-returns-2 c = ap (λ (b : Bool). 9 + c .before .args .len + (if b then 8 else 4)) (sym (c .if1 .left))
-
 pub pdu-len-spec : {M : Type 1} → statement M
 pdu-len-spec =
     tie.close (tie.spec
-    (λ c. search needs) (λ c. search needs) (λ c. search needs) (λ c. search needs) returns returns-2)
+    (λ c. search needs) (λ c. search needs) (λ c. search needs) (λ c. search needs)
+    (λ c. ap (λ (b : Bool). 9 + c .before .args .len + (if b then 8 else 4)) (sym (c .if1 .taken)))
+    (λ c. ap (λ (b : Bool). 9 + c .before .args .len + (if b then 8 else 4)) (sym (c .if1 .left))))

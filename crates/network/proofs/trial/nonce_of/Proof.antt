@@ -5,11 +5,6 @@ use Rattle.network.specs.Trial.{nonceOf}
 use Rattle.network.proofs.trial.nonce_of.Statement.{statement}
 use Rattle.network.proofs.trial.nonce_of.Tie as tie
 
-returns : tie.Need-returns
-unfolding nonceOf
-returns c = cc
-
 pub nonce-of-spec : {M : Type 1} → statement M
-nonce-of-spec =
-    tie.close (tie.spec
-    (λ c κs. search needs) (λ c. search needs) (λ c κs. search needs) (λ c κs. search needs) (λ c κs. search needs) returns)
+unfolding nonceOf
+nonce-of-spec = tie.close (tie.spec (λ c κs. search needs) (λ c. search needs) (λ c κs. search needs) (λ c κs. search needs) (λ c κs. search needs) (λ c. cc))

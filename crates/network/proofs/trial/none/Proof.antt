@@ -4,8 +4,5 @@ use borrow.Author.Needs.{needs}
 use Rattle.network.proofs.trial.none.Statement.{statement}
 use Rattle.network.proofs.trial.none.Tie as tie
 
-returns : tie.Need-returns
-returns c = cc
-
 pub none-spec : {M : Type 1} → statement M
-none-spec = tie.close (tie.spec (λ c κs. search needs) returns)
+none-spec = tie.close (tie.spec (λ c κs. search needs) (λ c. cc))

@@ -4,8 +4,5 @@ use borrow.Author.Needs.{needs}
 use Rattle.network.proofs.trial.too_short.Statement.{statement}
 use Rattle.network.proofs.trial.too_short.Tie as tie
 
-returns : tie.Need-returns
-returns c = rw (c .if1 .taken)
-
 pub too-short-spec : {M : Type 1} → statement M
-too-short-spec = tie.close (tie.spec returns (λ c. search needs))
+too-short-spec = tie.close (tie.spec (λ c. rw (c .if1 .taken)) (λ c. search needs))

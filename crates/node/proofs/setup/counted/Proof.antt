@@ -5,11 +5,5 @@ use borrow.Author.Tests.{lt-ltb, le-ltb}
 use Rattle.node.proofs.setup.counted.Statement.{statement}
 use Rattle.node.proofs.setup.counted.Tie as tie
 
-returns : tie.Need-returns
-returns c = simp (le-ltb _ _ (c .if1 .taken))
-
-returns-2 : tie.Need-returns-2
-returns-2 c = simp (lt-ltb _ _ (c .if1 .left))
-
 pub counted-spec : {M : Type 1} → statement M
-counted-spec = tie.close (tie.spec (λ c. search needs) returns returns-2)
+counted-spec = tie.close (tie.spec (λ c. search needs) (λ c. simp (le-ltb _ _ (c .if1 .taken))) (λ c. simp (lt-ltb _ _ (c .if1 .left))))

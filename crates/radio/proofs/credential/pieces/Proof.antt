@@ -5,11 +5,6 @@ use Rattle.radio.specs.Credential.{pieces}
 use Rattle.radio.proofs.credential.pieces.Statement.{statement}
 use Rattle.radio.proofs.credential.pieces.Tie as tie
 
-returns : tie.Need-returns
-unfolding pieces
-returns c = cc
-
 pub pieces-spec : {M : Type 1} → statement M
-pieces-spec =
-    tie.close (tie.spec
-    (λ c κs. search needs) (λ c κs. search needs) (λ c κs. search needs) (λ c κs. search needs) returns)
+unfolding pieces
+pieces-spec = tie.close (tie.spec (λ c κs. search needs) (λ c κs. search needs) (λ c κs. search needs) (λ c κs. search needs) (λ c. cc))

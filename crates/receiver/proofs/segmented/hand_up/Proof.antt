@@ -5,11 +5,6 @@ use Rattle.receiver.specs.Segmented.{upgraded}
 use Rattle.receiver.proofs.segmented.hand_up.Statement.{statement}
 use Rattle.receiver.proofs.segmented.hand_up.Tie as tie
 
-returns : tie.Need-returns
-unfolding upgraded
-returns c = rw (c .with-replay .ensures, c .before .hand-up .ensures)
-
 pub hand-up-spec : {M : Type 1} → statement M
-hand-up-spec =
-    tie.close (tie.spec
-    (λ c κs. search needs) (λ c κs. search needs) returns)
+unfolding upgraded
+hand-up-spec = tie.close (tie.spec (λ c κs. search needs) (λ c κs. search needs) (λ c. rw (c .with-replay .ensures, c .before .hand-up .ensures)))

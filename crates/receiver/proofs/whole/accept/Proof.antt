@@ -5,11 +5,6 @@ use Rattle.receiver.specs.Whole.{admitted}
 use Rattle.receiver.proofs.whole.accept.Statement.{statement}
 use Rattle.receiver.proofs.whole.accept.Tie as tie
 
-returns : tie.Need-returns
-unfolding admitted
-returns c = rw (c .with-replay .ensures, c .before .accept .ensures)
-
 pub accept-spec : {M : Type 1} → statement M
-accept-spec =
-    tie.close (tie.spec
-    (λ c κs. search needs) (λ c κs. search needs) returns)
+unfolding admitted
+accept-spec = tie.close (tie.spec (λ c κs. search needs) (λ c κs. search needs) (λ c. rw (c .with-replay .ensures, c .before .accept .ensures)))

@@ -5,11 +5,8 @@ use Rattle.sending.specs.Access.{envelopeOf}
 use Rattle.sending.proofs.access.envelope.Statement.{statement}
 use Rattle.sending.proofs.access.envelope.Tie as tie
 
-returns : tie.Need-returns
-unfolding envelopeOf
-returns c = rw (c .address-of .ensures, c .before .iv-of .ensures)
-
 pub envelope-spec : {M : Type 1} → statement M
+unfolding envelopeOf
 envelope-spec =
     tie.close (tie.spec
-    (λ c κs. search needs) (λ c. search needs) (λ c. search needs) (λ c κs. search needs) returns)
+    (λ c κs. search needs) (λ c. search needs) (λ c. search needs) (λ c κs. search needs) (λ c. rw (c .address-of .ensures, c .before .iv-of .ensures)))

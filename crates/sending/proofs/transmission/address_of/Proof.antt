@@ -6,11 +6,6 @@ use mathlib.Core.Path.{refl}
 use Rattle.sending.proofs.transmission.address_of.Statement.{statement}
 use Rattle.sending.proofs.transmission.address_of.Tie as tie
 
-returns : tie.Need-returns
-unfolding addressOf
-returns c = refl
-
 pub address-of-spec : {M : Type 1} → statement M
-address-of-spec =
-    tie.close (tie.spec
-    (λ c. search needs) (λ c. search needs) (λ c. search needs) returns)
+unfolding addressOf
+address-of-spec = tie.close (tie.spec (λ c. search needs) (λ c. search needs) (λ c. search needs) (λ c. refl))

@@ -6,11 +6,6 @@ use mathlib.Core.Path.{refl}
 use Rattle.sending.proofs.transmission.advance.Statement.{statement}
 use Rattle.sending.proofs.transmission.advance.Tie as tie
 
-returns : tie.Need-returns
-unfolding withNext
-returns c = refl
-
 pub advance-spec : {M : Type 1} → statement M
-advance-spec =
-    tie.close (tie.spec
-    (λ c. search needs) (λ c. search needs) (λ c. search needs) (λ c. search needs) (λ c. search needs) returns)
+unfolding withNext
+advance-spec = tie.close (tie.spec (λ c. search needs) (λ c. search needs) (λ c. search needs) (λ c. search needs) (λ c. search needs) (λ c. refl))

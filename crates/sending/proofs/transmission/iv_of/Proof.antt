@@ -5,11 +5,6 @@ use Rattle.sending.specs.Transmission.{sendingIv}
 use Rattle.sending.proofs.transmission.iv_of.Statement.{statement}
 use Rattle.sending.proofs.transmission.iv_of.Tie as tie
 
-returns : tie.Need-returns
-unfolding sendingIv
-returns c = c .sent .ensures
-
 pub iv-of-spec : {M : Type 1} → statement M
-iv-of-spec =
-    tie.close (tie.spec
-    (λ c κs. search needs) returns)
+unfolding sendingIv
+iv-of-spec = tie.close (tie.spec (λ c κs. search needs) (λ c. c .sent .ensures))

@@ -5,11 +5,5 @@ use Rattle.speed.proofs.HearingLaws.{held-rules}
 use Rattle.speed.proofs.hearing.hold.Statement.{statement}
 use Rattle.speed.proofs.hearing.hold.Tie as tie
 
-returns : tie.Need-returns
-returns c = (search held-rules, search needs)
-
-returns-2 : tie.Need-returns-2
-returns-2 c = (search held-rules, search needs)
-
 pub hold-spec : {M : Type 1} → statement M
-hold-spec = tie.close (tie.spec returns returns-2)
+hold-spec = tie.close (tie.spec (λ c. (search held-rules, search needs)) (λ c. (search held-rules, search needs)))

@@ -6,15 +6,6 @@ use Rattle.transport.specs.Segment.{controlOctet}
 use Rattle.transport.proofs.segment.control_octet.Statement.{statement}
 use Rattle.transport.proofs.segment.control_octet.Tie as tie
 
-returns : tie.Need-returns
-unfolding controlOctet
-returns c = rw (c .if1 .taken)
-
-returns-2 : tie.Need-returns-2
-unfolding controlOctet
-returns-2 c = rw (c .if1 .left) (omega arith)
-
 pub control-octet-spec : {M : Type 1} → statement M
-control-octet-spec =
-    tie.close (tie.spec
-    (λ c. search needs) returns returns-2)
+unfolding controlOctet
+control-octet-spec = tie.close (tie.spec (λ c. search needs) (λ c. rw (c .if1 .taken)) (λ c. rw (c .if1 .left) (omega arith)))

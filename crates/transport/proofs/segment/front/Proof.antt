@@ -9,11 +9,9 @@ use Rattle.transport.specs.Segment.{segmentFront}
 use Rattle.transport.proofs.segment.front.Statement.{statement}
 use Rattle.transport.proofs.segment.front.Tie as tie
 
-returns : tie.Need-returns
-unfolding segmentFront octets
-returns c = ap (λ (n : ℕ). c .before .args .first ∷ octets 3 n) (c .number .ensures)
-
 pub front-spec : {M : Type 1} → statement M
+unfolding segmentFront octets
 front-spec =
     tie.close (tie.spec
-    (λ c κs. search needs) (λ c. search needs) (λ c. search needs) (λ c. search needs) returns)
+    (λ c κs. search needs) (λ c. search needs) (λ c. search needs) (λ c. search needs)
+    (λ c. ap (λ (n : ℕ). c .before .args .first ∷ octets 3 n) (c .number .ensures)))

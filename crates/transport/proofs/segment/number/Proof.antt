@@ -6,16 +6,9 @@ use Rattle.transport.specs.Segment.{segmentNumber}
 use Rattle.transport.proofs.segment.number.Statement.{statement}
 use Rattle.transport.proofs.segment.number.Tie as tie
 
-returns : tie.Need-returns
-unfolding segmentNumber
-returns c = rw (c .if1 .taken)
-
-returns-2 : tie.Need-returns-2
-unfolding segmentNumber
-returns-2 c = rw (c .if1 .left) (omega arith)
-
 pub number-spec : {M : Type 1} → statement M
+unfolding segmentNumber
 number-spec =
     tie.close (tie.spec
     (λ c. search needs) (λ c. search needs) (λ c. search needs) (λ c. search needs) (λ c. search needs)
-    (λ c. search needs) (λ c. search needs) (λ c. search needs) returns returns-2)
+    (λ c. search needs) (λ c. search needs) (λ c. search needs) (λ c. rw (c .if1 .taken)) (λ c. rw (c .if1 .left) (omega arith)))
