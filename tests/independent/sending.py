@@ -9,7 +9,7 @@ import transport
 from model import Refusal
 from network import kind
 
-UNNAMED_TTL = 7
+UNNAMED_TTL = 4
 LAST_SEQ = 0xFFFFFF
 
 

@@ -20,8 +20,8 @@ ENCRYPTION, PRIVACY, APPLICATION = (bytes.fromhex(SAMPLE[name]) for name in ("en
 NID = int(SAMPLE["nid"], 16)
 AID = next(int(v["out"], 16) for v in MP["functions"] if v["fn"] == "k4" and v["n"] == SAMPLE["app_key"])
 IV = bytes.fromhex(SAMPLE["iv_index"])
-# A TTL left unnamed.
-TTL = 7
+# The TTL that both programs name, and the one of an acknowledgement, which is left unnamed.
+NAMED_TTL, UNNAMED_TTL = 7, 4
 
 
 def expect(found, wanted, what):
@@ -30,13 +30,13 @@ def expect(found, wanted, what):
         sys.exit(f"{what}: {found} is sent, {wanted} is expected")
 
 
-def opened(pdu, ctl, seq, src, dst):
+def opened(pdu, ctl, ttl, seq, src, dst):
     """The transport PDU of a Network PDU (MP 3.4, 3.8.7), whose front must be as said."""
     what = f"SEQ {seq:06x}"
     expect(pdu[0], (IV[3] & 1) << 7 | NID, f"{what}, octet 0")
     pad = Cipher(algorithms.AES(PRIVACY), modes.ECB()).encryptor().update(bytes(5) + IV + pdu[7:14])
     front = bytes(a ^ b for a, b in zip(pdu[1:7], pad))
-    expect(front.hex(), f"{ctl << 7 | TTL:02x}{seq:06x}{src:04x}", f"{what}, CTL, TTL, SEQ and SRC")
+    expect(front.hex(), f"{ctl << 7 | ttl:02x}{seq:06x}{src:04x}", f"{what}, CTL, TTL, SEQ and SRC")
     nonce = b"\x00" + front + b"\x00\x00" + IV
     try:
         body = AESCCM(ENCRYPTION, tag_length=8 if ctl else 4).decrypt(nonce, pdu[7:], None)
@@ -72,7 +72,7 @@ def compare_wind_box(src=0x0101, dst=0xC0A1, first=0x000100):
     expect(len(pdus), len(forces), "the wind box: how many statuses")
     for place, (force, (seq, pdu)) in enumerate(zip(forces, pdus)):
         expect(seq, first + place, "the wind box: SEQ")
-        transport = opened(pdu, 0, seq, src, dst)
+        transport = opened(pdu, 0, NAMED_TTL, seq, src, dst)
         expect(transport[0], 1 << 6 | AID, "the wind box: SEG, AKF and AID")
         expect(unsecured(transport[1:], seq, src, dst), bytes([0xC1, 0xFF, 0xFF, force]), "the wind box: the status")
     return len(pdus)
@@ -86,14 +86,14 @@ def compare_bench(sender=0x0102, station=0x0201, first=0x000200, acknowledged=0x
     last, upper = len(segments) - 1, b""
     for place, (number, pdu) in enumerate(segments):
         expect(number, first + place, "the bench: SEQ")
-        transport = opened(pdu, 0, number, sender, station)
+        transport = opened(pdu, 0, NAMED_TTL, number, sender, station)
         header = 1 << 31 | 1 << 30 | AID << 24 | first % 8192 << 10 | place << 5 | last
         expect(transport[:4].hex(), f"{header:08x}", f"the bench: the header of segment {place}")
         upper += transport[4:]
     expect(len(upper), len(text) + 4, "the bench: the length of the message")
     expect(unsecured(upper, first, sender, station), text.encode(), "the bench: the message")
     expect(seq, acknowledged, "the bench: the acknowledgement's SEQ")
-    transport = opened(acknowledgement, 1, seq, station, sender)
+    transport = opened(acknowledgement, 1, UNNAMED_TTL, seq, station, sender)
     expect(transport.hex(), f"00{first % 8192 << 2:04x}{2 ** len(segments) - 1:08x}", "the bench: the acknowledgement")
     return len(segments)
 

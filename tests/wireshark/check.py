@@ -14,7 +14,7 @@ sys.path.insert(0, str(Path(__file__).resolve().parents[1] / "independent"))
 
 import program  # noqa: E402
 from capture import Failed, dissected  # noqa: E402
-from messages import GROUP, RECEIVER, SENDER, Station, count_of, readings, segmented, unopened  # noqa: E402
+from messages import GROUP, RECEIVER, SENDER, UNNAMED_TTL, Station, count_of, readings, segmented, unopened  # noqa: E402
 
 STATIONS = ((1, 0x12345678, 0), (2, 0x00101847, 1))
 
@@ -58,7 +58,7 @@ def heard(words, station, spoken):
         if segmented(message) and message.dst != GROUP:
             element = message.dst - RECEIVER
             requests.append((len(lines), {
-                "btmesh.ctl": 1, "btmesh.ttl": 7, "btmesh.seq": own[element], "btmesh.src": message.dst, "btmesh.dst": SENDER + message.element,
+                "btmesh.ctl": 1, "btmesh.ttl": UNNAMED_TTL, "btmesh.seq": own[element], "btmesh.src": message.dst, "btmesh.dst": SENDER + message.element,
                 "btmesh.cntr.opcode": 0, "btmesh.obo": 0, "btmesh.seqzero": seqs[message.element] % 8192, "btmesh.blockack": 2 ** len(pdus) - 1}))
             own[element] += 1
             lines.append(f"ack {message.net} {SENDER + message.element:x}")

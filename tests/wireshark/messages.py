@@ -7,6 +7,7 @@ SENDER, RECEIVER, GROUP = 0x0003, 0x1201, 0xC105
 ACCESS = ((4, 1), (4, 11), (4, 12), (4, 20), (4, 21), (4, 43), (4, 380), (8, 1), (8, 4), (8, 5), (8, 376))
 CONTROL = (0, 1, 11, 12, 17, 256)
 TTLS = (None, 0, 2, 127)
+UNNAMED_TTL = 4
 # Opcodes that MP leaves free, so that a dissector shows the parameters as they are.
 FREE_OPCODES = range(0x0B, 0x80)
 
@@ -81,7 +82,7 @@ def readings(message, first):
     """What is to be read from each of a message's PDUs, by tshark's names; `first` is the SEQ of the first of them."""
     count = count_of(message)
     for at in range(count):
-        read = {"btmesh.ctl": int(message.mic is None), "btmesh.ttl": 7 if message.ttl is None else message.ttl, "btmesh.seq": first + at,
+        read = {"btmesh.ctl": int(message.mic is None), "btmesh.ttl": UNNAMED_TTL if message.ttl is None else message.ttl, "btmesh.seq": first + at,
                 "btmesh.src": SENDER + message.element, "btmesh.dst": message.dst, "btmesh.cntr.opcode": message.opcode}
         if message.mic is not None:
             read["btmesh.acc.akf"] = int(message.key is not None)

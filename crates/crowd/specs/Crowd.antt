@@ -43,7 +43,7 @@ saidBefore src dst network seq words = record { src = src; dst = dst; network = 
 
 -- the TTL that their segments come with
 abbrev pub boxTtl : ℕ
-boxTtl = 7
+boxTtl = 5
 
 -- eight speakers, one message each
 abbrev pub crowd : List Speech
@@ -81,8 +81,8 @@ otherNid = 0x69 ∷ replicate 21 0
 -- segment 1 of the speech under the second network key, but for the last bit of its NetMIC
 abbrev pub forged : List ℕ
 forged =
-    0x68 ∷ 0x7c ∷ 0x3b ∷ 0x93 ∷ 0x11 ∷ 0x5c ∷ 0x41 ∷ 0xaf ∷ 0x86 ∷ 0x50 ∷ 0xb3 ∷ 0x77 ∷ 0xcf ∷ 0x11
-    ∷ 0xae ∷ 0x3b ∷ 0x4f ∷ 0xa1 ∷ 0xdb ∷ 0x7c ∷ 0x64 ∷ 0x73 ∷ []
+    0x68 ∷ 0x50 ∷ 0x28 ∷ 0xcf ∷ 0x41 ∷ 0x7d ∷ 0xa1 ∷ 0x83 ∷ 0xcc ∷ 0x2c ∷ 0x31 ∷ 0x23 ∷ 0xd0 ∷ 0x2d
+    ∷ 0x90 ∷ 0xf6 ∷ 0xad ∷ 0xfd ∷ 0x17 ∷ 0x59 ∷ 0x1e ∷ 0x79 ∷ []
 
 -- segment i of speech k, its SEQ being the i-th from SeqAuth on; and once more, 64 numbers later
 abbrev pub sent : (k i : ℕ) → Arrival

@@ -16,7 +16,7 @@ use Rattle.sending.specs.declared.request.Ttl.the-variants.{Unnamed, Nam
 
 -- a TTL left unnamed
 abbrev pub unnamedTtl : ℕ
-unnamedTtl = 7
+unnamedTtl = 4
 
 -- the TTL of a PDU
 abbrev pub ttlOf : Ttl → ℕ

@@ -24,7 +24,7 @@ pub fn ttl_of(ttl: Ttl) -> u8
     ensures { λ r. ⌜ r ≡ ttlOf ttl ⌝ }
 {
     match ttl {
-        Ttl::Unnamed => 7,
+        Ttl::Unnamed => 4,
         Ttl::Named(n) => n,
     }
 }

@@ -18,6 +18,9 @@ const SENDER: u16 = 0x0102;
 
 const STATION: u16 = 0x0201;
 
+// More hops than a TTL left unnamed allows; the receiver's acknowledgement cannot name one.
+const TTL: u8 = 7;
+
 // Sets both nodes up with the same keys, and lets the box send its message and the receiver acknowledge it.
 fn main() {
     let bench = Bench {
@@ -27,13 +30,13 @@ fn main() {
     acknowledge(send_message(bench));
 }
 
-// Begins the message, under the application key, with no TTL named, and sends its segments one after another. Its text stands where an
+// Begins the message, under the application key, with the TTL named, and sends its segments one after another. Its text stands where an
 // opcode and its parameters would.
 fn send_message(bench: Bench) -> Bench {
     let request = Request {
         element: 0,
         dst: STATION,
-        ttl: Ttl::Unnamed,
+        ttl: Ttl::Named(TTL),
         network: 0,
     };
     let sender = bench.sender;

@@ -10,6 +10,9 @@ use transport::securing::MessageKey;
 // The group that listens for the wind.
 const LISTENERS: u16 = 0xC0A1;
 
+// More hops than a TTL left unnamed allows.
+const TTL: u8 = 7;
+
 // Sets the box up, reads standard input, its first 4,096 octets, and answers it.
 fn main() {
     let mut input = io::buffer();
@@ -37,12 +40,12 @@ fn answer(wind_box: Receiver, question: u8) -> Receiver {
     }
 }
 
-// Sends the wind's force: a status to a group, under the application key, with no TTL named.
+// Sends the wind's force: a status to a group, under the application key, with the TTL named.
 fn send_status(wind_box: Receiver, force: u8) -> Receiver {
     let request = Request {
         element: 0,
         dst: LISTENERS,
-        ttl: Ttl::Unnamed,
+        ttl: Ttl::Named(TTL),
         network: 0,
     };
     // A vendor's opcode of three octets (MP 3.7.3.1), and the force.
