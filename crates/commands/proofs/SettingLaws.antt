@@ -24,9 +24,10 @@ use Rattle.text.specs.Field.{is, behind, fields}
 use Rattle.text.specs.Number.{numberOf}
 use Rattle.text.proofs.FieldLaws.{fields-on, fields-past, fields-from-two}
 use Rattle.node.specs.declared.setup.Setup.{Setup}
+use Rattle.node.specs.Addresses.{elementPlaces}
 use Rattle.node.specs.Setup.{counted, withElements}
 use Rattle.commands.specs.declared.setting.Sequences.{Sequences}
-use Rattle.commands.specs.Setting.{keyOf, isNumber, valueOf, areNumbers, noSequences, sequencesOf, fit, unfit, givenElements}
+use Rattle.commands.specs.Setting.{keyOf, isNumber, valueOf, areNumbers, noSequences, pastElements, sequencesOf, fit, unfit, givenElements}
 
 -- one number more, or none
 abbrev withNumber : Number → (ℕ → Sequences) → Sequences
@@ -36,81 +37,81 @@ withNumber NotHex f = noSequences
 -- so many numbers were read, and stand in the list: the texts that are left
 unfoldable pub sequencesFrom : ℕ → List ℕ → List (List ℕ) → Sequences
 sequencesFrom count next [] = record { fits = true; count = count; next = next }
-sequencesFrom count next (text ∷ texts) = withNumber (numberOf text) (λ n. sequencesFrom (counted 8 count) (set next count n) texts)
+sequencesFrom count next (text ∷ texts) = withNumber (numberOf text) (λ n. sequencesFrom (counted elementPlaces count) (set next count n) texts)
 
--- ---- one more of nine at most
-counted-nine : (k : ℕ) → counted 8 (min k 9) ≡ min (k + 1) 9
-counted-nine k =
-    by-test (ltb 8 (min k 9)) (λ t. let h : 8 < min k 9 = ltb-true 8 (min k 9) t in rw t (omega arith))
-    (λ t. let h : min k 9 ≤ 8 = ltb-false 8 (min k 9) t in rw t (omega arith))
+-- ---- one more, as far as is counted
+counted-past : (k : ℕ) → counted elementPlaces (min k pastElements) ≡ min (k + 1) pastElements
+counted-past k =
+    by-test (ltb elementPlaces (min k pastElements)) (λ t. let h : elementPlaces < min k pastElements = ltb-true elementPlaces (min k pastElements) t in rw t (omega arith))
+    (λ t. let h : min k pastElements ≤ elementPlaces = ltb-false elementPlaces (min k pastElements) t in rw t (omega arith))
 
--- ---- a number goes to its place among the first eight
+-- ---- a number goes to its place, where there is one
 module _ (l : List ℕ) (n : ℕ) where
-  more-at : (i : ℕ) → i < 8 → getD (set (padded 8 l) (min (length l) 9) n) i 0 ≡ getD (l ++ n ∷ []) i 0
+  more-at : (i : ℕ) → i < elementPlaces → getD (set (padded elementPlaces l) (min (length l) pastElements) n) i 0 ≡ getD (l ++ n ∷ []) i 0
   more-at i h =
-      let k = min (length l) 9 in
-      let long : length (padded 8 l) ≡ 8 = length-tab (λ j. getD l j 0) 8 in
+      let k = min (length l) pastElements in
+      let long : length (padded elementPlaces l) ≡ elementPlaces = length-tab (λ j. getD l j 0) elementPlaces in
       by-test (eqb i (length l))
       (λ t.
       let e : i ≡ length l = eqb-true i (length l) t in
       let same : k ≡ i = omega arith in
-      ap (λ (j : ℕ). getD (set (padded 8 l) j n) i 0) same
-      ∙ getD-set-same (padded 8 l) i n 0 (omega arith) ∙ sym (getD-at l n [] 0 i (sym e)))
+      ap (λ (j : ℕ). getD (set (padded elementPlaces l) j n) i 0) same
+      ∙ getD-set-same (padded elementPlaces l) i n 0 (omega arith) ∙ sym (getD-at l n [] 0 i (sym e)))
       (λ t.
       let d : i ≡ length l → ⊥ = eqb-false i (length l) t in
-      getD-set-other (padded 8 l) k i n 0 (λ q. d (omega arith))
-      ∙ getD-tab (λ j. getD l j 0) 8 i 0 h
+      getD-set-other (padded elementPlaces l) k i n 0 (λ q. d (omega arith))
+      ∙ getD-tab (λ j. getD l j 0) elementPlaces i 0 h
       ∙ by-test (ltb i (length l)) (λ u. sym (List·getD-append l (n ∷ []) 0 i (ltb-true i (length l) u)))
       (λ u.
       let past : length l ≤ i = ltb-false i (length l) u in
       let end : length (l ++ n ∷ []) ≤ i = simp length-append (let f : length l ≡ i → ⊥ = (λ q. d (sym q)) in omega arith) in
       List·getD-eq-default l 0 past ∙ sym (List·getD-eq-default (l ++ n ∷ []) 0 end)))
 
-  padded-more : set (padded 8 l) (min (length l) 9) n ≡ padded 8 (l ++ n ∷ [])
+  padded-more : set (padded elementPlaces l) (min (length l) pastElements) n ≡ padded elementPlaces (l ++ n ∷ [])
   padded-more =
-      tab-is (λ i. getD (l ++ n ∷ []) i 0) 0 8 (set (padded 8 l) (min (length l) 9) n)
-      (length-set (padded 8 l) (min (length l) 9) n ∙ length-tab (λ j. getD l j 0) 8) more-at
+      tab-is (λ i. getD (l ++ n ∷ []) i 0) 0 elementPlaces (set (padded elementPlaces l) (min (length l) pastElements) n)
+      (length-set (padded elementPlaces l) (min (length l) pastElements) n ∙ length-tab (λ j. getD l j 0) elementPlaces) more-at
 
 -- ---- the texts that are left, behind the numbers that were read
 abbrev ReadFrom : List (List ℕ) → List ℕ → Type 0
 ReadFrom texts l =
-    sequencesFrom (min (length l) 9) (padded 8 l) texts
+    sequencesFrom (min (length l) pastElements) (padded elementPlaces l) texts
     ≡ (if areNumbers texts then
-    record { fits = true; count = min (length l + length texts) 9; next = padded 8 (l ++ map (λ text. valueOf (numberOf text)) texts) } else
+    record { fits = true; count = min (length l + length texts) pastElements; next = padded elementPlaces (l ++ map (λ text. valueOf (numberOf text)) texts) } else
     noSequences)
 
 read-step :
     (a : Number) (texts : List (List ℕ)) (l : List ℕ) → ((m : List ℕ) → ReadFrom texts m)
-    → withNumber a (λ n. sequencesFrom (counted 8 (min (length l) 9)) (set (padded 8 l) (min (length l) 9) n) texts)
+    → withNumber a (λ n. sequencesFrom (counted elementPlaces (min (length l) pastElements)) (set (padded elementPlaces l) (min (length l) pastElements) n) texts)
     ≡ (if isNumber a && areNumbers texts then
-    record { fits = true; count = min (length l + suc (length texts)) 9; next = padded 8 (l ++ valueOf a ∷ map (λ text. valueOf (numberOf text)) texts) } else
+    record { fits = true; count = min (length l + suc (length texts)) pastElements; next = padded elementPlaces (l ++ valueOf a ∷ map (λ text. valueOf (numberOf text)) texts) } else
     noSequences)
 read-step NotHex texts l p = refl
 read-step (Value n) texts l p =
     let rest = map (λ text. valueOf (numberOf text)) texts in
     let long : length (l ++ n ∷ []) ≡ length l + 1 = length-append l (n ∷ []) in
-    let one : counted 8 (min (length l) 9) ≡ min (length (l ++ n ∷ [])) 9 = counted-nine (length l) ∙ ap (λ (k : ℕ). min k 9) (sym long) in
+    let one : counted elementPlaces (min (length l) pastElements) ≡ min (length (l ++ n ∷ [])) pastElements = counted-past (length l) ∙ ap (λ (k : ℕ). min k pastElements) (sym long) in
     let many : length (l ++ n ∷ []) + length texts ≡ length l + suc (length texts) = omega arith in
     ap₂ (λ (k : ℕ) (m : List ℕ). sequencesFrom k m texts) one (padded-more l n)
     ∙ p (l ++ n ∷ [])
-    ∙ ap₂ (λ (k : ℕ) (m : List ℕ). if areNumbers texts then record { fits = true; count = min k 9; next = padded 8 m } else noSequences) many
+    ∙ ap₂ (λ (k : ℕ) (m : List ℕ). if areNumbers texts then record { fits = true; count = min k pastElements; next = padded elementPlaces m } else noSequences) many
     (append-assoc l (n ∷ []) rest)
 
 read-from : (texts : List (List ℕ)) (l : List ℕ) → ReadFrom texts l
 unfolding sequencesFrom
 read-from [] l =
-    ap₂ (λ (k : ℕ) (m : List ℕ). record { fits = true; count = min k 9; next = padded 8 m }) (sym (add-zero (length l))) (sym (append-nil l))
+    ap₂ (λ (k : ℕ) (m : List ℕ). record { fits = true; count = min k pastElements; next = padded elementPlaces m }) (sym (add-zero (length l))) (sym (append-nil l))
 read-from (text ∷ texts) l = read-step (numberOf text) texts l (read-from texts)
 
 -- at the start none was read
-pub read-start : (texts : List (List ℕ)) → sequencesOf texts ≡ sequencesFrom 0 (replicate 8 0) texts
+pub read-start : (texts : List (List ℕ)) → sequencesOf texts ≡ sequencesFrom 0 (replicate elementPlaces 0) texts
 unfolding sequencesOf
 read-start texts =
     sym
     (read-from texts []
     ∙ ap
     (λ (k : ℕ).
-    if areNumbers texts then record { fits = true; count = min k 9; next = padded 8 (map (λ text. valueOf (numberOf text)) texts) } else
+    if areNumbers texts then record { fits = true; count = min k pastElements; next = padded elementPlaces (map (λ text. valueOf (numberOf text)) texts) } else
     noSequences)
     (zero-add (length texts)))
 
@@ -128,7 +129,7 @@ module _
 
   pub read-on :
       (n : ℕ) → a ≡ Value n
-      → sequencesFrom count next (drop 1 (fields (drop at line))) ≡ sequencesFrom (counted 8 count) (set next count n) (drop 1 (fields (drop end line)))
+      → sequencesFrom count next (drop 1 (fields (drop at line))) ≡ sequencesFrom (counted elementPlaces count) (set next count n) (drop 1 (fields (drop end line)))
   unfolding sequencesFrom
   read-on n k = rw (left, ← r, k)
 

@@ -4,7 +4,7 @@
 --   giving s item line   whether the line's fields fit, and the setup with what it gives
 use mathlib.Core.Bool.{Bool, true, false, _&&_}
 use mathlib.Core.List.{List, [], _∷_, map}
-use Prim.Native.Nat.{ℕ, min}
+use Prim.Native.Nat.{ℕ, _+_, min}
 use lib.ListN.{length, drop, replicate}
 use Rattle.common.specs.Choice.{if_then_else_}
 use Rattle.common.specs.Lent.{Lent}
@@ -51,11 +51,15 @@ areNumbers (text ∷ texts) = isNumber (numberOf text) && areNumbers texts
 abbrev pub noSequences : Sequences
 noSequences = record { fits = false; count = 0; next = replicate elementPlaces 0 }
 
--- each element's next SEQ: how many there are, counted up to nine, and the first eight with zeros behind them
+-- one more than there can be elements: so many are too many
+abbrev pub pastElements : ℕ
+pastElements = elementPlaces + 1
+
+-- each element's next SEQ: how many there are, counted as far as that, and as many as there can be elements, with zeros behind them
 unfoldable pub sequencesOf : List (List ℕ) → Sequences
 sequencesOf texts =
     if areNumbers texts then
-    record { fits = true; count = min (length texts) 9; next = padded elementPlaces (map (λ text. valueOf (numberOf text)) texts) } else
+    record { fits = true; count = min (length texts) pastElements; next = padded elementPlaces (map (λ text. valueOf (numberOf text)) texts) } else
     noSequences
 
 -- every field fits

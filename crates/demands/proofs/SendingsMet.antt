@@ -20,7 +20,7 @@ use Rattle.transport.proofs.SecureOpen.{secured-length}
 use Rattle.memory.specs.declared.outgoing.Outgoing.{Outgoing}
 use Rattle.node.specs.declared.addresses.Node.{Node}
 use Rattle.node.specs.declared.setup.Setup.{Setup}
-use Rattle.node.specs.Addresses.{isLocal, forNode}
+use Rattle.node.specs.Addresses.{elementPlaces, isLocal, forNode}
 use Rattle.node.specs.Setup.{boundWithin, keysValid, nextWithin, elementsValid, groupsValid, indexValid, valid, networkKeyAt, materialAt, boundKeyAt, nextAt, nodeOf, nextOf, making}
 use Rattle.node.proofs.IndexLaws.{same-node}
 use Rattle.receiver.specs.declared.fresh.Answer.the-variants.{Ready}
@@ -183,11 +183,11 @@ record Numbers : Type 0 where
   none-sent : nextSeq (start bench) 0 ≡ 0
   none-updating : nextSeq (start updating) 0 ≡ 0
   none-shed : nextSeq (start shed) 0 ≡ 0
-  eight-places : length (start bench .next) ≡ 8
+  all-places : length (start bench .next) ≡ elementPlaces
 
 numbers : Numbers
 unfolding settingUp making valid keysValid boundWithin elementsValid nextWithin groupsValid indexValid first kindOf nextOf nextAt
-numbers = record { none-sent = refl; none-updating = refl; none-shed = refl; eight-places = refl }
+numbers = record { none-sent = refl; none-updating = refl; none-shed = refl; all-places = refl }
 
 -- with the flag set
 before-index : sendingIv (start updating .node) ≡ 0x12345677
@@ -355,7 +355,7 @@ used-allowed = same-allowed inUse true 20 used-node (ap (λ (r : Receiver). r .o
 number-used : nextSeq inUse 0 ≡ 1
 number-used =
     let n = heard-number in
-    let places = ap length (heard-fixed .next-stays) ∙ numbers .eight-places in
+    let places = ap length (heard-fixed .next-stays) ∙ numbers .all-places in
     ap (λ (r : Receiver). nextSeq r 0) used-is ∙ used-own heard 0 (omega arith) ∙ omega arith
 
 pub sendings-met : SendingsMet
