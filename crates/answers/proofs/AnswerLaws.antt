@@ -31,7 +31,8 @@ use Rattle.text.specs.Refusal.{refusalText, refusedText}
 use Rattle.text.specs.Written.{putting}
 use Rattle.text.proofs.WrittenLaws.{put-then}
 use Rattle.answers.specs.declared.answer.Trials.{Trials}
-use Rattle.answers.specs.Answer.{named, trialsText, segmentsText, keyText, messageText, effectText, accessText, controlText, acknowledgementText, heardText, forwardText, spokenText, givenUpText, setUpText, notedText}
+use Rattle.answers.specs.Answer.{named, trialsText, segmentsText, keyText, messageText, effectText, accessText, controlText}
+use Rattle.answers.specs.Answer.{acknowledgementText, heardText, forwardText, spokenText, givenUpText, setUpText, notedText}
 
 module _ (out : List ℕ) (at r : ℕ) (o : List ℕ) where
   -- ---- the key of an access message

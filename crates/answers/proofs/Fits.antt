@@ -36,7 +36,8 @@ use Rattle.text.specs.Octets.{octets}
 use Rattle.text.specs.Hex.{hexText}
 use Rattle.text.specs.Refusal.{refusalText, refusedText}
 use Rattle.answers.specs.declared.answer.Trials.{Trials}
-use Rattle.answers.specs.Answer.{named, trialsText, pairText, segmentsText, routeText, keyText, messageText, effectText, accessText, controlText, acknowledgementText, heardText, forwardText, spokenText, givenUpText, setUpText, notedText}
+use Rattle.answers.specs.Answer.{named, trialsText, pairText, segmentsText, routeText, keyText, messageText, effectText, accessText}
+use Rattle.answers.specs.Answer.{controlText, acknowledgementText, heardText, forwardText, spokenText, givenUpText, setUpText, notedText}
 use Rattle.answers.specs.Looking.{nextText, seenText, oldestFirst, cacheText, lastText, entryText, sessionText, heardSoFar, sendingText, receiverText}
 use Rattle.answers.specs.Fits.{FitsWhole, HeardFits, SpokenFits, GivenUpFits, SetUpFits, NotedFits, ReceiverFits}
 use Rattle.answers.proofs.TextLengths.{AtMost, both, wider, none, placed-most, label-most, number-most, decimal-most, named-most, hex-most}

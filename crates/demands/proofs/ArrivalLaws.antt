@@ -48,7 +48,8 @@ use Rattle.receiver.proofs.Laws.Fixed.{fixed-heard}
 use Rattle.receiver.proofs.Laws.Heard.{heard-closed, heard-again, Leaves, heard-new}
 use Rattle.demands.specs.Call.{Call, Hear, GiveUp, SendAccess, SendControl, SendSegment, Acknowledge, Stop, Heard, Outcome, messageFor, leftHeard, step}
 use Rattle.demands.specs.Interleaved as scene
-use Rattle.demands.specs.Interleaved.{Event, Segment, Foreign, Ask, Own, speechAt, callAs, comeWith, isLastMissing, Spent, isOwn, Comes, isStored, handed, SegmentAnswered, ForeignAnswered, AnsweredAs}
+use Rattle.demands.specs.Interleaved.{Event, Segment, Foreign, Ask, Own, speechAt, callAs, comeWith, isLastMissing}
+use Rattle.demands.specs.Interleaved.{Spent, isOwn, Comes, isStored, handed, SegmentAnswered, ForeignAnswered, AnsweredAs}
 use Rattle.demands.specs.Refusal.{noKeyOpens}
 use Rattle.demands.specs.Speech.{Speech, lastOf, headerOf, segmentPdu, Speakable, Handed, handUp, networkPlace, applicationPlace}
 use Rattle.demands.proofs.AnsweredLaws.{had-come, same-answered, answered-hands, answered-stores}

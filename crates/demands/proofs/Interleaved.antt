@@ -33,7 +33,8 @@ use Rattle.node.specs.Made.{WellMade}
 use Rattle.receiver.specs.declared.state.Receiver.{Receiver}
 use Rattle.receiver.proofs.Good.{good-fresh}
 use Rattle.demands.specs.Call.{step, run, after}
-use Rattle.demands.specs.Interleaved.{Event, Segment, Foreign, Ask, Own, Arrival, start, nodeOf, speechAt, callAs, callOf, calls, comeWith, comeFrom, come, ComeNames, Spent, Arrives, Each, Scene, AllCome, dueAs, behind, HandedUp, AnsweredAs, Answered, Acknowledges, messages, turns, EndsAlike}
+use Rattle.demands.specs.Interleaved.{Event, Segment, Foreign, Ask, Own, Arrival, start, nodeOf, speechAt, callAs, callOf, calls, comeWith, comeFrom, come}
+use Rattle.demands.specs.Interleaved.{ComeNames, Spent, Arrives, Each, Scene, AllCome, dueAs, behind, HandedUp, AnsweredAs, Answered, Acknowledges, messages, turns, EndsAlike}
 use Rattle.demands.specs.Speech.{Speech, lastOf, Speakable, Handed, handUp}
 use Rattle.demands.proofs.AskLaws.{asked-names, asked-sent, asked-refuses}
 use Rattle.demands.proofs.ArrivalLaws.{Next, event-next, dueOf, hands}

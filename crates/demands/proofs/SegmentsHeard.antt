@@ -22,7 +22,8 @@ use Rattle.receiver.proofs.Good.{good-fresh}
 use Rattle.demands.specs.Call.{Hear, Outcome, step}
 use Rattle.demands.specs.Interleaved as scene
 use Rattle.demands.specs.Interleaved.{Event, Segment, Foreign, Spent, start, nodeOf, speechAt, comeWith, Comes, Each}
-use Rattle.demands.specs.ReadBack.{goesWhole, Piece, Incoming, Made, Relayed, Unopened, Hearing, pieceAt, relayedWith, pduHeard, hearCall, cameWith, OwnKeyFirst, ComesAs, Hears, Reads, ReadsAs, ReadsEach}
+use Rattle.demands.specs.ReadBack.{goesWhole, Piece, Incoming, Made, Relayed, Unopened, Hearing, pieceAt, relayedWith}
+use Rattle.demands.specs.ReadBack.{pduHeard, hearCall, cameWith, OwnKeyFirst, ComesAs, Hears, Reads, ReadsAs, ReadsEach}
 use Rattle.demands.specs.Speech.{Speech, lastOf, headerOf, segmentPdu, Speakable}
 use Rattle.demands.proofs.ArrivalLaws as arrival
 use Rattle.demands.proofs.ArrivalLaws.{Next, event-next}

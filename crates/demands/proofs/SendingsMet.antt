@@ -39,9 +39,11 @@ use Rattle.sending.proofs.Laws.Allowed.{access-alone}
 use Rattle.sending.proofs.Laws.Transmitted.{used, used-own}
 use Rattle.demands.specs.Call.{Hear, step}
 use Rattle.demands.specs.GoesOut.{outcomes, accepted, pduCount, restOf}
-use Rattle.demands.specs.Instance.{shed, bench, toShed, report, lentPdu, hearing, Told, overheard, short, heardTwice, command, heardBackwards, updating, toBox, greeting, greeted, inUse, SendingsMet}
+use Rattle.demands.specs.Instance.{shed, bench, toShed, report, lentPdu, hearing, Told, overheard, short}
+use Rattle.demands.specs.Instance.{heardTwice, command, heardBackwards, updating, toBox, greeting, greeted, inUse, SendingsMet}
 use Rattle.demands.specs.Interleaved.{start, isLastMissing, Each, handed}
-use Rattle.demands.specs.ReadBack.{sayCall, goesWhole, saidBy, Piece, madeOf, segNAs, Incoming, Made, Relayed, Unopened, pieceAt, isPiece, brings, Shared, OwnMessageFirst, Between, OneOf, ComesAs, Hears, Telling}
+use Rattle.demands.specs.ReadBack.{sayCall, goesWhole, saidBy, Piece, madeOf, segNAs, Incoming, Made, Relayed, Unopened}
+use Rattle.demands.specs.ReadBack.{pieceAt, isPiece, brings, Shared, OwnMessageFirst, Between, OneOf, ComesAs, Hears, Telling}
 use Rattle.demands.specs.Refusal.{noKeyOpens}
 use Rattle.demands.specs.Speech.{Words, Speech, keyOf, envelopeOf, octetsOf, lastOf, handUp}
 use Rattle.demands.proofs.Begun.{last-most}

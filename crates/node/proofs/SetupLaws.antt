@@ -16,7 +16,8 @@ use Rattle.network.specs.Candidates.{networkKeyPlaces}
 use Rattle.transport.specs.Securing.{applicationKeyPlaces}
 use Rattle.node.specs.declared.setup.BoundKey.{BoundKey}
 use Rattle.node.specs.declared.setup.Setup.{Setup}
-use Rattle.node.specs.Setup.{every, boundWithin, keysValid, nextWithin, elementsValid, isGroup, groupsValid, indexValid, valid, networkKeyAt, materialAt, boundKeyAt, nextAt, groupAt, nodeOf, nextOf, making}
+use Rattle.node.specs.Setup.{every, boundWithin, keysValid, nextWithin, elementsValid, isGroup, groupsValid, indexValid, valid}
+use Rattle.node.specs.Setup.{networkKeyAt, materialAt, boundKeyAt, nextAt, groupAt, nodeOf, nextOf, making}
 use Rattle.node.specs.Made.{WellMade, NextWell, MakesWell, LocalIsUnicast}
 use Rattle.node.proofs.AddressesLaws.{local-bounds}
 use Rattle.node.proofs.EveryLaws.{every-each}
