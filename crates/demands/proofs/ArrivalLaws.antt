@@ -54,7 +54,7 @@ use Rattle.demands.specs.Refusal.{noKeyOpens}
 use Rattle.demands.specs.Speech.{Speech, lastOf, headerOf, segmentPdu, Speakable, Handed, handUp, networkPlace, applicationPlace}
 use Rattle.demands.proofs.AnsweredLaws.{had-come, same-answered, answered-hands, answered-stores}
 use Rattle.demands.proofs.Invariant.{good-step}
-use Rattle.demands.proofs.KeptLaws.{kept-acknowledging, kept-own, kept-scene, refilled}
+use Rattle.demands.proofs.KeptLaws.{kept-said, kept-own, kept-scene, refilled}
 use Rattle.demands.proofs.Refusal.{unopened, unopened-leaves}
 use Rattle.demands.proofs.SceneLaws.{speakerOf, speakerKey, Scenery, same-scene, entry-room, session-room}
 use Rattle.demands.proofs.SpeechCut.{last-low}
@@ -251,7 +251,7 @@ module _ (node : Node) (speeches : List Speech) (spent : Spent) where
     event-next (Ask net src) c =
         record {
           answers = refl;
-          scenery = kept-scene node speeches spent r _ filled (kept-acknowledging r net src fwd) (good-step r (Acknowledge net src fwd) (sc .good)) sc;
+          scenery = kept-scene node speeches spent r _ filled (kept-said r (Acknowledge net src fwd) refl) (good-step r (Acknowledge net src fwd) (sc .good)) sc;
         }
     event-next (Own c) own =
         record {

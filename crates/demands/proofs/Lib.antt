@@ -3,6 +3,7 @@ pub mod Examples
 pub mod Ends
 pub mod Answers
 pub mod Refusal
+pub mod Left
 pub mod Invariant
 pub mod NeverTwice
 pub mod SpeechCut

@@ -113,7 +113,7 @@ element-low : (r : Receiver) (q : Request) → Asked (r .node) q → q .element 
 element-low r q a = omega arith
 
 given-next : (r : Receiver) (src : ℕ) → givingUp r src .receiver .next ≡ r .next
-given-next r src = by-giving-up (λ (g : GivenUp). g .receiver .next ≡ r .next) r src refl (λ _. refl)
+given-next r src = by-giving-up (λ (g : GivenUp). g .receiver .next ≡ r .next) r src refl (λ _ _. refl)
 
 stopped-next : (r : Receiver) → stopping r .receiver .next ≡ r .next
 stopped-next r = by-stopping (λ (g : GivenUp). g .receiver .next ≡ r .next) r refl refl
@@ -149,7 +149,7 @@ speaks r (SendSegment n buf) =
 speaks r (Acknowledge net src buf) =
     let e = elementOf (r .node) (chosen (r .replay) (r .sessions) src .dst) in
     let iv = sendingIv (r .node) in
-    walk-acknowledge r buf (Speaking r e iv buf) (refused r e iv buf) net src (λ low. said r e iv buf low _ (acknowledged-under r e iv net src _))
+    walk-acknowledge r buf (Speaking r e iv buf) (refused r e iv buf) net src (λ _ low. said r e iv buf low _ (acknowledged-under r e iv net src _))
 speaks r Stop = silent r 0 0 [] _ refl (stopped-next r)
 
 -- no next SEQ falls

@@ -8,35 +8,33 @@ use Prim.Native.Nat.{ℕ, _≤_, _<_}
 use native.Mathlib.Omega.{arith}
 use borrow.Author.Tests.{ne-eqb}
 use lib.ListN.{length-replicate, getD-replicate}
-use Rattle.common.specs.Paper.{numberOf}
-use Rattle.common.proofs.Tests.{by-test}
 use Rattle.network.specs.declared.header.Header.{Header}
 use Rattle.network.specs.declared.opening.Answer.{Answer}
+use Rattle.network.proofs.AddressLaws.{unicast-some}
 use Rattle.memory.specs.declared.session.Segment.{Segment}
 use Rattle.memory.specs.declared.session.Session.{Session}
 use Rattle.memory.specs.declared.session.SessionKey.{SessionKey}
 use Rattle.memory.specs.Cache.{cacheEntries, noSeen}
 use Rattle.memory.specs.Session.{sessionSlots, noSession, noSessions, sessionAt, sessionKey, segmentKey, noKey, isFree, begun, stored, complete}
 use Rattle.memory.proofs.ReplayMap.{kept-none}
-use Rattle.memory.proofs.SessionSlots.{session-key}
 use Rattle.memory.proofs.Within.{same-last, Opens}
 use Rattle.node.specs.declared.addresses.Node.{Node}
 use Rattle.node.specs.Made.{WellMade, NextWell}
 use Rattle.node.specs.Setup.{making}
 use Rattle.node.proofs.SetupLaws.{makes-well}
-use Rattle.receiver.specs.declared.fresh.Answer as fresh-answer
 use Rattle.receiver.specs.declared.give_up.GivenUp.{GivenUp}
 use Rattle.receiver.specs.declared.state.Receiver.{Receiver}
-use Rattle.receiver.specs.Fresh.{paper, fresh, settingUp}
+use Rattle.receiver.specs.Fresh.{fresh}
 use Rattle.receiver.specs.Good.{Gathering, Good, GoodFresh, GoodHear, GoodGiveUp}
 use Rattle.receiver.specs.Segmented.{accessUpAs, controlUp}
 use Rattle.receiver.specs.State.{withSession}
 use Rattle.receiver.specs.Whole.{admitted, openedAs, wholeControlUp, acted}
 use Rattle.receiver.proofs.Gathered.{gathering-begun, gathering-stored}
 use Rattle.receiver.proofs.GoodState.{Left, good-caching, good-outgoing, good-admitted, good-upgraded, good-freed, good-opened}
+use Rattle.receiver.proofs.Laws.Fresh.{ready-made, fresh-is}
 use Rattle.receiver.proofs.Laws.GiveUp.{by-giving-up}
 use Rattle.receiver.proofs.Laws.Heard.{openingOf, caching}
-use Rattle.receiver.proofs.Laws.Ways.{Goes, goes-opens, Ways, walk-left}
+use Rattle.receiver.proofs.Laws.Ways.{Goes, goes-opens, goes-key, Ways, walk-left}
 use Rattle.receiver.proofs.Opened.{Clear, ClearIn, opening-clear}
 
 -- ---- setup
@@ -58,12 +56,7 @@ good-fresh-of node next w n =
     }
 
 pub good-fresh : GoodFresh
-unfolding settingUp
-good-fresh s e =
-    let m = making s in
-    by-test (m .ok)
-    (λ t. let w = makes-well s t in good-fresh-of (m .node) (m .next) (w .0) (w .1))
-    (λ t. let f : _≡_ {A = ℕ} 14 0 = ap (λ (a : fresh-answer.Answer). numberOf (paper a)) (rw t at e) in absurd (omega arith))
+good-fresh s e = let w = makes-well s (ready-made s e) in rw (fresh-is s) (good-fresh-of (making s .node) (making s .next) (w .0) (w .1))
 
 -- ---- hearing
 module _ (q : Receiver) (g : Good q) (h : Header) (c : Clear h) where
@@ -78,17 +71,14 @@ module _ (q : Receiver) (g : Good q) (h : Header) (c : Clear h) where
   unfolding begun
   sits seg slot s k =
       let o = k .segO-most in
-      let sent = ne-eqb (h .src) 0 (c .sent) in
+      let key = goes-key (g .sessions-kept .places) k in
+      let used : isFree s ≡ false = ap noKey key ∙ ne-eqb (h .src) 0 (unicast-some (h .src) (c .unicast)) in
       ⊎-elim
       (λ j.
-      let i = j .0 .within in
-      let l = g .sessions-kept .places in
-      let key = segmentKey (h .src) seg in
-      let e : sessionKey (sessionAt (q .sessions) slot) ≡ key = rw (j .0 .own) (session-key (q .sessions) key (omega (arith, j .0 .own))) in
-      let used : isFree (sessionAt (q .sessions) slot) ≡ false = ap noKey e ∙ sent in
       let n = same-last (sessionAt (q .sessions) slot .terms) (seg .terms) (j .0 .same) in
-      subst (Sits seg) (sym (j .1)) (record { gathers = g .sessions-kept .each slot i .gathers used; key-is = e; used = used; within = omega arith }))
-      (λ j. subst (Sits seg) (sym (j .1)) (record { gathers = gathering-begun (h .src) seg (k .segN-fits); key-is = refl; used = sent; within = o }))
+      let kept = g .sessions-kept .each slot (j .0 .within) .gathers (rw (← j .1) used) in
+      record { gathers = rw (j .1) kept; key-is = key; used = used; within = rw (j .1) (omega arith) })
+      (λ j. record { gathers = rw (j .1) (gathering-begun (h .src) seg (k .segN-fits)); key-is = key; used = used; within = rw (j .1) o })
       (k .stands)
 
   good-stored :
@@ -110,8 +100,8 @@ module _ (q : Receiver) (g : Good q) (h : Header) (c : Clear h) where
         acknowledges = λ obo seqZero bits. good-outgoing (admitted q h) (good-admitted q g h) _;
         repeats = λ auth bits. g;
         stores = good-stored;
-        access-gathered = λ slot s key trials len left. good-upgraded (withSession q slot noSession) (good-freed q g slot) s;
-        control-gathered = λ slot s. good-upgraded (withSession q slot noSession) (good-freed q g slot) s;
+        access-gathered = λ seg slot before k key trials len left. good-upgraded (withSession q slot noSession) (good-freed q g slot) _;
+        control-gathered = λ seg slot before k. good-upgraded (withSession q slot noSession) (good-freed q g slot) _;
         frees = λ seg slot before k f trials. good-freed q g slot;
       }
 
@@ -125,4 +115,4 @@ good-hear r pdu fwd msg g =
 
 -- ---- giving up
 pub good-give-up : GoodGiveUp
-good-give-up r src g = by-giving-up (λ (t : GivenUp). Good (t .receiver)) r src g (λ slot. good-freed r g slot)
+good-give-up r src g = by-giving-up (λ (t : GivenUp). Good (t .receiver)) r src g (λ slot _. good-freed r g slot)

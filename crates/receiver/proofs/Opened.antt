@@ -1,6 +1,6 @@
--- A header that was opened has 16 places of transport, since every header has, and a source that is not 0, since refusal 4 lets none pass.
+-- A header that was opened has 16 places of transport, since every header has, and a unicast source, since refusal 4 lets no other pass.
 -- Assumes nothing.
-use mathlib.Core.Bool.{_&&_}
+use mathlib.Core.Bool.{true, _&&_}
 use mathlib.Core.List.{List}
 use mathlib.Core.Path.{_≡_}
 use Prim.Native.Nat.{ℕ, _/_, _%_}
@@ -18,19 +18,19 @@ use Rattle.network.specs.declared.opening.Answer.the-variants.{Opened, WrongLen
 use Rattle.network.specs.declared.opening.Opening.{Opening}
 use Rattle.network.specs.declared.trial.Found.{Found}
 use Rattle.network.specs.declared.trial.Trial.{Trial}
-use Rattle.network.specs.Address.{addressesAllowed}
+use Rattle.network.specs.Address.{isUnicast, addressesAllowed}
 use Rattle.network.specs.Candidates.{keyAt, candidates, opens, foundBy, searched}
 use Rattle.network.specs.Header.{noHeader}
 use Rattle.network.specs.IvIndex.{ivIndexHeard}
 use Rattle.network.specs.Opening.{judged, under, opening}
 use Rattle.network.specs.Pdu.{pduOctets, frontOf}
 use Rattle.network.specs.Trial.{ctlOf, headerOf, bodyTried, tried}
-use Rattle.network.proofs.AddressLaws.{unicast-some, allowed-source}
+use Rattle.network.proofs.AddressLaws.{allowed-source}
 
 -- what is sure of an opened header
 pub record Clear (h : Header) : Type 0 where
   pub places : length (h .transport) ≡ 16
-  pub sent : h .src ≡ 0 → ⊥
+  pub unicast : isUnicast (h .src) ≡ true
 
 -- a header is opened, or a refusal says why not
 abbrev pub ClearIn : Answer → Header → Type 0
@@ -69,14 +69,14 @@ searched-places keys count nid iv pdu =
     tries-each (opens keys iv pdu) 0 (λ t. Places (foundBy keys iv pdu t .header)) cs
     (λ k _. let i = getD cs k 0 in tried-places (keyAt keys i) i iv pdu) (λ _. no-places)
 
--- ---- refusal 4 lets no source 0 pass
+-- ---- refusal 4 lets no other source pass
 judged-clear : (s : Found) → Places (s .header) → ClearOf (judged s)
 unfolding judged
 judged-clear s l =
     let h = s .header in
     by-choice ClearOf (s .ok)
     (λ t. by-choice ClearOf (addressesAllowed (h .ctl) (h .src) (h .dst))
-    (λ u. record { places = l; sent = unicast-some (h .src) (allowed-source (h .ctl) (h .src) (h .dst) u) })
+    (λ u. record { places = l; unicast = allowed-source (h .ctl) (h .src) (h .dst) u })
     (λ u. tt {0}))
     (λ t. tt {0})
 

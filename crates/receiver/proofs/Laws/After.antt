@@ -53,8 +53,8 @@ module _ (q : Receiver) (h : Header) (msg : List ℕ) (room : messageOctets ≤ 
         acknowledges = λ obo seqZero bits. tt {0};
         repeats = λ auth bits. tt {0};
         stores = λ seg slot before g e. tt {0};
-        access-gathered = λ slot s key trials len left. tt {0};
-        control-gathered = λ slot s. tt {0};
+        access-gathered = λ seg slot before g key trials len left. tt {0};
+        control-gathered = λ seg slot before g. tt {0};
         frees = λ seg slot before g f trials. (rw f (ap (λ (i : ℕ). withSession q i noSession) (opens-slot (goes-opens g))), refl, refl);
       }
 

@@ -42,8 +42,8 @@ module _ (r : Receiver) where
         acknowledges = λ obo seqZero bits. written;
         repeats = λ auth bits. written;
         stores = λ seg slot before g e. written;
-        access-gathered = λ slot s key trials len left. written;
-        control-gathered = λ slot s. written;
+        access-gathered = λ seg slot before g key trials len left. written;
+        control-gathered = λ seg slot before g. written;
         frees = λ seg slot before g f trials. written;
       }
 

@@ -27,8 +27,8 @@ module _ (P : Outgoing → Type 0) (r : Receiver) (none : P noOutgoing) (same : 
         acknowledges = λ obo seqZero bits. by-acknowledging P (r .out) h obo seqZero bits none same marked;
         repeats = λ auth bits. same;
         stores = λ seg slot before g e. same;
-        access-gathered = λ slot s key trials len left. same;
-        control-gathered = λ slot s. same;
+        access-gathered = λ seg slot before g key trials len left. same;
+        control-gathered = λ seg slot before g. same;
         frees = λ seg slot before g f trials. same;
       }
 

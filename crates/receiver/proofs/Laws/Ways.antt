@@ -3,6 +3,7 @@
 -- `taken`, with what was tested on the way. That 13 leaves the buffer is transport's law about securing, and 16 cannot come back from there since the buffer's length was
 -- tested first. Assumes nothing.
 --   Goes          the session that a segment goes to
+--   goes-..       its slot, and its key
 --   freesSlot     whether a refusal frees the slot of a completed session
 --   Ways          what holds on each way of a PDU that passes the cache
 --   walk-taken    so it holds of what such a PDU leaves
@@ -10,7 +11,7 @@
 use mathlib.Core.Bool.{Bool, true, false, _&&_}
 use mathlib.Core.List.{List}
 use mathlib.Core.Logic.{_⊎_, inl, inr, ⊎-elim}
-use mathlib.Core.Path.{_≡_, refl, sym, ap, subst}
+use mathlib.Core.Path.{_≡_, refl, sym, ap, _∙_, subst}
 use Prim.Native.Nat.{ℕ, _≤_, _<_}
 use native.Mathlib.Omega.{arith}
 use lib.Dec.{eqb}
@@ -45,7 +46,8 @@ use Rattle.memory.specs.declared.pair.Pair.{Pair}
 use Rattle.memory.specs.declared.session.Segment.{Segment}
 use Rattle.memory.specs.declared.session.Session.{Session}
 use Rattle.memory.specs.Decision.{decision}
-use Rattle.memory.specs.Session.{noSession, sessionAt, segmentKey, begun, stored, complete, blockAck}
+use Rattle.memory.specs.Session.{sessionSlots, noSession, sessionAt, sessionKey, segmentKey, begun, stored, complete, blockAck}
+use Rattle.memory.proofs.SessionSlots.{session-key}
 use Rattle.memory.proofs.Within.{Joins, Opens, joins-opens, Within, decision-within}
 use Rattle.node.specs.Addresses.{forNode}
 use Rattle.receiver.specs.declared.answer.Answer.the-variants.{Stored, Repeated}
@@ -72,6 +74,17 @@ pub record Goes (q : Receiver) (h : Header) (seg : Segment) (slot : ℕ) (s : Se
 pub goes-opens : {q : Receiver} {h : Header} {seg : Segment} {slot : ℕ} {s : Session} → Goes q h seg slot s → Opens (q .sessions) (segmentKey (h .src) seg) slot
 goes-opens g = ⊎-elim (λ j. joins-opens (j .0)) (λ j. j .0) (g .stands)
 
+-- it is found by the segment's key
+pub goes-key :
+    {q : Receiver} {h : Header} {seg : Segment} {slot : ℕ} {s : Session} → length (q .sessions) ≡ sessionSlots → Goes q h seg slot s → sessionKey s ≡ segmentKey (h .src) seg
+unfolding begun
+goes-key {q} {h} {seg} long g =
+    ⊎-elim
+    (λ j.
+    let i = j .0 .within in
+    ap sessionKey (j .1) ∙ rw (j .0 .own) (session-key (q .sessions) (segmentKey (h .src) seg) (omega (arith, j .0 .own))))
+    (λ j. ap sessionKey (j .1)) (g .stands)
+
 -- 13 of a segment, whose session is complete by then
 abbrev pub freesSlot : Header → Refusal → Bool
 freesSlot h n = eqb (refusalNumber n) 13 && isSegment (formOf h)
@@ -90,11 +103,13 @@ pub record Ways (q : Receiver) (h : Header) (msg : List ℕ) (P : Lent Taken →
       (seg : Segment) (slot : ℕ) (before : Session) → Goes q h seg slot before
       → (let s = stored before h (seg .sego) in
       complete s ≡ false → P (lent (record { answer = Stored (s .src) (s .auth) (blockAck s); trials = 0; receiver = withSession q slot s }) msg))
-  -- a session s is complete, and its slot is freed
+  -- the session is complete, and its slot is freed
   pub access-gathered :
-      (slot : ℕ) (s : Session) (key : MessageKey) (trials len : ℕ) (left : List ℕ)
-      → P (lent (accessUpAs (withSession q slot noSession) s (Message key trials len)) left)
-  pub control-gathered : (slot : ℕ) (s : Session) → P (controlUp (withSession q slot noSession) s msg)
+      (seg : Segment) (slot : ℕ) (before : Session) → Goes q h seg slot before → (key : MessageKey) (trials len : ℕ) (left : List ℕ)
+      → P (lent (accessUpAs (withSession q slot noSession) (stored before h (seg .sego)) (Message key trials len)) left)
+  pub control-gathered :
+      (seg : Segment) (slot : ℕ) (before : Session) → Goes q h seg slot before
+      → P (controlUp (withSession q slot noSession) (stored before h (seg .sego)) msg)
   -- 13 of its message
   pub frees :
       (seg : Segment) (slot : ℕ) (before : Session) → Goes q h seg slot before → freesSlot h refusal.NotOpened ≡ true
@@ -152,8 +167,8 @@ module _ (q : Receiver) (h : Header) (msg : List ℕ) (room : messageOctets ≤ 
         let s = stored before h (seg .sego) in
         let free = withSession q slot noSession in
         by-choice P (complete s) {x = if s .terms .ctl then controlUp free s msg else accessUp free s msg}
-        (λ _. by-choice P (s .terms .ctl) {x = controlUp free s msg} {y = accessUp free s msg} (λ _. w .control-gathered slot s)
-        (λ _. by-unsecuring (accessUpAs free s) (w .access-gathered slot s) (w .frees seg slot before g many) (sessionEnvelope s) (messageOf s)))
+        (λ _. by-choice P (s .terms .ctl) {x = controlUp free s msg} {y = accessUp free s msg} (λ _. w .control-gathered seg slot before g)
+        (λ _. by-unsecuring (accessUpAs free s) (w .access-gathered seg slot before g) (w .frees seg slot before g many) (sessionEnvelope s) (messageOf s)))
         (w .stores seg slot before g)
 
   module _ (many : isSegment (formOf h) ≡ true) (seg : Segment) (n : seg .terms .segn < 32) (o : seg .sego ≤ seg .terms .segn) where

@@ -106,7 +106,7 @@ module _ (r : Receiver) (buf : List ℕ) (P : Lent Spoken → Type 0) (refused :
       (net src : ℕ)
       → (let c = chosen (r .replay) (r .sessions) src in
       let element = elementOf (r .node) (c .dst) in
-      (element < elementPlaces → P (saying r element (acknowledgementHeader (sendingIv (r .node)) net src c) buf)) → P (acknowledging r net src buf))
+      (isUnicast (c .dst) ≡ true → element < elementPlaces → P (saying r element (acknowledgementHeader (sendingIv (r .node)) net src c) buf)) → P (acknowledging r net src buf))
   unfolding acknowledging sayingAcknowledgement
   walk-acknowledge net src said =
       let c = chosen (r .replay) (r .sessions) src in
@@ -117,7 +117,7 @@ module _ (r : Receiver) (buf : List ℕ) (P : Lent Spoken → Type 0) (refused :
       (λ _. refused refusal.ShortBuffer refl)
       (λ _. by-choice P (ltb net (min (r .node .networks) networkKeyPlaces)) {x = if isUnicast (c .dst) then (if ltb element elementPlaces then sent else outside) else outside} {y = outside}
       (λ _. by-choice P (isUnicast (c .dst)) {x = if ltb element elementPlaces then sent else outside} {y = outside}
-      (λ _. by-choice P (ltb element elementPlaces) {x = sent} {y = outside} (λ t. said (ltb-true element elementPlaces t)) (λ _. refused refusal.OutsideRules refl))
+      (λ u. by-choice P (ltb element elementPlaces) {x = sent} {y = outside} (λ t. said u (ltb-true element elementPlaces t)) (λ _. refused refusal.OutsideRules refl))
       (λ _. refused refusal.OutsideRules refl))
       (λ _. refused refusal.OutsideRules refl))
 
