@@ -39,7 +39,8 @@ uint32_t gorephan_credentials(const uint8_t *key, size_t key_len, uint8_t *out, 
  *   pdu            any octets
  *   out            29 octets or more
  * Refusals, in this order: 16 out is shorter than 29; 1 length not 14 to 29; 2 no credential with that NID, or no IV Index of 0 or more fits IVI;
- * 3 none of them authenticates the PDU; 4 an address is not allowed. */
+ * 3 none of them authenticates the PDU; 4 an address is not allowed: src is not unicast, dst is 0, or virtual where CTL is 1. A dst that is a
+ * reserved group, 0xFF00 to 0xFFFB, is allowed, for a relay must open and seal such a PDU. */
 uint32_t gorephan_open(const uint8_t *credentials, size_t credentials_len, uint32_t iv_index, const uint8_t *pdu, size_t pdu_len, uint8_t *out,
                        size_t out_len);
 
@@ -49,7 +50,7 @@ uint32_t gorephan_open(const uint8_t *credentials, size_t credentials_len, uint3
  *   ttl            0 to 127
  *   seq            at most 0xFFFFFF
  *   src            a unicast address, 0x0001 to 0x7FFF
- *   dst            not 0; not virtual (0x8000 to 0xBFFF) where ctl is 1
+ *   dst            not 0; not virtual (0x8000 to 0xBFFF) where ctl is 1; a reserved group (0xFF00 to 0xFFFB) is allowed
  *   transport      1 to 16 octets, 1 to 12 where ctl is 1
  *   out            29 octets or more
  * Refusals, in this order: 16 out is shorter than 29; 14 anything else outside these ranges. */

@@ -1,5 +1,5 @@
-/* Tests the archive from C: MP's Network PDUs both ways, edge lengths and TTLs, every refusal with the buffer untouched, and random PDUs, whole and
- * damaged. Prints what it counted; exits 1 at the first thing that is not as it should be. */
+/* Tests the archive from C: MP's Network PDUs and some to reserved groups both ways, edge lengths and TTLs, every refusal with the buffer untouched,
+ * and random PDUs, whole and damaged. Prints what it counted; exits 1 at the first thing that is not as it should be. */
 #include "gorephan.h"
 #include "pdus.h" /* made by tests/c/make_pdus.py */
 #include <stdio.h>
@@ -105,24 +105,35 @@ static void will_not_seal(const uint8_t *credential, size_t credential_len, cons
     check(untouched(out, 0, 40), "a refusal writes nothing");
 }
 
+/* A PDU made elsewhere: sealed to the same octets, and opened. */
+static void both_ways(const struct mp_pdu *m)
+{
+    struct header h = {m->iv_index, m->ctl, m->ttl, m->seq, m->src, m->dst, m->transport_len, {0}};
+    memcpy(h.transport, m->transport, h.len);
+    uint8_t out[40];
+    check(seal(m->credential, &h, out) == (uint32_t)m->pdu_len << 16, m->name);
+    check(memcmp(out, m->pdu, m->pdu_len) == 0, m->name);
+    check(untouched(out, m->pdu_len, 40), m->name);
+    opens(m->credential, 33, &h, m->pdu, m->pdu_len, 1, 0);
+}
+
 static void samples(void)
 {
-    for (size_t i = 0; i < sizeof mp_pdus / sizeof mp_pdus[0]; i++) {
-        const struct mp_pdu *m = &mp_pdus[i];
-        struct header h = {m->iv_index, m->ctl, m->ttl, m->seq, m->src, m->dst, m->transport_len, {0}};
-        memcpy(h.transport, m->transport, h.len);
-        uint8_t out[40];
-        check(seal(m->credential, &h, out) == (uint32_t)m->pdu_len << 16, m->name);
-        check(memcmp(out, m->pdu, m->pdu_len) == 0, m->name);
-        check(untouched(out, m->pdu_len, 40), m->name);
-        opens(m->credential, 33, &h, m->pdu, m->pdu_len, 1, 0);
-    }
+    for (size_t i = 0; i < sizeof mp_pdus / sizeof mp_pdus[0]; i++)
+        both_ways(&mp_pdus[i]);
     static const uint8_t key[16] = MP_NET_KEY, credential[33] = MP_CREDENTIAL;
     uint8_t out[40];
     fill(out, 40);
     check(gorephan_credentials(key, 16, out, 40) == 0 && memcmp(out, credential, 33) == 0 && untouched(out, 33, 40), "MP 8.2.2");
     fill(out, 40);
     check(gorephan_credentials(key, 15, out, 40) == 14 && gorephan_credentials(key, 16, out, 32) == 14 && untouched(out, 0, 40), "14 for other lengths");
+}
+
+/* A PDU to a reserved group may have to be forwarded, so it is opened and sealed like any other. */
+static void reserved_groups(void)
+{
+    for (size_t i = 0; i < sizeof reserved_pdus / sizeof reserved_pdus[0]; i++)
+        both_ways(&reserved_pdus[i]);
 }
 
 static void edges(const uint8_t *credential)
@@ -196,6 +207,10 @@ static void every_refusal(const uint8_t *credential)
     will_not_seal(credential, 33, &x, 40, 14, "SRC unassigned");
     x = h, x.src = 0x8000;
     will_not_seal(credential, 33, &x, 40, 14, "SRC virtual");
+    x = h, x.src = 0xFF00;
+    will_not_seal(credential, 33, &x, 40, 14, "SRC reserved, first");
+    x = h, x.src = 0xFFFB;
+    will_not_seal(credential, 33, &x, 40, 14, "SRC reserved, last");
     x = h, x.dst = 0;
     will_not_seal(credential, 33, &x, 40, 14, "DST unassigned");
     x = h, x.dst = 0x8000, x.ctl = 1;
@@ -237,9 +252,11 @@ int main(void)
 {
     static const uint8_t credential[33] = MP_CREDENTIAL;
     samples();
+    reserved_groups();
     edges(credential);
     every_refusal(credential);
     at_random();
-    printf("%zu samples of MP, 10000 random PDUs, %u checks\n", sizeof mp_pdus / sizeof mp_pdus[0], checks);
+    printf("%zu samples of MP, %zu PDUs to reserved groups, 10000 random PDUs, %u checks\n", sizeof mp_pdus / sizeof mp_pdus[0],
+           sizeof reserved_pdus / sizeof reserved_pdus[0], checks);
     return 0;
 }

@@ -1,8 +1,10 @@
-"""Writes pdus.h for c/test.c: every Network PDU of vectors/mp_samples.json with its parts, and PDUs with addresses that are not allowed.
+"""Writes pdus.h for c/test.c: every Network PDU of vectors/mp_samples.json with its parts, PDUs to reserved groups, and PDUs with addresses
+that are not allowed.
 
   python3 tests/c/make_pdus.py > pdus.h
 
-No function of ours seals an address that is not allowed, so those PDUs are sealed here, by OpenSSL (python3-cryptography), from MP 3.4.
+MP has no sample to a reserved group, and no function of ours seals an address that is not allowed, so those PDUs are sealed here, by OpenSSL
+(python3-cryptography), from MP 3.4.
 """
 import json
 from pathlib import Path
@@ -32,6 +34,12 @@ def sealed(cred, iv_index, ctl, ttl, seq, src, dst, transport):
     return bytes([(iv_index & 1) << 7 | cred[0]]) + bytes(a ^ b for a, b in zip(front, pecb)) + body
 
 
+def row(name, cred, iv_index, ctl, ttl, seq, src, dst, transport, pdu):
+    """A PDU with its parts, as an element of an array of struct mp_pdu."""
+    return (f'    {{"{name}", {array(cred)}, 0x{iv_index:08x}, {ctl}, {ttl}, 0x{seq:06x}, 0x{src:04x}, 0x{dst:04x},'
+            f' {len(transport)}, {array(transport)}, {len(pdu)}, {array(pdu)}}},')
+
+
 def main():
     print("/* Made by tests/c/make_pdus.py from vectors/mp_samples.json. */")
     print("#define MP_NET_KEY", array(bytes.fromhex(FIRST["net_key"])))
@@ -40,12 +48,19 @@ def main():
     print("    size_t transport_len; uint8_t transport[16]; size_t pdu_len; uint8_t pdu[29]; } mp_pdus[] = {")
     for message in SAMPLES["messages"]:
         for pdu in message["pdus"]:
-            transport, whole = bytes.fromhex(pdu["lower_transport_pdu"]), bytes.fromhex(pdu["network_pdu"])
-            print(f'    {{"MP {message["section"]}, SEQ {pdu["seq"]}", {array(credential(message))}, 0x{message["iv_index"]}, {message["ctl"]}, {message["ttl"]},'
-                  f' 0x{pdu["seq"]}, 0x{message["src"]}, 0x{message["dst"]}, {len(transport)}, {array(transport)}, {len(whole)}, {array(whole)}}},')
+            iv_index, seq, src, dst = (int(text, 16) for text in (message["iv_index"], pdu["seq"], message["src"], message["dst"]))
+            print(row(f"MP {message['section']}, SEQ {pdu['seq']}", credential(message), iv_index, message["ctl"], message["ttl"], seq, src, dst,
+                      bytes.fromhex(pdu["lower_transport_pdu"]), bytes.fromhex(pdu["network_pdu"])))
+    print("};")
+    print("static const struct mp_pdu reserved_pdus[] = {")
+    for dst in (0xFF00, 0xFFFB):
+        for ctl in (0, 1):
+            said = credential(FIRST), 0x12345678, ctl, 5, 78, 0x0001, dst, b"\x01\x02\x03"
+            print(row(f"DST {dst:04x} with CTL {ctl}", *said, sealed(*said)))
     print("};")
     print("static const struct { const char *name; uint32_t iv_index; size_t pdu_len; uint8_t pdu[29]; } unallowed[] = {")
     for name, ctl, src, dst in (("SRC unassigned", 0, 0x0000, 0x0001), ("SRC virtual", 0, 0x8000, 0x0001), ("SRC a group", 1, 0xC000, 0x0001),
+                                ("SRC reserved, first", 0, 0xFF00, 0x0001), ("SRC reserved, last", 1, 0xFFFB, 0x0001),
                                 ("DST unassigned", 0, 0x0001, 0x0000), ("DST virtual with CTL 1", 1, 0x0001, 0xBFFF)):
         pdu = sealed(credential(FIRST), 0x12345678, ctl, 5, 77, src, dst, b"\x01\x02\x03")
         print(f'    {{"{name}", 0x12345678, {len(pdu)}, {array(pdu)}}},')

@@ -1,6 +1,7 @@
 """Which kinds of answer the fixed seeds must reach: every refusal of the documents by its reasons, from every operation, and every other answer."""
 import textwrap
 
+from network import ABOUT_RESERVED, RESERVED
 from sensor import EDGES
 
 # Refusals of `hear` by number. Those of the second table must come with and without forwarding, those of the first never forward.
@@ -9,12 +10,12 @@ HEAR_KEPT = {
     1: ("too short", "too long"),
     2: ("no candidate key", "no IV Index"),
     3: ("none authenticates",),
-    4: ("SRC unassigned", "SRC virtual", "SRC group", "DST unassigned", "DST virtual"),
+    4: ("SRC unassigned", "SRC virtual", "SRC group", "SRC reserved", "DST unassigned", "DST virtual"),
     5: ("in the cache",),
     13: ("the device key does not open it",),
 }
 HEAR_CACHED = {
-    6: ("DST unicast", "DST virtual", "DST group"),
+    6: ("DST unicast", "DST virtual", "DST group", "DST reserved"),
     7: ("AKF 0 with an AID", "AKF 0 to no unicast address", "a segment without octets", "a segment with opcode 0", "SegO above SegN",
         "a segment before the last that is not full", "an acknowledgement not of 7 octets", "an access message of fewer than 5 octets"),
     8: ("no SeqAuth",),
@@ -28,11 +29,12 @@ HEAR_CACHED = {
 HEARD = ("access by the device key", "acknowledged complete", "acknowledged cancelled", "acknowledged marked")
 HEARD_CACHED = ("stored", "repeat", "access by an application key", "control", "acknowledged nothing")
 
-COMMON_14 = ("no such element", "DST unassigned", "DST virtual", "TTL 1", "TTL above 127", "no such network key", "another message is kept")
+COMMON_14 = ("no such element", "DST unassigned", "DST virtual", "DST reserved", "TTL 1", "TTL above 127", "no such network key",
+             "another message is kept")
 ASKED = {
     "setup": {14: ("number of network keys", "number of application keys", "an application key bound to no network key", "number of elements",
                    "the first element's address", "the last element's address", "a next SEQ too high", "number of groups", "a group address that is none",
-                   "flag 1 with IV Index 0")},
+                   "a reserved group", "flag 1 with IV Index 0")},
     "access": {16: ("PDU buffer",), 15: ("no SEQ left",),
                14: COMMON_14 + ("the device key to no unicast address", "no such application key", "the application key is bound to another network key",
                                 "no payload", "payload too long")},
@@ -57,6 +59,11 @@ CASES = ("a later network key opens it", "several network keys fail", "under the
          "completes with a segment before the last", "acknowledges the open session", "acknowledges the last message handed up",
          "sends a segment 8,191 after the first", "has no SEQ left 8,191 after the first", "has no SEQ left 8,192 after the first",
          "names a property that was forgotten")
+# Where the first and the last of the reserved groups must be met, and the groups beside them, which are listened to and sent to.
+ENDS = tuple(f"{address:04x}" for address in RESERVED)
+ABOUT = tuple(f"{address:04x} with CTL {ctl}" for address in ABOUT_RESERVED for ctl in (0, 1))
+BESIDE = ABOUT[:2] + ABOUT[-2:]
+MET = {"for this node": BESIDE, "not for this node": ABOUT, "asked to listen to": ENDS, "asked to send to": ENDS, "sent to": BESIDE}
 # The cases of Sensor Status: what a record is, what a list is as a whole, the counts about the ends of the ranges, and what needs no receiver.
 SENSED = {
     "a record": ("format A", "format A, at its longest", "format B", "format B, at its longest", "humidity above zero", "humidity of zero",
@@ -82,7 +89,7 @@ def required():
     for word, table in ASKED.items():
         kinds += _refusals(table, word)
     kinds += list(DONE) + [f"unread: {why}" for why in UNREAD] + list(CASES)
-    return kinds + [f"{what}: {case}" for what, cases in SENSED.items() for case in cases]
+    return kinds + [f"{what}: {case}" for table in (MET, SENSED) for what, cases in table.items() for case in cases]
 
 
 def _groups(kinds):

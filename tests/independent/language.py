@@ -1,5 +1,6 @@
 """The console's language: a line read, the model driven, the answer written."""
 import model
+import network
 import sending
 import sensor
 
@@ -203,6 +204,7 @@ class Console:
 
     def _setup(self):
         given, self.given = self.given, model.Setup()
+        self.met += [f"asked to listen to: {group:04x}" for group in given.groups if group in network.RESERVED]
         self.named.outlive("a setup that is refused")
         self.receiver = model.Receiver(given)
         self.named.outlive("a setup that is ready")

@@ -56,7 +56,8 @@ class Setup:
             (self.first + len(self.seqs) - 1 > 0x7FFF, "the last element's address"),
             (any(seq > 0x1000000 for seq in self.seqs), "a next SEQ too high"),
             (len(self.groups) > 8, "number of groups"),
-            (any(kind(group) != "group" for group in self.groups), "a group address that is none"),
+            (any(kind(group) not in ("group", "reserved") for group in self.groups), "a group address that is none"),
+            (any(kind(group) == "reserved" for group in self.groups), "a reserved group"),
             (self.flag and self.iv_index == 0, "flag 1 with IV Index 0"),
         )
         return next((why for wrong, why in faults if wrong), None)
@@ -112,6 +113,9 @@ class Receiver:
         return self.setup.first <= address < self.setup.first + len(self.seqs)
 
     def is_for_us(self, dst):
+        # a reserved group is for nobody
+        if kind(dst) == "reserved":
+            return False
         return self.is_local(dst) or dst == 0xFFFF or dst == 0xFFFE and self.setup.relay == 1 or dst in self.setup.groups
 
     def entry_of(self, src):
@@ -146,7 +150,9 @@ class Receiver:
         if self.setup.relay and opened.ttl >= 2 and not self.is_local(opened.dst):
             lower = opened._replace(ttl=opened.ttl - 1)
             forward.append(network.seal(self.networks[net], iv_index, *lower))
-        if not self.is_for_us(opened.dst):
+        ours = self.is_for_us(opened.dst)
+        self.note(opened.dst in network.ABOUT_RESERVED, f"{'for' if ours else 'not for'} this node: {opened.dst:04x} with CTL {opened.ctl}")
+        if not ours:
             raise Refusal(6, "DST " + kind(opened.dst))
         return self._taken(net, iv_index, opened, trials)
 

@@ -5,17 +5,23 @@ from ciphers import aes, ccm_open, ccm_seal, xor
 
 SHORTEST, LONGEST, SHORTEST_CONTROL = 14, 29, 18
 
+# The first and the last of the group addresses that MP 3.4.2.4 reserves; and these two with the groups beside them.
+RESERVED = (0xFF00, 0xFFFB)
+ABOUT_RESERVED = (0xFEFF, *RESERVED, 0xFFFC)
+
 # What an opened PDU says.
 Opened = namedtuple("Opened", "ctl ttl seq src dst transport")
 
 
 def kind(address):
-    """Which of the four ranges of MP 3.4.2 an address is in."""
+    """Which of the ranges of MP 3.4.2 an address is in; document 02 sets the reserved groups apart from the others."""
     if address == 0:
         return "unassigned"
     if address <= 0x7FFF:
         return "unicast"
-    return "virtual" if address <= 0xBFFF else "group"
+    if address <= 0xBFFF:
+        return "virtual"
+    return "reserved" if RESERVED[0] <= address <= RESERVED[1] else "group"
 
 
 def octets(number, count):

@@ -4,7 +4,7 @@ Sending requests, right and wrong in one point; acknowledgements and giving up; 
 """
 from dataclasses import replace
 
-from world import setup_lines
+from world import RESERVED_GROUPS, setup_lines, some_group
 
 
 def octets(dice, count):
@@ -15,7 +15,7 @@ def _request(world):
     """The fields that access and control share, all allowed: element, DST, TTL and network key."""
     dice, setup = world.dice, world.setup
     known = world.some_node().src
-    dst = dice.choice((known, known, world.local(), world.heard_group(), dice.randint(1, 0x7FFF), dice.randint(0xC000, 0xFFFF)))
+    dst = dice.choice((known, known, world.local(), world.heard_group(), dice.randint(1, 0x7FFF), some_group(dice)))
     element = 0 if dice.random() < 0.5 else dice.randrange(len(setup.seqs))
     ttl = dice.choice(("-", "-", "0", "2", "7f", f"{dice.randint(2, 127):x}"))
     return [f"{element:x}", f"{dst:04x}", ttl, f"{dice.randrange(len(setup.net_keys)):x}"]
@@ -24,8 +24,8 @@ def _request(world):
 def _spoilt(world, fields):
     """One of the shared fields made wrong."""
     dice, setup = world.dice, world.setup
-    wrong = ((0, f"{dice.choice((len(setup.seqs), 8, 0xFF)):x}"), (1, "0"), (1, f"{dice.randint(0x8000, 0xBFFF):x}"), (2, "1"), (2, "80"), (2, "ff"),
-             (3, f"{dice.choice((len(setup.net_keys), 4, 0xFF)):x}"))
+    wrong = ((0, f"{dice.choice((len(setup.seqs), 8, 0xFF)):x}"), (1, "0"), (1, f"{dice.randint(0x8000, 0xBFFF):x}"),
+             (1, f"{dice.choice(RESERVED_GROUPS):x}"), (2, "1"), (2, "80"), (2, "ff"), (3, f"{dice.choice((len(setup.net_keys), 4, 0xFF)):x}"))
     at, value = dice.choice(wrong)
     return fields[:at] + [value] + fields[at + 1:]
 
@@ -106,8 +106,14 @@ def enough_room(dice):
     return dice.choice(("room 1d 180", "room 180 180", f"room {dice.randint(29, 384):x} 180"))
 
 
+def _among(dice, groups, one):
+    """The groups with one more at any place."""
+    at = dice.randint(0, len(groups))
+    return groups[:at] + [one] + groups[at:]
+
+
 def bad_setups(dice, setup):
-    """The setup, wrong in each point that document 01 names."""
+    """The setup, wrong in each point that document 01 names, and in listing a reserved group."""
     key, nets = dice.randbytes(16), len(setup.net_keys)
     return (
         replace(setup, net_keys=[]),
@@ -122,6 +128,7 @@ def bad_setups(dice, setup):
         replace(setup, seqs=setup.seqs[:-1] + [dice.choice((0x1000001, 0x2000000, 0xFFFFFFFF))]),
         replace(setup, groups=[0xC000] * dice.choice((9, 30))),
         replace(setup, groups=setup.groups[:7] + [dice.choice((0, 1, 0x7FFF, 0x8000, 0xBFFF))]),
+        replace(setup, groups=_among(dice, setup.groups[:7], dice.choice(RESERVED_GROUPS))),
         replace(setup, iv_index=0, flag=1),
     )
 

@@ -40,7 +40,8 @@ def _need_room(room):
 def _common(receiver, element, dst, ttl, net):
     """What access and control messages must both keep to; gives the TTL."""
     _allow(element >= len(receiver.seqs), "no such element")
-    _allow(kind(dst) in ("unassigned", "virtual"), "DST " + kind(dst))
+    receiver.note(dst in network.RESERVED, f"asked to send to: {dst:04x}")
+    _allow(kind(dst) in ("unassigned", "virtual", "reserved"), "DST " + kind(dst))
     _allow(ttl == 1, "TTL 1")
     _allow(ttl is not None and ttl > 127, "TTL above 127")
     _allow(net >= len(receiver.networks), "no such network key")
@@ -57,6 +58,7 @@ def _next(receiver, element):
 def _transmit(receiver, element, net, ctl, ttl, dst, octets):
     seq, iv_index = _next(receiver, element)
     receiver.seqs[element] = seq + 1
+    receiver.note(dst in network.ABOUT_RESERVED, f"sent to: {dst:04x} with CTL {ctl}")
     return network.seal(receiver.networks[net], iv_index, ctl, ttl, seq, receiver.setup.first + element, dst, octets)
 
 

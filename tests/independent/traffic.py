@@ -8,6 +8,7 @@ from ciphers import k2, k4
 from model import Terms
 from network import kind
 from transport import WINDOW
+from world import RESERVED_GROUPS
 
 NOTHING = b""
 
@@ -275,8 +276,8 @@ def addresses(world):
     dice = world.dice
     while True:
         node = world.some_node()
-        src = dice.choice((0, 0x8000, 0xBFFF, 0xC000, 0xFFFF, node.src, node.src, node.src))
-        dst = dice.choice((0, 0x8000, 0xBFFF, 0xFFFD, 0xC000, 0x7FFF, world.local()))
+        src = dice.choice((0, 0x8000, 0xBFFF, 0xC000, 0xFFFF, dice.choice(RESERVED_GROUPS), node.src, node.src, node.src))
+        dst = dice.choice((0, 0x8000, 0xBFFF, 0xFFFD, 0xC000, 0x7FFF, dice.choice(RESERVED_GROUPS), world.local()))
         ctl = dice.randint(0, 1)
         credentials = dice.choice(world.setup.net_keys)
         yield world.sealed(k2(credentials), world.index(), (ctl, world.ttl(), node.take(), src, dst, dice.randbytes(dice.randint(1, 12))))

@@ -4,7 +4,9 @@ from model import Setup
 from network import kind, seal
 
 LAST_SEQ = 0xFFFFFF
-SPECIAL_GROUPS = (0xFFFF, 0xFFFE, 0xFFFD, 0xFFFC)
+# Groups that may be listened to: those that MP fixes, and the last before the reserved ones. And of the reserved both ends, and one within.
+SPECIAL_GROUPS = (0xFFFF, 0xFFFE, 0xFFFD, 0xFFFC, 0xFEFF)
+RESERVED_GROUPS = (0xFF00, 0xFF05, 0xFFFB)
 
 
 def alike(dice, mark, count, wanted=None):
@@ -41,6 +43,11 @@ def start_of(dice, most=LAST_SEQ):
     return min(max(near + dice.randint(-40, 40), 0), most)
 
 
+def some_group(dice):
+    """A group that may be listened to and sent to."""
+    return dice.choice((dice.randint(0xC000, 0xFEFF), dice.choice(SPECIAL_GROUPS)))
+
+
 def setup_of(dice):
     """A setup that is allowed."""
     nets = keys_of(dice, nid, dice.randint(1, 4))
@@ -51,7 +58,7 @@ def setup_of(dice):
     first = dice.choice((1, 0x8000 - count, dice.randint(1, 0x8000 - count)))
     seqs = [dice.choice((0, start_of(dice, 0x1000000), LAST_SEQ - 3, LAST_SEQ, 0x1000000)) for _ in range(count)]
     seqs[0] = dice.choice((0, seqs[0], start_of(dice, 0xFFF000)))
-    groups = [dice.choice((dice.randint(0xC000, 0xFFFF), dice.choice(SPECIAL_GROUPS))) for _ in range(dice.randint(0, 8))]
+    groups = [some_group(dice) for _ in range(dice.randint(0, 8))]
     index = dice.choice((0, 1, 2, 0xFFFFFFFF, dice.randrange(1 << 32)))
     return Setup(nets, apps, dice.randbytes(16), first, seqs, groups, index, dice.randint(0, 1) if index else 0, dice.choice((0, 1, 1)))
 
@@ -142,7 +149,7 @@ class World:
         if roll < 0.85:
             return self.heard_group()
         beside = (self.setup.first - 1 or 1, min(self.setup.first + len(self.setup.seqs), 0x7FFF))
-        return self.dice.choice((0xFFFF, 0xFFFE, 0xFFFD, *beside, self.dice.randint(0xC000, 0xFFFF), self.dice.randint(0x8000, 0xBFFF),
+        return self.dice.choice((*SPECIAL_GROUPS, *RESERVED_GROUPS, *beside, self.dice.randint(0xC000, 0xFFFF), self.dice.randint(0x8000, 0xBFFF),
                                  self.dice.randint(1, 0x7FFF)))
 
     def ttl(self):

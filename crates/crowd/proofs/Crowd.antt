@@ -18,7 +18,7 @@ use Rattle.modes.specs.Ccm.{micOctets}
 use Rattle.keys.specs.declared.NetworkKeys.{NetworkKeys}
 use Rattle.keys.specs.Derivation.{k2}
 use Rattle.network.specs.declared.opening.Answer.the-variants.{WrongLength, NoCandidate, NotAuthentic}
-use Rattle.network.specs.Address.{kindOf, isUnicast}
+use Rattle.network.specs.Address.{kindOf, isUnicast, isReserved}
 use Rattle.network.specs.Candidates.{keyAt, candidates, opens, searched}
 use Rattle.network.specs.IvIndex.{ivIndexHeard}
 use Rattle.network.specs.Octets.{octets}
@@ -30,7 +30,7 @@ use Rattle.transport.specs.LeadsBack.{SegmentOf}
 use Rattle.transport.specs.Securing.{transMic, applicationKeyAt}
 use Rattle.transport.specs.Segment.{messageOctets, controlOctet, segmentNumber, segmentFront}
 use Rattle.transport.proofs.SecureOpen.{secured-length}
-use Rattle.node.specs.Addresses.{isLocal, listens, forNode}
+use Rattle.node.specs.Addresses.{isLocal, listens, answersTo, forNode}
 use Rattle.node.specs.Setup.{boundWithin, keysValid, nextWithin, elementsValid, groupsValid, indexValid, valid, materialAt, boundKeyAt, groupAt, nodeOf, making}
 use Rattle.node.specs.declared.addresses.Node.{Node}
 use Rattle.receiver.specs.declared.fresh.Answer.the-variants.{Ready}
@@ -64,7 +64,7 @@ record Held : Type 0 where
   second-derived : keyAt (node .materials) 1 ≡ k2 secondKey
 
 holds : Held
-unfolding settingUp making valid keysValid boundWithin elementsValid nextWithin groupsValid indexValid first kindOf nodeOf materialAt boundKeyAt groupAt forNode isLocal listens
+unfolding settingUp making valid keysValid boundWithin elementsValid nextWithin groupsValid indexValid first kindOf nodeOf materialAt boundKeyAt groupAt isReserved answersTo forNode isLocal listens
 holds =
     record {
       two-networks = refl;

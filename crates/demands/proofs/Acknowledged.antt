@@ -36,7 +36,7 @@ use Rattle.memory.proofs.OutgoingLaws.{fits-by-source, heard-all, heard-again, 
 use Rattle.node.specs.declared.addresses.Node.{Node}
 use Rattle.node.specs.Addresses.{forNode}
 use Rattle.node.specs.Made.{WellMade}
-use Rattle.node.proofs.AddressesLaws.{for-local}
+use Rattle.node.proofs.Addressed.{local-for}
 use Rattle.receiver.specs.declared.answer.Answer.the-variants.{Acknowledgement}
 use Rattle.receiver.specs.declared.answer.Taken.{Taken}
 use Rattle.receiver.specs.declared.state.Receiver.{Receiver}
@@ -142,7 +142,7 @@ module _ (r : Receiver) (made : WellMade (r .node)) (element net src : ℕ) (s :
         let low : bits < 2 ^ 32 = lt-of-lt-of-le within (pow-mono {j = 32} (omega arith)) in
         let new = rw opened at (hears .new) in
         let admits = rw opened at (hears .admits) in
-        let here : forNode (speaker .node) src ≡ true = rw from (sym (for-local (speaker .node) (s .src) (sym (sp .its-element)) refl)) in
+        let here : forNode (speaker .node) src ≡ true = rw from (local-for (speaker .node) (s .src) unicast (sp .its-element)) in
         heard-new speaker sent fwd msg (hears .room-forward) (hears .room-message) head place (opens-so can (hears .own-key-first)) new here taken
         (taken-acknowledgement (caching speaker head) head msg false zero bits (ack.form-is r element net src c buf low) admits)
 

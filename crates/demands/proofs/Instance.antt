@@ -15,13 +15,13 @@ use lib.ListN.{length, replicate}
 use Rattle.common.specs.Bits.{hasBit, withBit}
 use Rattle.common.specs.Choice.{if_then_else_}
 use Rattle.common.specs.Search.{first}
-use Rattle.network.specs.Address.{kindOf, isUnicast}
+use Rattle.network.specs.Address.{kindOf, isUnicast, isReserved}
 use Rattle.network.specs.Opening.{opening}
 use Rattle.transport.specs.declared.securing.MessageKey.the-variants.{Application}
 use Rattle.transport.specs.LeadsBack.{SegmentOf}
 use Rattle.transport.specs.Securing.{applicationKeyAt}
 use Rattle.transport.proofs.SecureOpen.{secured-length}
-use Rattle.node.specs.Addresses.{isLocal, forNode}
+use Rattle.node.specs.Addresses.{isLocal, answersTo, forNode}
 use Rattle.node.specs.Setup.{boundWithin, keysValid, nextWithin, elementsValid, groupsValid, indexValid, valid, boundKeyAt, nodeOf, making}
 use Rattle.node.specs.declared.addresses.Node.{Node}
 use Rattle.receiver.specs.declared.fresh.Answer.the-variants.{Ready}
@@ -49,7 +49,7 @@ pub record Held : Type 0 where
   pub here : forNode node 0x0001 ≡ true
 
 pub holds : Held
-unfolding settingUp making valid keysValid boundWithin elementsValid nextWithin groupsValid indexValid first kindOf nodeOf boundKeyAt forNode isLocal
+unfolding settingUp making valid keysValid boundWithin elementsValid nextWithin groupsValid indexValid first kindOf nodeOf boundKeyAt isReserved answersTo forNode isLocal
 holds = record { one-network = refl; one-application = refl; bound-there = refl; index = refl; here = refl }
 
 -- ---- the speeches

@@ -40,5 +40,6 @@ pub mod InOrder
 pub mod Instance
 pub mod SendingsMet
 pub mod Forwarding
+pub mod Reserved
 pub mod ForwardingMet
 pub mod AcknowledgedMet

@@ -20,6 +20,7 @@ use Rattle.network.specs.Sealing.{sealing}
 use Rattle.transport.specs.declared.securing.Envelope.{Envelope}
 use Rattle.memory.specs.declared.outgoing.Outgoing.{Outgoing}
 use Rattle.memory.specs.declared.pair.Pair.{Pair}
+use Rattle.memory.specs.declared.session.Terms.{Terms}
 use Rattle.node.specs.Addresses.{elementPlaces}
 use Rattle.receiver.specs.declared.give_up.GivenUp.{GivenUp}
 use Rattle.receiver.specs.declared.answer.Refusal.{Refusal}
@@ -29,12 +30,11 @@ use Rattle.receiver.specs.Good.{Good}
 use Rattle.receiver.specs.State.{withOutgoing}
 use Rattle.receiver.proofs.Laws.Fixed.{fixed-heard}
 use Rattle.receiver.proofs.Laws.GiveUp.{by-giving-up}
-use Rattle.sending.specs.declared.acknowledge.Chosen.{Chosen}
 use Rattle.sending.specs.declared.answer.Answer.{Answer}
 use Rattle.sending.specs.declared.answer.Spoken.{Spoken}
 use Rattle.sending.specs.declared.request.Request.{Request}
 use Rattle.sending.specs.Access.{keyed, accessAllowed, envelopeOf}
-use Rattle.sending.specs.Acknowledge.{chosen, acknowledgementHeader}
+use Rattle.sending.specs.Acknowledge.{chosen}
 use Rattle.sending.specs.Answer.{refusedAt}
 use Rattle.sending.specs.Control as control
 use Rattle.sending.specs.Segment.{segmentHeader, starting, elementOf}
@@ -42,19 +42,20 @@ use Rattle.sending.specs.Stop.{stopping}
 use Rattle.sending.specs.Transmission.{sendingIv, addressOf, nextSeq, stamped}
 use Rattle.sending.proofs.Laws.Allowed.{Asked, access-allows, control-allows}
 use Rattle.sending.proofs.Laws.Calls.{walk-access, walk-control, walk-segment, walk-acknowledge}
-use Rattle.sending.proofs.Laws.Shapes.{whole-access, whole-control, segment-out, keeps-access, keeps-control, envelope-is}
+use Rattle.sending.proofs.Laws.Shapes.{whole-access, whole-control, segment-out, acknowledgement-out, keeps-access, keeps-control, envelope-is}
 use Rattle.sending.proofs.Laws.Stamped.{stamps}
 use Rattle.sending.proofs.Laws.Transmitted.{checked, used, used-own, used-rises, saying, pduBy, Sends, sealing-is, by-saying, by-starting, by-stopping}
 use Rattle.demands.specs.Call.{Call, Hear, GiveUp, SendAccess, SendControl, SendSegment, Acknowledge, Stop, lentFor, Outcome, lengthBy, leftSaid, step}
-use Rattle.demands.specs.NeverTwice.{Use, speaker, indexSent, uses, Carried, AllAbove, Rising, NoneEqual, Distinct, Rise, NeverTwice}
+use Rattle.demands.specs.NeverTwice.{Use, speaker, indexSent, addressee, uses, Carried, AllAbove, Rising, NoneEqual, Distinct, Rise, NeverTwice}
 use Rattle.demands.proofs.Invariant.{good-step}
 
 -- ---- one call
-module _ (r : Receiver) (element iv : ℕ) (buf : List ℕ) where
-  -- the PDU was sealed from a header with the element's address, the IV Index and the next SEQ, which is then used
+module _ (r : Receiver) (element iv to : ℕ) (buf : List ℕ) where
+  -- the PDU was sealed from a header with the element's address, the destination, the IV Index and the next SEQ, which is then used
   pub record Takes (o : Outcome) : Type 0 where
     pub header : Header
     pub from-element : header .src ≡ addressOf (r .node) element
+    pub to-whom : header .dst ≡ to
     pub under-index : header .iv ≡ iv
     pub with-next : header .seq ≡ nextSeq r element
     pub made-of : sealing (keyAt (r .node .materials) (header .key)) header buf ≡ lent (Sealed (o .octets)) (o .pdu)
@@ -81,15 +82,16 @@ module _ (r : Receiver) (element iv : ℕ) (buf : List ℕ) where
   refused n _ = silent (leftSaid (lent (refusedAt r n) buf)) refl refl
 
   -- the PDU of this header was sent, and q is left
-  module _ (low : element < elementPlaces) (h : Header) (i : stamped r element h .iv ≡ iv) (c : Sends r element h buf) (a : Answer) (q : Receiver) (next : q .next ≡ used r element .next)
-      (long : lengthBy a ≡ length (pduBy r element h)) where
+  module _ (low : element < elementPlaces) (h : Header) {g : Header} (shape : stamped r element h ≡ g) (i : g .iv ≡ iv) (d : g .dst ≡ to) (c : Sends r element h buf) (a : Answer)
+      (q : Receiver) (next : q .next ≡ used r element .next) (long : lengthBy a ≡ length (pduBy r element h)) where
     takes-sent : Takes (leftSaid (lent (record { answer = a; receiver = q }) (onto (pduBy r element h) buf)))
     takes-sent =
         let s = stamps r element h in
         record {
           header = stamped r element h;
           from-element = s .from-element;
-          under-index = i;
+          to-whom = ap (λ (x : Header). x .dst) shape ∙ d;
+          under-index = ap (λ (x : Header). x .iv) shape ∙ i;
           with-next = s .with-next;
           made-of = ap (λ (n : ℕ). sealing (keyAt (r .node .materials) n) (stamped r element h) buf) (s .key-stays) ∙ rw long (sealing-is r element h buf c);
           raised = λ k. ap (λ (l : List ℕ). getD l element 0) next ∙ used-own r element k;
@@ -99,13 +101,13 @@ module _ (r : Receiver) (element iv : ℕ) (buf : List ℕ) where
     speaks-sent =
         record { rises = λ any. rw next (used-rises r element any); takes = λ _. takes-sent; within = λ _. low }
 
-  said : (low : element < elementPlaces) (h : Header) → stamped r element h .iv ≡ iv → Speaking (saying r element h buf)
-  said low h i = by-saying r element h buf Speaking refused (λ c. speaks-sent low h i c _ (used r element) refl refl)
+  said : element < elementPlaces → (h : Header) {g : Header} → stamped r element h ≡ g → g .iv ≡ iv → g .dst ≡ to → Speaking (saying r element h buf)
+  said low h shape i d = by-saying r element h buf Speaking refused (λ c. speaks-sent low h shape i d c _ (used r element) refl refl)
 
-  started : (low : element < elementPlaces) (o : Outgoing) → o .auth .iv ≡ iv → Speaking (starting r element o buf)
-  started low o i =
+  started : element < elementPlaces → (o : Outgoing) → o .auth .iv ≡ iv → o .terms .dst ≡ to → Speaking (starting r element o buf)
+  started low o i d =
       by-starting r element o buf Speaking refused
-      (λ c. speaks-sent low (segmentHeader o 0) (ap (λ (h : Header). h .iv) (segment-out r element o 0) ∙ i) c _ (withOutgoing (used r element) o) refl refl)
+      (λ c. speaks-sent low (segmentHeader o 0) (segment-out r element o 0) i d c _ (withOutgoing (used r element) o) refl refl)
 
 -- ---- the calls
 -- the element of a request that is allowed is one of eight
@@ -118,39 +120,37 @@ given-next r src = by-giving-up (λ (g : GivenUp). g .receiver .next ≡ r .next
 stopped-next : (r : Receiver) → stopping r .receiver .next ≡ r .next
 stopped-next r = by-stopping (λ (g : GivenUp). g .receiver .next ≡ r .next) r refl refl
 
--- an acknowledgement carries the IV Index that it is given
-acknowledged-under : (r : Receiver) (element iv net src : ℕ) (c : Chosen) → stamped r element (acknowledgementHeader iv net src c) .iv ≡ iv
-unfolding stamped acknowledgementHeader
-acknowledged-under r element iv net src c = refl
-
-speaks : (r : Receiver) (c : Call) → Speaks r (speaker r c) (indexSent r c) (lentFor c) (step r c)
-speaks r (Hear pdu fwd msg) = silent r 0 0 fwd _ refl (fixed-heard r fwd msg _ .next-stays)
-speaks r (GiveUp src) = silent r 0 0 [] _ refl (given-next r src)
+speaks : (r : Receiver) (c : Call) → Speaks r (speaker r c) (indexSent r c) (addressee r c) (lentFor c) (step r c)
+speaks r (Hear pdu fwd msg) = silent r 0 0 0 fwd _ refl (fixed-heard r fwd msg _ .next-stays)
+speaks r (GiveUp src) = silent r 0 0 0 [] _ refl (given-next r src)
 speaks r (SendAccess q key szmic payload buf) =
     let e = q .element in
     let low : accessAllowed r q key szmic (length payload) ≡ true → e < elementPlaces = λ a. element-low r q (access-allows r q key szmic (length payload) a .asks) in
     let iv = sendingIv (r .node) in
     let k = keyed (r .node) key in
     let under = ap (λ (v : Envelope). v .iv) (envelope-is r q k szmic) in
-    walk-access r buf (Speaking r e iv buf) (refused r e iv buf) q key szmic payload
-    (λ a _. said r e iv buf (low a) _ (ap (λ (h : Header). h .iv) (whole-access r e (envelopeOf r q k szmic) q k payload) ∙ under))
-    (λ a _. started r e iv buf (low a) _ (ap (λ (p : Pair). p .iv) (keeps-access (envelopeOf r q k szmic) q k payload .auth-is) ∙ under))
+    let kept = keeps-access (envelopeOf r q k szmic) q k payload in
+    walk-access r buf (Speaking r e iv (q .dst) buf) (refused r e iv (q .dst) buf) q key szmic payload
+    (λ a _. said r e iv (q .dst) buf (low a) _ (whole-access r e (envelopeOf r q k szmic) q k payload) under refl)
+    (λ a _. started r e iv (q .dst) buf (low a) _ (ap (λ (p : Pair). p .iv) (kept .auth-is) ∙ under) (ap (λ (t : Terms). t .dst) (kept .terms-is)))
 speaks r (SendControl q opcode parameters buf) =
     let e = q .element in
     let low : control.controlAllowed r q opcode (length parameters) ≡ true → e < elementPlaces = λ a. element-low r q (control-allows r q opcode (length parameters) a .asks) in
     let iv = sendingIv (r .node) in
-    walk-control r buf (Speaking r e iv buf) (refused r e iv buf) q opcode parameters
-    (λ a _. said r e iv buf (low a) _ (ap (λ (h : Header). h .iv) (whole-control r e iv q opcode parameters)))
-    (λ a _. started r e iv buf (low a) _ (ap (λ (p : Pair). p .iv) (keeps-control r q opcode parameters .auth-is)))
+    let kept = keeps-control r q opcode parameters in
+    walk-control r buf (Speaking r e iv (q .dst) buf) (refused r e iv (q .dst) buf) q opcode parameters
+    (λ a _. said r e iv (q .dst) buf (low a) _ (whole-control r e iv q opcode parameters) refl refl)
+    (λ a _. started r e iv (q .dst) buf (low a) _ (ap (λ (p : Pair). p .iv) (kept .auth-is)) (ap (λ (t : Terms). t .dst) (kept .terms-is)))
 speaks r (SendSegment n buf) =
     let e = elementOf (r .node) (r .out .src) in
     let iv = r .out .auth .iv in
-    walk-segment r buf (Speaking r e iv buf) (refused r e iv buf) n (λ low _. said r e iv buf low _ (ap (λ (h : Header). h .iv) (segment-out r e (r .out) n)))
+    let to = r .out .terms .dst in
+    walk-segment r buf (Speaking r e iv to buf) (refused r e iv to buf) n (λ low _. said r e iv to buf low _ (segment-out r e (r .out) n) refl refl)
 speaks r (Acknowledge net src buf) =
     let e = elementOf (r .node) (chosen (r .replay) (r .sessions) src .dst) in
     let iv = sendingIv (r .node) in
-    walk-acknowledge r buf (Speaking r e iv buf) (refused r e iv buf) net src (λ _ low. said r e iv buf low _ (acknowledged-under r e iv net src _))
-speaks r Stop = silent r 0 0 [] _ refl (stopped-next r)
+    walk-acknowledge r buf (Speaking r e iv src buf) (refused r e iv src buf) net src (λ _ low. said r e iv src buf low _ (acknowledgement-out r e iv net src _) refl refl)
+speaks r Stop = silent r 0 0 0 [] _ refl (stopped-next r)
 
 -- no next SEQ falls
 pub next-rises : (r : Receiver) (c : Call) (any : ℕ) → nextSeq r any ≤ nextSeq (step r c .receiver) any
@@ -159,7 +159,14 @@ next-rises r c = speaks r c .rises
 pub carries : Carried
 carries r c m =
     let t = speaks r c .takes m in
-    record { header = t .header; from-speaker = t .from-element; under-index = t .under-index; with-next = t .with-next; sealed = t .made-of }
+    record {
+      header = t .header;
+      from-speaker = t .from-element;
+      to-addressee = t .to-whom;
+      under-index = t .under-index;
+      with-next = t .with-next;
+      sealed = t .made-of;
+    }
 
 -- ---- a list of calls
 -- the speaker's next SEQ rises where a PDU is made

@@ -11,7 +11,7 @@ use lib.ListN.{length, getD, replicate}
 use Rattle.common.specs.Bits.{hasBit, withBit, allBits}
 use Rattle.common.specs.Search.{first}
 use Rattle.common.proofs.Tests.{by-test}
-use Rattle.network.specs.Address.{kindOf}
+use Rattle.network.specs.Address.{kindOf, isReserved}
 use Rattle.network.specs.IvIndex.{ivIndexSent}
 use Rattle.network.specs.Opening.{opening}
 use Rattle.transport.specs.declared.securing.MessageKey.the-variants.{Application}
@@ -20,7 +20,7 @@ use Rattle.transport.proofs.SecureOpen.{secured-length}
 use Rattle.memory.specs.declared.outgoing.Outgoing.{Outgoing}
 use Rattle.node.specs.declared.addresses.Node.{Node}
 use Rattle.node.specs.declared.setup.Setup.{Setup}
-use Rattle.node.specs.Addresses.{elementPlaces, isLocal, forNode}
+use Rattle.node.specs.Addresses.{elementPlaces, isLocal, answersTo, forNode}
 use Rattle.node.specs.Setup.{boundWithin, keysValid, nextWithin, elementsValid, groupsValid, indexValid, valid, networkKeyAt, materialAt, boundKeyAt, nextAt, nodeOf, nextOf, making}
 use Rattle.node.proofs.IndexLaws.{same-node}
 use Rattle.receiver.specs.declared.fresh.Answer.the-variants.{Ready}
@@ -155,7 +155,7 @@ unfolding settingUp making valid keysValid boundWithin elementsValid nextWithin 
 keys-back = record { networks-same = refl; materials-same = refl; applications-same = refl; appkeys-same = refl; device-same = refl; iv-same = refl }
 
 box-here : forNode (start bench .node) 0x0002 ≡ true
-unfolding settingUp making valid keysValid boundWithin elementsValid nextWithin groupsValid indexValid first kindOf nodeOf forNode isLocal
+unfolding settingUp making valid keysValid boundWithin elementsValid nextWithin groupsValid indexValid first kindOf nodeOf isReserved answersTo forNode isLocal
 box-here = refl
 
 -- requests are within the rules

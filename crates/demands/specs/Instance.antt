@@ -6,6 +6,7 @@
 --   SendingsMet         all premises of demand 2 hold of messages to the shed, in segments and whole, access and control, sent in full and heard out of order, with a repeat, a relay's copies and a
 --                       PDU that no key opens; from a box set up just now, one with the update flag set, and one that was used before
 --   ForwardingMet       all premises of `Forwards` hold of a PDU that one box sends another past the shed, and it is forwarded
+--   ReservedMet         so do those of `ForNobody` and `GoesOn` where it sends it to a reserved address, the first or the last
 use mathlib.Core.Bool.{true, false}
 use mathlib.Core.List.{List, [], _∷_, _++_, map}
 use mathlib.Core.Path.{_≡_}
@@ -13,6 +14,7 @@ use Prim.Native.Nat.{ℕ, _≤_}
 use lib.ListN.{replicate}
 use Rattle.common.specs.Lists.{padded, Octets}
 use Rattle.network.specs.declared.header.Header.{Header}
+use Rattle.network.specs.Address.{isReserved}
 use Rattle.network.specs.Candidates.{keyAt}
 use Rattle.network.specs.Pdu.{pduOctets, pduOf}
 use Rattle.network.specs.Sealing.{forwards}
@@ -196,9 +198,9 @@ AcknowledgementMet =
     × Hears speaking (nodeOf shed) 0 (pduMade acknowledgement) (replicate pduOctets 0) (replicate messageOctets 0)
 
 -- ---- forwarding
--- one box sends another a control message of three parameters, TTL 5; the shed, whose relay is on, hears it
-abbrev pub passing : Header
-passing =
+-- one box sends a control message of three parameters, TTL 5; the shed, whose relay is on, hears it
+abbrev pub passing : ℕ → Header
+passing dst =
     record {
       key = 0;
       iv = 0x12345678;
@@ -206,18 +208,26 @@ passing =
       ttl = 5;
       seq = 0x000300;
       src = 0x0002;
-      dst = 0x0003;
+      dst = dst;
       len = 4;
       transport = padded 16 (0x03 ∷ 0x4b ∷ 0x50 ∷ 0x05 ∷ []);
     }
 
-abbrev pub passingPdu : List ℕ
-passingPdu = pduOf (keyAt (nodeOf shed .materials) 0) passing
+abbrev pub passingPdu : ℕ → List ℕ
+passingPdu dst = pduOf (keyAt (nodeOf shed .materials) 0) (passing dst)
 
-abbrev pub ForwardingMet : Type 0
-ForwardingMet =
+abbrev pub MetTo : ℕ → Type 0
+MetTo dst =
     Good (start shed)
-    × Octets passingPdu
-    × Passes (start shed) passingPdu (replicate pduOctets 0) (replicate messageOctets 0) 1 passing
+    × Octets (passingPdu dst)
+    × Passes (start shed) (passingPdu dst) (replicate pduOctets 0) (replicate messageOctets 0) 1 (passing dst)
     -- and it is one that is forwarded
-    × (forwards (nodeOf shed .relay) (isLocal (nodeOf shed) (passing .dst)) passing ≡ true)
+    × (forwards (nodeOf shed .relay) (isLocal (nodeOf shed) dst) (passing dst) ≡ true)
+
+-- to another box
+abbrev pub ForwardingMet : Type 0
+ForwardingMet = MetTo 0x0003
+
+-- to the first and the last reserved address
+abbrev pub ReservedMet : Type 0
+ReservedMet = (MetTo 0xFF00 × (isReserved 0xFF00 ≡ true)) × (MetTo 0xFFFB × (isReserved 0xFFFB ≡ true))

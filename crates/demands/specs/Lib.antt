@@ -11,5 +11,6 @@ pub mod Acknowledged
 pub mod GoesOut
 pub mod InOrder
 pub mod Forwarding
+pub mod Reserved
 pub mod Instance
 pub mod Invariant

@@ -3,7 +3,8 @@
 --   Use               what a transmission uses up
 --   used r c          what call c uses: nothing, or the next SEQ of the element that sends, under the IV Index that it sends with
 --   uses r l          what the calls of a list use, in their order
---   Carried           the PDU that a call makes carries what it used, and no other call makes one
+--   addressee r c     whom call c sends to
+--   Carried           the PDU that a call makes carries what it used, to its addressee, and no other call makes one
 --   Rise, NeverTwice  the two promises
 use mathlib.Core.Bool.{true}
 use mathlib.Core.List.{List, [], _∷_, _++_}
@@ -48,6 +49,16 @@ indexSent r (SendSegment n buf) = r .out .auth .iv
 indexSent r (Acknowledge net src buf) = sendingIv (r .node)
 indexSent r Stop = 0
 
+-- whom it sends to: the DST that is asked for; of a segment the one that its message was begun with; of an acknowledgement the source that is acknowledged
+abbrev pub addressee : Receiver → Call → ℕ
+addressee r (Hear pdu fwd msg) = 0
+addressee r (GiveUp src) = 0
+addressee r (SendAccess q key szmic payload buf) = q .dst
+addressee r (SendControl q opcode parameters buf) = q .dst
+addressee r (SendSegment n buf) = r .out .terms .dst
+addressee r (Acknowledge net src buf) = src
+addressee r Stop = 0
+
 -- what a call uses
 abbrev pub used : Receiver → Call → List Use
 used r c =
@@ -59,10 +70,11 @@ uses r [] = []
 uses r (c ∷ l) = used r c ++ uses (step r c .receiver) l
 
 -- ---- what is used is what is sent
--- the PDU was sealed from a header with the speaker's address and next SEQ, under the IV Index that is sent with, and what sealing left is what the call leaves
+-- the PDU was sealed from a header with the speaker's address and next SEQ, to its addressee, under the IV Index that is sent with, and what sealing left is what the call leaves
 pub record Carries (r : Receiver) (c : Call) : Type 0 where
   pub header : Header
   pub from-speaker : header .src ≡ addressOf (r .node) (speaker r c)
+  pub to-addressee : header .dst ≡ addressee r c
   pub under-index : header .iv ≡ indexSent r c
   pub with-next : header .seq ≡ nextSeq r (speaker r c)
   pub sealed : sealing (keyAt (r .node .materials) (header .key)) header (lentFor c) ≡ lent (Sealed (step r c .octets)) (step r c .pdu)

@@ -27,6 +27,7 @@ determinate =
       -- network
       network-address-kind = λ m _ o _. of-one m (λ d. (d, o .1));
       network-address-is-unicast = λ m _ o _. of-one m (λ d. (d, o .1));
+      network-address-is-reserved = λ m _ o _. of-one m (λ d. (d, o .1));
       network-address-allowed = λ m _ o _. of-one m (λ d. (d, o .1));
       network-header-none = λ m _ o _. of-one m (λ d. (d, o .1));
       network-iv-index-heard = λ m _ o _. of-one m (λ d. (d, o .1));

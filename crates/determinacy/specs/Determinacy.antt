@@ -41,6 +41,7 @@ pub record Determinate : Type 2 where
   -- network
   pub network-address-kind : Determined network.address.kind.ended (λ _. network.address.kind.clauses)
   pub network-address-is-unicast : Determined network.address.«is_unicast».ended (λ _. network.address.«is_unicast».clauses)
+  pub network-address-is-reserved : Determined network.address.«is_reserved».ended (λ _. network.address.«is_reserved».clauses)
   pub network-address-allowed : Determined network.address.allowed.ended (λ _. network.address.allowed.clauses)
   pub network-header-none : Determined network.header.none.ended (λ _. network.header.none.clauses)
   pub network-iv-index-heard : Determined network.«iv_index».heard.ended (λ _. network.«iv_index».heard.clauses)

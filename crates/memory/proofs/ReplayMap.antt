@@ -103,6 +103,11 @@ module _ (l : List Entry) (e : Entry) where
         let w = new-within l (e .src) room in
         rw (place-inserted, inserted-is l e) (getD-set-same l (newPlace l (e .src)) e noEntry (omega arith))
 
+-- ---- after a whole message was accepted
+pub lookUp-accepted-other : (l : List Entry) (src : ℕ) (pair : Pair) (a : ℕ) → (a ≡ src → ⊥) → (a ≡ 0 → ⊥) → lookUp (accepted l src pair) a ≡ lookUp l a
+unfolding accepted
+lookUp-accepted-other l src pair = lookUp-inserted-other l _
+
 -- a pair that the entry is not as new as is the greater
 raised-new : (e : Entry) (pair : Pair) → stale e pair ≡ false → raised e pair ≡ pair
 unfolding raised stale greater

@@ -8,6 +8,7 @@ use mathlib.Core.Bool.{true, false, true≢false}
 use mathlib.Core.List.{List, []}
 use mathlib.Core.Path.{_≡_, refl, sym, ap, _∙_}
 use Prim.Native.Nat.{ℕ, _≤_, _<_}
+use native.Mathlib.Omega.{arith}
 use borrow.Author.Tests.{eq-eqb, eqb-true, ltb-true, ltb-false}
 use lib.Dec.{ltb}
 use lib.ListN.{length, set, length-replicate, getD-replicate}
@@ -70,6 +71,10 @@ module _ (l : List Session) (i : ℕ) (s : Session) where
     pub session-set-other : sessionAt (set l i s) (sessionPlace (set l i s) a) ≡ sessionAt l (sessionPlace l a)
     unfolding sessionPlace
     session-set-other = keyed.found-set-other sessionsKeyed past l i s a new old
+
+  -- a key that has none, and is not the new session's, has none afterwards
+  pub none-set-other : i < sessionSlots → (a : SessionKey) → (a ≡ sessionKey s → ⊥) → sessionSlots ≤ sessionPlace l a → sessionSlots ≤ sessionPlace (set l i s) a
+  none-set-other h a new none = rw (place-set-other a new (λ e. let upto = place-upto l a i (sym e) in omega arith)) none
 
 -- ---- a key that has none
 some-key : (a : SessionKey) → noKey a ≡ false → a ≡ sessionKey noSession → ⊥

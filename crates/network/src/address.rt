@@ -1,6 +1,6 @@
 // An address has its kind by its range, and the kinds say which addresses a Network PDU may have.
 ghost use mathlib.Core.Path.{_≡_};
-ghost use Rattle.network.specs.Address.{kindOf, unicastKind, isUnicast, destinationKind, addressesAllowed};
+ghost use Rattle.network.specs.Address.{kindOf, unicastKind, isUnicast, isReserved, destinationKind, addressesAllowed};
 
 // What an address names.
 pub enum AddressKind {
@@ -12,6 +12,8 @@ pub enum AddressKind {
     Virtual,
     // The elements that listen to a group.
     Group,
+    // Nobody yet: groups that are kept for later use.
+    Reserved,
 }
 
 // The kind of an address, by its range.
@@ -22,7 +24,9 @@ pub fn kind(address: u16) -> AddressKind
         0x0000 => AddressKind::Unassigned,
         0x0001..=0x7FFF => AddressKind::Unicast,
         0x8000..=0xBFFF => AddressKind::Virtual,
-        0xC000..=0xFFFF => AddressKind::Group,
+        0xC000..=0xFEFF => AddressKind::Group,
+        0xFF00..=0xFFFB => AddressKind::Reserved,
+        0xFFFC..=0xFFFF => AddressKind::Group,
     }
 }
 
@@ -35,6 +39,7 @@ fn unicast(kind: AddressKind) -> bool
         AddressKind::Unicast => true,
         AddressKind::Virtual => false,
         AddressKind::Group => false,
+        AddressKind::Reserved => false,
     }
 }
 
@@ -43,6 +48,16 @@ pub fn is_unicast(address: u16) -> bool
     ensures { λ r. ⌜ r ≡ isUnicast address ⌝ }
 {
     unicast(kind(address))
+}
+
+// Whether an address is reserved.
+pub fn is_reserved(address: u16) -> bool
+    ensures { λ r. ⌜ r ≡ isReserved address ⌝ }
+{
+    if let AddressKind::Reserved = kind(address) {
+        return true;
+    }
+    false
 }
 
 // Whether a DST may be of this kind.
@@ -54,6 +69,7 @@ fn destination(ctl: bool, kind: AddressKind) -> bool
         AddressKind::Unicast => true,
         AddressKind::Virtual => !ctl,
         AddressKind::Group => true,
+        AddressKind::Reserved => true,
     }
 }
 

@@ -2,6 +2,7 @@
 -- Assumes nothing.
 --   local-low, local-near, local-far     whether an address is local, by its place behind the first
 --   local-within, local-bounds           it is where it lies among the elements', and nowhere else
+--   answers-..                           whether the node answers to it
 --   for-..                               whether a PDU is for this node
 use mathlib.Core.Bool.{Bool, true, false}
 use mathlib.Core.Path.{_≡_, refl}
@@ -10,8 +11,9 @@ use native.Mathlib.Omega.{arith}
 use borrow.Author.Tests.{lt-ltb, le-ltb, le-leb, lt-leb, ltb-true, ltb-false, leb-true, eq-eqb, ne-eqb}
 use lib.Dec.{leb, ltb}
 use Rattle.common.proofs.Tests.{by-test, and-first, and-second}
+use Rattle.network.specs.Address.{isReserved}
 use Rattle.node.specs.declared.addresses.Node.{Node}
-use Rattle.node.specs.Addresses.{elementPlaces, isLocal, listens, forNode}
+use Rattle.node.specs.Addresses.{elementPlaces, isLocal, listens, answersTo, forNode}
 
 module _ (node : Node) (a : ℕ) where
   -- the address is below the first element's
@@ -45,27 +47,37 @@ module _ (node : Node) (a : ℕ) where
       let end = node .first + min (node .elements) elementPlaces in
       (leb-true (node .first) a (and-first (leb (node .first) a) _ t), ltb-true a end (and-second (leb (node .first) a) _ t))
 
-  -- ---- whether a PDU is for this node
+  -- ---- whether the node answers to it
   module _ {b : Bool} (e : b ≡ isLocal node a) where
-    pub for-local : b ≡ true → true ≡ forNode node a
-    unfolding forNode
-    for-local t = simp (← e, t)
+    pub answers-local : b ≡ true → true ≡ answersTo node a
+    unfolding answersTo
+    answers-local t = simp (← e, t)
 
     module _ (f : b ≡ false) where
-      pub for-all : a ≡ 0xFFFF → true ≡ forNode node a
-      unfolding forNode
-      for-all h = simp (← e, f, eq-eqb a 0xFFFF h)
+      pub answers-all : a ≡ 0xFFFF → true ≡ answersTo node a
+      unfolding answersTo
+      answers-all h = simp (← e, f, eq-eqb a 0xFFFF h)
 
       module _ (n : a ≡ 0xFFFF → ⊥) where
-        pub for-relays : a ≡ 0xFFFE → node .relay ≡ true → true ≡ forNode node a
-        unfolding forNode
-        for-relays h t = simp (← e, f, ne-eqb a 0xFFFF n, eq-eqb a 0xFFFE h, t)
+        pub answers-relays : a ≡ 0xFFFE → node .relay ≡ true → true ≡ answersTo node a
+        unfolding answersTo
+        answers-relays h t = simp (← e, f, ne-eqb a 0xFFFF n, eq-eqb a 0xFFFE h, t)
 
         module _ {l : Bool} (q : l ≡ listens node a) where
-          pub for-listener : (a ≡ 0xFFFE → ⊥) → l ≡ forNode node a
-          unfolding forNode
-          for-listener h = simp (← e, f, ne-eqb a 0xFFFF n, ne-eqb a 0xFFFE h, ← q)
+          pub answers-listened : (a ≡ 0xFFFE → ⊥) → l ≡ answersTo node a
+          unfolding answersTo
+          answers-listened h = simp (← e, f, ne-eqb a 0xFFFF n, ne-eqb a 0xFFFE h, ← q)
 
-          pub for-listener-only : a ≡ 0xFFFE → node .relay ≡ false → l ≡ forNode node a
-          unfolding forNode
-          for-listener-only h r = simp (← e, f, ne-eqb a 0xFFFF n, eq-eqb a 0xFFFE h, r, ← q)
+          pub answers-listened-only : a ≡ 0xFFFE → node .relay ≡ false → l ≡ answersTo node a
+          unfolding answersTo
+          answers-listened-only h r = simp (← e, f, ne-eqb a 0xFFFF n, eq-eqb a 0xFFFE h, r, ← q)
+
+  -- ---- whether a PDU is for this node
+  module _ {s : Bool} (e : s ≡ isReserved a) where
+    pub for-reserved : s ≡ true → false ≡ forNode node a
+    unfolding forNode
+    for-reserved t = simp (← e, t)
+
+    pub for-answered : s ≡ false → {b : Bool} → b ≡ answersTo node a → b ≡ forNode node a
+    unfolding forNode
+    for-answered f q = rw (← e, f) q

@@ -2,12 +2,12 @@
 use mathlib.Core.Path.{_≡_, ap, _∙_}
 use Prim.Native.Nat.{ℕ}
 use Rattle.node.specs.declared.addresses.Node.{Node}
-use Rattle.node.specs.Addresses.{isLocal, listens, forNode}
+use Rattle.node.specs.Addresses.{isLocal, listens, answersTo, forNode}
 use Rattle.node.specs.Index.{Index, indexOf, withIndex, SameFixed, SameIndex}
 
 pub same-node : (a b : Node) → SameFixed a b → SameIndex a b → a ≡ b
 same-node a b f i = ap (λ (x : Node). withIndex x (indexOf a)) f ∙ ap (λ (x : Index). withIndex b x) i
 
 pub for-fixed : (a b : Node) → SameFixed a b → (address : ℕ) → forNode a address ≡ forNode b address
-unfolding forNode isLocal listens
+unfolding answersTo forNode isLocal listens
 for-fixed a b f address = ap (λ (x : Node). forNode x address) f

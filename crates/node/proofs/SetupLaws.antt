@@ -135,12 +135,18 @@ module _ (s : Setup) where
           most = λ i h. rw (getD-tab (nextAt s) elementPlaces i 0 (omega (arith, h, e8))) (next-used q i h);
         }
 
+-- ---- what setup makes
+made-valid : (s : Setup) → making s .ok ≡ true → valid s ≡ true
+unfolding making
+made-valid s e = by-test (valid s) (λ t. t) (λ t. absurd (false≢true (rw t at e)))
+
 pub makes-well : MakesWell
 unfolding making
-makes-well s e =
-    by-test (valid s)
-    (λ t. rw t (node-well-made s t, next-well s t))
-    (λ t. absurd (false≢true (rw t at e)))
+makes-well s e = let v = made-valid s e in rw v (node-well-made s v, next-well s v)
+
+-- it was given group addresses
+pub groups-given : (s : Setup) → making s .ok ≡ true → (i : ℕ) → i < s .listened → isGroup (getD (s .groups) i 0) ≡ true
+groups-given s e i h = every-each isGroup (s .listened) (s .groups) (groups-allowed s (parts s (made-valid s e) .2) .1) i 0 h
 
 pub local-is-unicast : LocalIsUnicast
 local-is-unicast node w a e =

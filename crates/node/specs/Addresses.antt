@@ -1,11 +1,13 @@
--- Which addresses a node answers to (document 01, "The Network PDU").
---   isLocal node a    a is a local unicast address
---   listens node a    a is a group listened to
---   forNode node a    a PDU to a is for this node
-use mathlib.Core.Bool.{Bool, _&&_, _||_}
+-- Which addresses a node answers to (document 01, "The Network PDU"; document 02, W2).
+--   isLocal node a     a is a local unicast address
+--   listens node a     a is a group listened to
+--   answersTo node a   a is either, or a fixed group
+--   forNode node a     a PDU to a is for this node
+use mathlib.Core.Bool.{Bool, _&&_, _||_, not}
 use Prim.Native.Nat.{ℕ, _+_, min}
 use lib.Dec.{eqb, leb, ltb}
 use Rattle.common.specs.Search.{first}
+use Rattle.network.specs.Address.{isReserved}
 use Rattle.node.specs.declared.addresses.Node.{Node}
 
 -- how many elements there can be, and group addresses listened to
@@ -24,5 +26,9 @@ unfoldable pub listens : Node → ℕ → Bool
 listens node a = ltb (first (λ g. eqb g a) (node .groups)) (min (node .listened) groupPlaces)
 
 -- a local unicast address, 0xFFFF, 0xFFFE with relay on, or a group listened to
+unfoldable pub answersTo : Node → ℕ → Bool
+answersTo node a = isLocal node a || (eqb a 0xFFFF || ((eqb a 0xFFFE && node .relay) || listens node a))
+
+-- such an address, and not reserved, whatever the groups and elements are
 unfoldable pub forNode : Node → ℕ → Bool
-forNode node a = isLocal node a || (eqb a 0xFFFF || ((eqb a 0xFFFE && node .relay) || listens node a))
+forNode node a = not (isReserved a) && answersTo node a

@@ -15,7 +15,7 @@ use Rattle.common.specs.Search.{first}
 use Rattle.keys.specs.declared.NetworkKeys.{NetworkKeys}
 use Rattle.keys.specs.Derivation.{k2, k4}
 use Rattle.network.specs.declared.address.AddressKind.{AddressKind}
-use Rattle.network.specs.declared.address.AddressKind.the-variants.{Unassigned, Unicast, Virtual, Group}
+use Rattle.network.specs.declared.address.AddressKind.the-variants.{Unassigned, Unicast, Virtual, Group, Reserved}
 use Rattle.network.specs.Address.{kindOf}
 use Rattle.network.specs.Candidates.{networkKeyPlaces}
 use Rattle.transport.specs.declared.securing.ApplicationKey.{ApplicationKey}
@@ -162,6 +162,7 @@ groupKind Unassigned = false
 groupKind Unicast = false
 groupKind Virtual = false
 groupKind Group = true
+groupKind Reserved = false
 
 abbrev pub isGroup : ℕ → Bool
 isGroup a = groupKind (kindOf a)

@@ -2,7 +2,7 @@
 use keys::NetworkKeys;
 use transport::securing::ApplicationKey;
 ghost use mathlib.Core.Path.{_≡_};
-ghost use Rattle.node.specs.Addresses.{isLocal, listens, forNode};
+ghost use Rattle.node.specs.Addresses.{isLocal, listens, answersTo, forNode};
 
 // How many elements there can be, and group addresses listened to.
 pub const ELEMENTS: usize = 8;
@@ -62,9 +62,9 @@ fn is_listened(node: Node, address: u16) -> bool
     false
 }
 
-// Whether a PDU to this DST is for this node.
-pub fn is_for(node: Node, dst: u16) -> bool
-    ensures { λ r. ⌜ r ≡ forNode node dst ⌝ }
+// Whether a DST is one that the node answers to.
+fn is_answered(node: Node, dst: u16) -> bool
+    ensures { λ r. ⌜ r ≡ answersTo node dst ⌝ }
 {
     if is_local(node, dst) {
         return true;
@@ -76,4 +76,14 @@ pub fn is_for(node: Node, dst: u16) -> bool
         return true;
     }
     is_listened(node, dst)
+}
+
+// Whether a PDU to this DST is for this node: never, where the DST is reserved.
+pub fn is_for(node: Node, dst: u16) -> bool
+    ensures { λ r. ⌜ r ≡ forNode node dst ⌝ }
+{
+    if network::address::is_reserved(dst) {
+        return false;
+    }
+    is_answered(node, dst)
 }

@@ -180,6 +180,7 @@ fn group(kind: AddressKind) -> bool
         AddressKind::Unicast => false,
         AddressKind::Virtual => false,
         AddressKind::Group => true,
+        AddressKind::Reserved => false,
     }
 }
 

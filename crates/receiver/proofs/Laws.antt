@@ -7,6 +7,7 @@
 --   Refusal   what a refusal leaves
 --   Fixed     what no call changes
 --   Outgoing  what hearing leaves of the outgoing message
+--   Sources   which sources have a session or a replay entry
 --   Fresh     what a receiver holds that setup made
 --   GiveUp    giving up a session
 pub mod Heard
@@ -17,5 +18,6 @@ pub mod After
 pub mod Refusal
 pub mod Fixed
 pub mod Outgoing
+pub mod Sources
 pub mod Fresh
 pub mod GiveUp

@@ -5,7 +5,7 @@ use mathlib.Core.Bool.{Bool, true, false, _&&_, not}
 use Prim.Native.Nat.{ℕ, min}
 use lib.Dec.{eqb, leb, ltb}
 use Rattle.network.specs.declared.address.AddressKind.{AddressKind}
-use Rattle.network.specs.declared.address.AddressKind.the-variants.{Unassigned, Unicast, Virtual, Group}
+use Rattle.network.specs.declared.address.AddressKind.the-variants.{Unassigned, Unicast, Virtual, Group, Reserved}
 use Rattle.network.specs.Address.{kindOf}
 use Rattle.network.specs.Candidates.{networkKeyPlaces}
 use Rattle.node.specs.declared.addresses.Node.{Node}
@@ -28,12 +28,13 @@ abbrev pub ttlAllowed : Ttl → Bool
 ttlAllowed Unnamed = true
 ttlAllowed (Named n) = not (eqb n 1) && leb n 127
 
--- refusal 4's rule, and not virtual
+-- refusal 4's rule, and neither virtual nor reserved
 abbrev pub sendableKind : AddressKind → Bool
 sendableKind Unassigned = false
 sendableKind Unicast = true
 sendableKind Virtual = false
 sendableKind Group = true
+sendableKind Reserved = false
 
 -- the element and the network key are there; DST and TTL may be sent to and with
 unfoldable pub requestAllowed : Node → Request → Bool

@@ -39,7 +39,7 @@ fn ttl_allowed(ttl: Ttl) -> bool
     }
 }
 
-// A DST is unicast or a group.
+// A DST is unicast or a group, and not reserved.
 fn sendable(kind: AddressKind) -> bool
     ensures { λ r. ⌜ r ≡ sendableKind kind ⌝ }
 {
@@ -48,6 +48,7 @@ fn sendable(kind: AddressKind) -> bool
         AddressKind::Unicast => true,
         AddressKind::Virtual => false,
         AddressKind::Group => true,
+        AddressKind::Reserved => false,
     }
 }
 

@@ -4,7 +4,7 @@
 --   walk-hearing     what holds of each such refusal, and of what a PDU leaves that passes, holds of the call
 --   heard-unopened   one that does not open is refused so
 --   heard-closed     and as its opening is
---   heard-again, heard-new   one that opens
+--   heard-again, heard-elsewhere, heard-new   one that opens: it is in the cache, not for this node, or taken by its form
 --   heard-forwarded, heard-kept   what it forwards
 use mathlib.Core.Bool.{Bool, true, false, _&&_, _||_}
 use mathlib.Core.List.{List}
@@ -35,6 +35,7 @@ use Rattle.receiver.specs.declared.state.Receiver.{Receiver}
 use Rattle.receiver.specs.Answer.{refusalNumber}
 use Rattle.receiver.specs.Hearing.{Outcome, outcome, refusedHeard, relayed, takenAs, taken, passed, uncached, openedAs, hearing}
 use Rattle.receiver.specs.State.{withCache}
+use Rattle.receiver.specs.Whole.{refusedAt}
 
 -- 16 and 1 to 5
 abbrev pub early : Refusal → Bool
@@ -138,6 +139,18 @@ module _ (r : Receiver) (pdu fwd msg : List ℕ) (wide : pduOctets ≤ length fw
     -- the trials are those of opening it, and those of its message
     pub network-is : hearing r pdu fwd msg .heard .network ≡ trials
     pub application-is : hearing r pdu fwd msg .heard .application ≡ t .answer .trials
+
+  -- it is new, and not for this node
+  pub heard-elsewhere : seen (r .cache) h ≡ false → forNode (r .node) (h .dst) ≡ false → Leaves (lent (refusedAt (caching r h) refusal.NotForNode 0) msg)
+  unfolding uncached passed taken
+  heard-elsewhere e f =
+      record {
+        answers = rw (heard-opened, e, f) refl;
+        left-is = rw (heard-opened, e, f) refl;
+        message-is = rw (heard-opened, e, f) refl;
+        network-is = rw (heard-opened, e) refl;
+        application-is = rw (heard-opened, e, f) refl;
+      }
 
   -- it is new, and for this node: it is taken by its form
   pub heard-new :

@@ -5,9 +5,11 @@
 --   whole-short                     a message that goes whole is short
 --   access-alone, control-alone     a segmented message is begun where none is kept
 --   sendable-allowed                a DST that may be sent to is one that may be sealed
+--   asked-spared                    and is not reserved
 --   segment-allowed, segment-allows   a segment is allowed where its tests pass, and there alone
 use mathlib.Core.Bool.{Bool, true, false, _||_, not, false≢true}
-use mathlib.Core.Path.{_≡_, refl}
+use mathlib.Core.Logic.{_⊎_, inl, inr, ⊎-elim}
+use mathlib.Core.Path.{_≡_, refl, ap}
 use Prim.Native.Nat.{ℕ, _+_, _≤_, _<_, min}
 use native.Mathlib.Omega.{arith}
 use borrow.Author.Tests.{eqb-true, ne-eqb, ltb-true, leb-true, le-leb}
@@ -17,7 +19,8 @@ use Rattle.common.proofs.Tests.{and-first, and-second}
 use Rattle.modes.specs.Ccm.{micOctets}
 use Rattle.network.specs.declared.address.AddressKind.{AddressKind}
 use Rattle.network.specs.declared.address.AddressKind.the-variants as address
-use Rattle.network.specs.Address.{kindOf, destinationKind}
+use Rattle.network.specs.Address.{kindOf, isReserved, destinationKind}
+use Rattle.network.proofs.AddressLaws.{not-reserved}
 use Rattle.network.specs.Candidates.{networkKeyPlaces}
 use Rattle.node.specs.declared.addresses.Node.{Node}
 use Rattle.transport.specs.declared.securing.MessageKey.{MessageKey}
@@ -144,12 +147,23 @@ control-alone r q opcode len a w =
     let e4 : leb len 11 || eqb (r .out .src) 0 ≡ true = and-second (leb len 256) _ e3 in
     eqb-true (r .out .src) 0 (rw w at e4)
 
--- ---- a DST that may be sent to passes refusal 4's rule
+-- ---- a DST that may be sent to
+only-sendable : (k : AddressKind) → sendableKind k ≡ true → (k ≡ address.Unicast) ⊎ (k ≡ address.Group)
+only-sendable address.Unassigned e = absurd (false≢true e)
+only-sendable address.Unicast e = inl refl
+only-sendable address.Virtual e = absurd (false≢true e)
+only-sendable address.Group e = inr refl
+only-sendable address.Reserved e = absurd (false≢true e)
+
+-- passes refusal 4's rule
 pub sendable-allowed : (k : AddressKind) (ctl : Bool) → sendableKind k ≡ true → destinationKind ctl k ≡ true
-sendable-allowed address.Unassigned ctl e = absurd (false≢true e)
-sendable-allowed address.Unicast ctl e = refl
-sendable-allowed address.Virtual ctl e = absurd (false≢true e)
-sendable-allowed address.Group ctl e = refl
+sendable-allowed k ctl e = ⊎-elim (ap (destinationKind ctl)) (ap (destinationKind ctl)) (only-sendable k e)
+
+-- and is not reserved
+pub asked-spared : {node : Node} {q : Request} → Asked node q → isReserved (q .dst) ≡ false
+asked-spared {q = q} a =
+    let k = kindOf (q .dst) in
+    ⊎-elim (λ e. not-reserved (q .dst) address.Unicast e refl) (λ e. not-reserved (q .dst) address.Group e refl) (only-sendable k (a .sendable))
 
 -- ---- a segment: a message is kept, it is one of it and not yet heard, and the SEQ is at most 8,191 after that of segment 0
 pub segment-allowed :

@@ -1,32 +1,15 @@
--- `address::kind` meets its contract: each arm is one case of `kindOf`, and its range says which tests before it fail.
+-- `address::kind` meets its contract: the tests before each arm and its own say that the address lies in the range of that kind.
 -- Assumes nothing.
+use mathlib.Core.Logic.{inl, inr}
+use mathlib.Core.Path.{sym}
 use native.Mathlib.Omega.{arith}
-use borrow.Author.Tests.{le-leb, lt-leb, eq-eqb, ne-eqb}
-use Rattle.network.specs.Address.{kindOf}
+use Rattle.network.specs.declared.address.AddressKind.the-variants.{Unassigned, Unicast, Virtual, Group, Reserved}
+use Rattle.network.proofs.AddressLaws.{kind-in}
 use Rattle.network.proofs.address.kind.Statement.{statement}
 use Rattle.network.proofs.address.kind.Tie as tie
 
-returns : tie.Need-returns
-unfolding kindOf
-returns c = simp (eq-eqb _ _ (c .match .keys1))
-
-returns-2 : tie.Need-returns-2
-unfolding kindOf
-returns-2 c =
-    let a = c .before .before .args .address in
-    simp (ne-eqb a 0 (c .before .match .rest .1), le-leb a 0x7FFF (omega arith))
-
-returns-3 : tie.Need-returns-3
-unfolding kindOf
-returns-3 c =
-    let a = c .before .before .before .args .address in
-    simp (ne-eqb a 0 (c .before .before .match .rest .1), lt-leb a 0x7FFF (omega arith), le-leb a 0xBFFF (omega arith))
-
-returns-4 : tie.Need-returns-4
-unfolding kindOf
-returns-4 c =
-    let a = c .before .before .before .args .address in
-    simp (ne-eqb a 0 (c .before .before .match .rest .1), lt-leb a 0x7FFF (omega arith), lt-leb a 0xBFFF (omega arith))
-
 pub kind-spec : {M : Type 1} → statement M
-kind-spec = tie.close (tie.spec returns returns-2 returns-3 returns-4)
+kind-spec =
+    tie.close (tie.spec
+    (λ c. sym (kind-in Unassigned _ (c .match .keys1))) (λ c. sym (kind-in Unicast _ (omega arith, omega arith))) (λ c. sym (kind-in Virtual _ (omega arith, omega arith)))
+    (λ c. sym (kind-in Group _ (inl (omega arith, omega arith)))) (λ c. sym (kind-in Reserved _ (omega arith, omega arith))) (λ c. sym (kind-in Group _ (inr (omega arith)))))

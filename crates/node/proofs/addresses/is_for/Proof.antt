@@ -1,31 +1,9 @@
--- `addresses::is_for` meets its contract: the tests before each return say which case of `forNode` it is; the last is reached with another address, or with
--- 0xFFFE and relay off. Assumes nothing.
-use mathlib.Core.Logic.{⊎-elim}
+-- `addresses::is_for` meets its contract: a reserved address is for no node, and any other where it is answered to.
+-- Assumes nothing.
 use borrow.Author.Needs.{needs}
-use Rattle.node.proofs.AddressesLaws.{for-local, for-all, for-relays, for-listener, for-listener-only}
+use Rattle.node.proofs.AddressesLaws.{for-reserved, for-answered}
 use Rattle.node.proofs.addresses.is_for.Statement.{statement}
 use Rattle.node.proofs.addresses.is_for.Tie as tie
 
-returns : tie.Need-returns
-returns c = for-local _ _ (c .before .is-local .ensures) (c .if1 .taken)
-
-returns-2 : tie.Need-returns-2
-returns-2 c = for-all _ _ (c .before .before .is-local .ensures) (c .before .if1 .left) (c .if2 .taken)
-
-returns-3 : tie.Need-returns-3
-returns-3 c =
-    let e = c .before .before .before in
-    for-relays _ _ (e .before .is-local .ensures) (e .if1 .left) (c .before .before .if2 .left) (c .before .if3 .taken) (c .if4 .taken)
-
-returns-4 : tie.Need-returns-4
-returns-4 c =
-    let n = c .before .before in
-    let a = n .before .before .before .args in
-    let e = n .before .before .is-local .ensures in
-    ⊎-elim
-    (λ w. for-listener-only (a .node) (a .dst) e (n .before .if1 .left) (n .if2 .left) (c .is-listened .ensures) (w .0 .taken) (w .1 .left))
-    (λ w. for-listener (a .node) (a .dst) e (n .before .if1 .left) (n .if2 .left) (c .is-listened .ensures) (w .left))
-    (c .before .if3 .came)
-
 pub is-for-spec : {M : Type 1} → statement M
-is-for-spec = tie.close (tie.spec (λ c κs. search needs) returns returns-2 returns-3 (λ c κs. search needs) returns-4)
+is-for-spec = tie.close (tie.spec (λ c κs. search needs) (λ c. search for-reserved) (λ c κs. search needs) (λ c. search for-answered))
