@@ -63,7 +63,8 @@ CASES = ("a later network key opens it", "several network keys fail", "under the
 ENDS = tuple(f"{address:04x}" for address in RESERVED)
 ABOUT = tuple(f"{address:04x} with CTL {ctl}" for address in ABOUT_RESERVED for ctl in (0, 1))
 BESIDE = ABOUT[:2] + ABOUT[-2:]
-MET = {"for this node": BESIDE, "not for this node": ABOUT, "asked to listen to": ENDS, "asked to send to": ENDS, "sent to": BESIDE}
+MET = {"for this node": BESIDE, "not for this node": ABOUT, "not for this node under AKF 0": ENDS, "asked to listen to": ENDS, "asked to send to": ENDS,
+       "asked to send to under the device key": ENDS, "sent to": BESIDE, "asked to acknowledge": ENDS}
 # The cases of Sensor Status: what a record is, what a list is as a whole, the counts about the ends of the ranges, and what needs no receiver.
 SENSED = {
     "a record": ("format A", "format A, at its longest", "format B", "format B, at its longest", "humidity above zero", "humidity of zero",

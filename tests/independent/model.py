@@ -152,6 +152,8 @@ class Receiver:
             forward.append(network.seal(self.networks[net], iv_index, *lower))
         ours = self.is_for_us(opened.dst)
         self.note(opened.dst in network.ABOUT_RESERVED, f"{'for' if ours else 'not for'} this node: {opened.dst:04x} with CTL {opened.ctl}")
+        akf = opened.transport[0] & 0x40
+        self.note(opened.dst in network.RESERVED and not opened.ctl and not akf, f"not for this node under AKF 0: {opened.dst:04x}")
         if not ours:
             raise Refusal(6, "DST " + kind(opened.dst))
         return self._taken(net, iv_index, opened, trials)

@@ -83,7 +83,7 @@ def acknowledge(world):
     dice = world.dice
     while True:
         known = [session.src for session in world.receiver.sessions if session] + [entry.src for entry in world.receiver.replay if entry.last]
-        src = dice.choice(known) if known and dice.random() < 0.8 else dice.choice((0, world.some_node().src, world.local(), 0xFFFF))
+        src = dice.choice(known) if known and dice.random() < 0.8 else dice.choice((0, world.some_node().src, world.local(), 0xFFFF, *RESERVED_GROUPS))
         net = dice.randrange(len(world.setup.net_keys)) if dice.random() < 0.9 else dice.choice((len(world.setup.net_keys), 4, 0xFF))
         yield f"ack {net:x} {src:x}"
 

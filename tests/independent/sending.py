@@ -72,6 +72,7 @@ def _start(receiver, element, net, ctl, ttl, dst, segments):
 def access(receiver, room, element, dst, ttl, net, key, mic, payload):
     """An access message under an application key, or the device key where key is None. Gives the PDU, and the number of segments or None."""
     _need_room(room)
+    receiver.note(key is None and dst in network.RESERVED, f"asked to send to under the device key: {dst:04x}")
     ttl = _common(receiver, element, dst, ttl, net)
     if key is None:
         _allow(kind(dst) != "unicast", "the device key to no unicast address")
@@ -126,6 +127,7 @@ def acknowledge(receiver, room, net, src):
     """The acknowledgement of a source's open session, else of its last segmented message handed up."""
     _need_room(room)
     _allow(net >= len(receiver.networks), "no such network key")
+    receiver.note(src in network.RESERVED, f"asked to acknowledge: {src:04x}")
     slot, entry = receiver.slot_of(src), receiver.entry_of(src)
     if slot is not None:
         session = receiver.sessions[slot]
