@@ -40,7 +40,9 @@ uint32_t gorephan_credentials(const uint8_t *key, size_t key_len, uint8_t *out, 
  *   out            29 octets or more
  * Refusals, in this order: 16 out is shorter than 29; 1 length not 14 to 29; 2 no credential with that NID, or no IV Index of 0 or more fits IVI;
  * 3 none of them authenticates the PDU; 4 an address is not allowed: src is not unicast, dst is 0, or virtual where CTL is 1. A dst that is a
- * reserved group, 0xFF00 to 0xFFFB, is allowed, for a relay must open and seal such a PDU. */
+ * reserved group, 0xFF00 to 0xFFFB, is allowed, for a relay must open and seal such a PDU.
+ * Nothing is remembered. A caller that keeps a cache of its own compares SRC, SEQ and the IV Index under which the PDU was opened: iv_index where
+ * bit 7 of octet 0 is its lowest bit, else the one before it. SEQs start again under another. */
 uint32_t gorephan_open(const uint8_t *credentials, size_t credentials_len, uint32_t iv_index, const uint8_t *pdu, size_t pdu_len, uint8_t *out,
                        size_t out_len);
 

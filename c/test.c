@@ -1,5 +1,6 @@
-/* Tests the archive from C: MP's Network PDUs and some to reserved groups both ways, edge lengths and TTLs, every refusal with the buffer untouched,
- * and random PDUs, whole and damaged. Prints what it counted; exits 1 at the first thing that is not as it should be. */
+/* Tests the archive from C: MP's Network PDUs, some to reserved groups and some of one SRC and SEQ under two IV Indexes both ways, edge lengths and
+ * TTLs, every refusal with the buffer untouched, and random PDUs, whole and damaged. Prints what it counted; exits 1 at the first thing that is not
+ * as it should be. */
 #include "gorephan.h"
 #include "pdus.h" /* made by tests/c/make_pdus.py */
 #include <stdio.h>
@@ -105,11 +106,17 @@ static void will_not_seal(const uint8_t *credential, size_t credential_len, cons
     check(untouched(out, 0, 40), "a refusal writes nothing");
 }
 
-/* A PDU made elsewhere: sealed to the same octets, and opened. */
-static void both_ways(const struct mp_pdu *m)
+static struct header header_of(const struct mp_pdu *m)
 {
     struct header h = {m->iv_index, m->ctl, m->ttl, m->seq, m->src, m->dst, m->transport_len, {0}};
     memcpy(h.transport, m->transport, h.len);
+    return h;
+}
+
+/* A PDU made elsewhere: sealed to the same octets, and opened. */
+static void both_ways(const struct mp_pdu *m)
+{
+    const struct header h = header_of(m);
     uint8_t out[40];
     check(seal(m->credential, &h, out) == (uint32_t)m->pdu_len << 16, m->name);
     check(memcmp(out, m->pdu, m->pdu_len) == 0, m->name);
@@ -134,6 +141,21 @@ static void reserved_groups(void)
 {
     for (size_t i = 0; i < sizeof reserved_pdus / sizeof reserved_pdus[0]; i++)
         both_ways(&reserved_pdus[i]);
+}
+
+/* One SRC and SEQ under the IV Index before and under the current one: both are opened, as the same header but for IVI in octet 0, by which a caller
+ * that remembers what it heard tells them apart. A copy is opened, too, since nothing is remembered here. */
+static void under_both_indexes(void)
+{
+    static const size_t n = sizeof twice_pdus / sizeof twice_pdus[0];
+    for (size_t i = 0; i < 2 * n; i++) {
+        const struct mp_pdu *m = &twice_pdus[i % n], *other = &twice_pdus[i % n ^ 1];
+        both_ways(m);
+        struct header h = header_of(other);
+        check(m->iv_index != h.iv_index && m->pdu[0] == (other->pdu[0] ^ 0x80), "the other IV Index, the other IVI");
+        h.iv_index = 0x12345678; /* the greater of the two */
+        opens(m->credential, 33, &h, m->pdu, m->pdu_len, 1, 0);
+    }
 }
 
 static void edges(const uint8_t *credential)
@@ -253,10 +275,11 @@ int main(void)
     static const uint8_t credential[33] = MP_CREDENTIAL;
     samples();
     reserved_groups();
+    under_both_indexes();
     edges(credential);
     every_refusal(credential);
     at_random();
-    printf("%zu samples of MP, %zu PDUs to reserved groups, 10000 random PDUs, %u checks\n", sizeof mp_pdus / sizeof mp_pdus[0],
-           sizeof reserved_pdus / sizeof reserved_pdus[0], checks);
+    printf("%zu samples of MP, %zu PDUs to reserved groups, %zu under two IV Indexes, 10000 random PDUs, %u checks\n",
+           sizeof mp_pdus / sizeof mp_pdus[0], sizeof reserved_pdus / sizeof reserved_pdus[0], sizeof twice_pdus / sizeof twice_pdus[0], checks);
     return 0;
 }

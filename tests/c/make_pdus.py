@@ -1,10 +1,10 @@
-"""Writes pdus.h for c/test.c: every Network PDU of vectors/mp_samples.json with its parts, PDUs to reserved groups, and PDUs with addresses
-that are not allowed.
+"""Writes pdus.h for c/test.c: every Network PDU of vectors/mp_samples.json with its parts, PDUs to reserved groups, PDUs with one SRC and SEQ
+under two IV Indexes, and PDUs with addresses that are not allowed.
 
   python3 tests/c/make_pdus.py > pdus.h
 
-MP has no sample to a reserved group, and no function of ours seals an address that is not allowed, so those PDUs are sealed here, by OpenSSL
-(python3-cryptography), from MP 3.4.
+MP has no sample to a reserved group and none of the two IV Indexes, and no function of ours seals an address that is not allowed, so those PDUs
+are sealed here, by OpenSSL (python3-cryptography), from MP 3.4.
 """
 import json
 from pathlib import Path
@@ -57,6 +57,12 @@ def main():
         for ctl in (0, 1):
             said = credential(FIRST), 0x12345678, ctl, 5, 78, 0x0001, dst, b"\x01\x02\x03"
             print(row(f"DST {dst:04x} with CTL {ctl}", *said, sealed(*said)))
+    print("};")
+    print("static const struct mp_pdu twice_pdus[] = {")
+    for ctl in (0, 1):
+        for iv_index in (0x12345677, 0x12345678):
+            said = credential(FIRST), iv_index, ctl, 5, 0, 0x0001, 0x1201, b"\x01\x02\x03"
+            print(row(f"SEQ 000000 under IV Index {iv_index:08x} with CTL {ctl}", *said, sealed(*said)))
     print("};")
     print("static const struct { const char *name; uint32_t iv_index; size_t pdu_len; uint8_t pdu[29]; } unallowed[] = {")
     for name, ctl, src, dst in (("SRC unassigned", 0, 0x0000, 0x0001), ("SRC virtual", 0, 0x8000, 0x0001), ("SRC a group", 1, 0xC000, 0x0001),

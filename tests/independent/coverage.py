@@ -1,6 +1,7 @@
 """Which kinds of answer the fixed seeds must reach: every refusal of the documents by its reasons, from every operation, and every other answer."""
 import textwrap
 
+from model import AGAIN
 from network import ABOUT_RESERVED, RESERVED
 from sensor import EDGES
 
@@ -58,13 +59,17 @@ CASES = ("a later network key opens it", "several network keys fail", "under the
          "joins though the entry is newer", "replaces an older session", "completes with SegN 0", "completes with SegN 31",
          "completes with a segment before the last", "acknowledges the open session", "acknowledges the last message handed up",
          "sends a segment 8,191 after the first", "has no SEQ left 8,191 after the first", "has no SEQ left 8,192 after the first",
-         "names a property that was forgotten")
+         "names a property that was forgotten", "SEQ 0 of IV Index 0 is in the cache")
 # Where the first and the last of the reserved groups must be met, and the groups beside them, which are listened to and sent to.
 ENDS = tuple(f"{address:04x}" for address in RESERVED)
 ABOUT = tuple(f"{address:04x} with CTL {ctl}" for address in ABOUT_RESERVED for ctl in (0, 1))
 BESIDE = ABOUT[:2] + ABOUT[-2:]
 MET = {"for this node": BESIDE, "not for this node": ABOUT, "not for this node under AKF 0": ENDS, "asked to listen to": ENDS, "asked to send to": ENDS,
        "asked to send to under the device key": ENDS, "sent to": BESIDE, "asked to acknowledge": ENDS}
+# A PDU whose SRC and SEQ are in the cache under the other IV Index: handed up or stored under this one after the one before, replayed the other way
+# round, not for this node either way; and, with both in the cache, a copy of one of them.
+TWICE = {AGAIN: tuple(case + behind for case in ("heard", "stored", "not for this node", "replayed") for behind in ("", ", forwarded"))
+         + ("a copy of either is in the cache",)}
 # The cases of Sensor Status: what a record is, what a list is as a whole, the counts about the ends of the ranges, and what needs no receiver.
 SENSED = {
     "a record": ("format A", "format A, at its longest", "format B", "format B, at its longest", "humidity above zero", "humidity of zero",
@@ -90,7 +95,7 @@ def required():
     for word, table in ASKED.items():
         kinds += _refusals(table, word)
     kinds += list(DONE) + [f"unread: {why}" for why in UNREAD] + list(CASES)
-    return kinds + [f"{what}: {case}" for table in (MET, SENSED) for what, cases in table.items() for case in cases]
+    return kinds + [f"{what}: {case}" for table in (MET, TWICE, SENSED) for what, cases in table.items() for case in cases]
 
 
 def _groups(kinds):

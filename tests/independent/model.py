@@ -22,6 +22,9 @@ Acknowledged = namedtuple("Acknowledged", "src bits effect")
 Refused = namedtuple("Refused", "number why")
 # What hearing gives: one of the above, the two trial counts, and the forwarded PDU or None.
 Heard = namedtuple("Heard", "answer trials forward")
+# What the cache keeps of a PDU: document 02 has, beside SRC and SEQ, the IV Index under which it was opened.
+Seen = namedtuple("Seen", "src seq iv_index")
+AGAIN = "same SRC and SEQ under the other index"
 
 
 class Refusal(Exception):
@@ -127,12 +130,29 @@ class Receiver:
     # Hearing
 
     def hear(self, pdu, forward_room, message_room):
-        trials, forward = [0, 0], []
+        trials, forward, before = [0, 0], [], self.cache
         try:
             answer = self._heard(pdu, forward_room, message_room, trials, forward)
         except Refusal as refusal:
             answer = Refused(refusal.number, refusal.why)
+        if self.cache is not before:
+            self._note_again(before, self.cache[-1], answer, ", forwarded" if forward else "")
         return Heard(answer, tuple(trials), forward[0] if forward else None)
+
+    def _note_again(self, before, seen, answer, behind):
+        """Notes what became of a PDU that went into the cache, where its SRC and SEQ stood there before under the other IV Index."""
+        if not any(other[:2] == seen[:2] for other in before):
+            return
+        now = seen.iv_index == self.setup.iv_index
+        match answer:
+            case Access() | Control():
+                self.note(now, f"{AGAIN}: heard{behind}")
+            case Stored():
+                self.note(now, f"{AGAIN}: stored{behind}")
+            case Refused(number=6):
+                self.note(True, f"{AGAIN}: not for this node{behind}")
+            case Refused(number=9):
+                self.note(not now, f"{AGAIN}: replayed{behind}")
 
     def _heard(self, pdu, forward_room, message_room, trials, forward):
         if forward_room < network.LONGEST:
@@ -144,9 +164,12 @@ class Receiver:
             raise Refusal(4, "SRC " + kind(opened.src))
         if opened.dst == 0 or opened.ctl and kind(opened.dst) == "virtual":
             raise Refusal(4, "DST " + kind(opened.dst))
-        if (opened.src, opened.seq) in self.cache:
+        seen = Seen(opened.src, opened.seq, iv_index)
+        if seen in self.cache:
+            self.note(sum(other[:2] == seen[:2] for other in self.cache) > 1, f"{AGAIN}: a copy of either is in the cache")
+            self.note(seen[1:] == (0, 0), "SEQ 0 of IV Index 0 is in the cache")
             raise Refusal(5, "in the cache")
-        self.cache = self.cache[-CACHE + 1:] + [(opened.src, opened.seq)]
+        self.cache = self.cache[-CACHE + 1:] + [seen]
         if self.setup.relay and opened.ttl >= 2 and not self.is_local(opened.dst):
             lower = opened._replace(ttl=opened.ttl - 1)
             forward.append(network.seal(self.networks[net], iv_index, *lower))

@@ -30,6 +30,11 @@ class Script:
         self.steps.append(Step(line, answers, (self.console.why, *self.console.notes)))
         return answers
 
+    def set_up(self, setup, dice):
+        """Sets up with room enough, whatever odd lines have left: the first setup takes that away."""
+        for line in [b"setup"] + setup_lines(setup, dice) + [b"room 1d 180"]:
+            self.say(line)
+
     def hear(self, pdu):
         self.say(b"hear " + (pdu.hex().encode() or b"-"))
 
@@ -101,14 +106,25 @@ class Stage:
 
     def flood(self, start):
         """One segment sent until over 8,191 numbers have passed since the message began."""
-        setup = replace(self.world.setup, seqs=[start])
-        # the first setup takes away what odd lines have left
-        for line in [b"setup"] + setup_lines(setup, self.dice) + [b"room 1d 180", b"control 0 1 - 0 1 " + b"00" * 12]:
-            self.script.say(line)
+        self.script.set_up(replace(self.world.setup, seqs=[start]), self.dice)
+        self.script.say(b"control 0 1 - 0 1 " + b"00" * 12)
         for _ in range(8193):
             self.script.say("segment 1")
         for line in ("show", "segment 0", "stop", "control 0 1 - 0 1 -"):
             self.script.say(line)
+
+
+def begin_again(script, dice, count=60):
+    """A receiver whose sources begin their SEQs again under the other IV Index, and a node that talks; its dice are its own."""
+    setup = setup_of(dice)
+    script.set_up(replace(setup, iv_index=dice.choice((1, 1, 2, 0xFFFFFFFF, max(setup.iv_index, 1)))), dice)
+    world = World(dice, script.console)
+    again, other = traffic.begun_again(world), traffic.talk(world)
+    for _ in range(count):
+        script.hear(next(again if dice.random() < 0.8 else other))
+        if dice.random() < 0.05:
+            script.say("show")
+    script.say("show")
 
 
 def made(seed, worlds=3, count=530):
@@ -125,4 +141,5 @@ def made(seed, worlds=3, count=530):
         script.say("show")
     if seed % FLOODS == 0:
         stage.flood(STARTS[seed // FLOODS % len(STARTS)])
+    begin_again(script, random.Random(f"begin again {seed}"))
     return script.steps

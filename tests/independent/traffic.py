@@ -3,6 +3,8 @@
 An actor reads the receiver's state where it aims at something (a segment that differs from an open session, an acknowledgement that fits);
 what it makes comes from the world's nodes.
 """
+from itertools import chain, zip_longest
+
 import transport
 from ciphers import k2, k4
 from model import Terms
@@ -319,6 +321,26 @@ def answers(world):
         zero = out.auth[1] % WINDOW if dice.random() < 0.85 else dice.randrange(WINDOW)
         dst = out.src if dice.random() < 0.8 else world.destination()
         yield node.say(1, world.ttl(), dst, transport.acknowledgement(dice.randint(0, 1), zero, bits, dice.randrange(4)))
+
+
+def begun_again(world):
+    """Sources whose SEQs start again: a message under each of the two IV Indexes, both begun with one SEQ, the one behind the other or PDU by PDU.
+
+    Copies stand between. There must be an IV Index before the receiver's.
+    """
+    dice, now = world.dice, world.setup.iv_index
+    while True:
+        node, spoken = world.node(), []
+        start = min(node.seq, 0xFFFF00)
+        for index in dice.choice(((now - 1, now), (now - 1, now), (now, now - 1))):
+            node.index, node.seq = index, start
+            ctl, dst, parts = message(world, node)
+            spoken.append([node.say(ctl, world.ttl(), dst, octets, seq) for seq, octets in parts[:dice.choice((1, 2, 32))]])
+        pdus = list(chain(*spoken)) if dice.random() < 0.5 else [pdu for both in zip_longest(*spoken) for pdu in both if pdu]
+        for at, pdu in enumerate(pdus):
+            yield pdu
+            if dice.random() < 0.3:
+                yield dice.choice(pdus[max(at - 3, 0):at + 1])
 
 
 ACTORS = (late, crowd, openers, joined, again, lasts, longest, noise, addresses, forms, answers)

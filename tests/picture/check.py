@@ -1,5 +1,5 @@
-"""Checks bin/picture on logs of the console: a row for each PDU heard, a new box for each segment stored, a row for each message read with a
-cell for each of its records, and a clear word for wrong input.
+"""Checks bin/picture on logs of the console: a row for each PDU heard, a new box for each segment stored, a name of its own for each message, a
+row for each message read with a cell for each of its records, and a clear word for wrong input.
 
   python3 tests/picture/check.py
 
@@ -27,6 +27,8 @@ SVG = "{http://www.w3.org/2000/svg}"
 KINDS = {"refused": "refused", "stored": "stored", "repeat": "repeat", "access": "handed", "control": "handed", "acknowledgement": "acknowledged"}
 # A record in an answer to `readings`: its property, and a number of a kind, a word, or octets.
 RECORD = re.compile(r"\b(\w{4}) (?:(humidity|temperature) (\S+) \w{16}|(unknown|prohibited)|raw (\S+))")
+# What an answer to `hear` says of a message: its source, IV Index and SEQ.
+HEARD = re.compile(r" src (\w+) .*?iv (\w+) (?:auth|seq) (\w+)")
 UNITS, JUDGED = {"humidity": "%", "temperature": "°C"}, {"unknown": "not known", "prohibited": "prohibited"}
 # So much of a line a letter takes at least.
 LETTER = 6.5
@@ -166,6 +168,26 @@ def check_readings(steps, drawn):
     return count
 
 
+def messages_heard(steps):
+    """Line and message of each answer that names one: which setup, its source, the IV Index, and SEQ of SeqAuth."""
+    setups = 0
+    for at, step in enumerate(steps, 1):
+        setups += step.answers == ["ready"]
+        found = step.line.startswith(b"hear ") and HEARD.search(step.answers[0])
+        if found and not step.answers[0].startswith("acknowledgement"):
+            yield str(at), (setups, *found.groups())
+
+
+def check_names(steps, drawn):
+    """No two messages of a source have one name, though SEQs start again under another IV Index."""
+    names = {}
+    words = {texts[0].text: texts[1].text for texts in (group.findall(f"{SVG}text") for group in drawn.findall(f"{SVG}g"))}
+    for line, message in messages_heard(steps):
+        named = re.search(r"from (\w+), message (\w+(?: under \w+)?)", words[line])
+        key = (message[0], *named.groups())
+        must(names.setdefault(key, message) == message, f"line {line}: {named[0]} is {names[key]} and {message}")
+
+
 def check_legend(drawn):
     """No words over the rows are cut off at the right."""
     for text in drawn.findall(f"{SVG}text"):
@@ -232,6 +254,7 @@ def main():
                 drawn = xml.fromstring(run.stdout)
                 check_legend(drawn)
                 rows += check_rows(steps, drawn)
+                check_names(steps, drawn)
                 cells += check_readings(steps, drawn)
                 wrong_uses = check_refusals(folder, text, answers)
     except Wrong as wrong:

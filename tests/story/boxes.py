@@ -7,6 +7,7 @@ from ciphers import k2, k4
 NETWORK_KEY = bytes.fromhex("7dd7364cd842ad18c17c2b820c84c3d6")
 APPLICATION_KEY = bytes.fromhex("63964771734fbd76e3b40519d1d94a48")
 IV_INDEX = 0x12345678
+INDEXES = {"before": IV_INDEX - 1, "now": IV_INDEX}
 STATION, TTL = 0x0001, 5
 
 # Sensor Status of the Mesh Model, and the properties of the two kinds of readings.
@@ -33,27 +34,34 @@ def status(of, *values):
 
 
 class Box:
-    """A node beside the station. It begins its long message, if it has one, with the SEQ `start`; segment N is first sent with `start` + N."""
+    """A node beside the station. It begins its long message, if it has one, with the SEQ `start`; segment N is first sent with `start` + N.
 
-    def __init__(self, src, start, payload=b""):
-        self.src, self.start = src, start
+    A box whose SEQ starts again with the IV Index has a first reading before and one now.
+    """
+
+    def __init__(self, src, start, payload=b"", firsts=()):
+        self.src, self.start, self.firsts = src, start, dict(firsts)
         self.segments, self.latest, self.said = [], {}, []
         if payload:
             upper = self._secured(start, STATION, payload)
             self.segments = transport.cut(0, 0x40 | k4(APPLICATION_KEY), 0, start, upper)
         self.next = start + len(self.segments)
 
-    def _secured(self, seq, dst, payload):
-        return transport.secure(APPLICATION_KEY, False, 4, seq, self.src, dst, IV_INDEX, payload)
+    def _secured(self, seq, dst, payload, index=IV_INDEX):
+        return transport.secure(APPLICATION_KEY, False, 4, seq, self.src, dst, index, payload)
 
     def _take(self):
         self.next += 1
         return self.next - 1
 
-    def _sealed(self, ttl, seq, dst, octets):
-        pdu = network.seal(k2(NETWORK_KEY), IV_INDEX, 0, ttl, seq, self.src, dst, octets)
+    def _sealed(self, ttl, seq, dst, octets, index=IV_INDEX):
+        pdu = network.seal(k2(NETWORK_KEY), index, 0, ttl, seq, self.src, dst, octets)
         self.said.append(pdu)
         return pdu
+
+    def _short(self, ttl, seq, dst, payload, index=IV_INDEX):
+        """A message that is whole in one PDU."""
+        return self._sealed(ttl, seq, dst, bytes([0x40 | k4(APPLICATION_KEY)]) + self._secured(seq, dst, payload, index), index)
 
     def segment(self, place, how=""):
         """A segment of the long message: as first sent, resent under a new SEQ, relayed (the latest, its TTL one lower), or forged."""
@@ -67,9 +75,13 @@ class Box:
 
     def status(self, ttl, dst):
         """A short message, whole in one PDU: the wind's force, which grows from 3 on."""
-        seq = self._take()
-        payload = WIND_STATUS + bytes([3 + len(self.said)])
-        return self._sealed(ttl, seq, dst, bytes([0x40 | k4(APPLICATION_KEY)]) + self._secured(seq, dst, payload))
+        return self._short(ttl, self._take(), dst, WIND_STATUS + bytes([3 + len(self.said)]))
+
+    def first(self, when, how=""):
+        """Its first reading under the IV Index before or under the one now, each with the SEQ `start`; or relayed, its TTL one lower."""
+        if when not in self.firsts or how not in ("", "relayed"):
+            raise Unknown(f"first {when} {how}")
+        return self._short(TTL - (how == "relayed"), self.start, STATION, self.firsts[when], INDEXES[when])
 
     def recorded(self):
         """The first PDU that it sent, once more."""
@@ -97,6 +109,7 @@ def boxes():
         "temperature": Box(0x0202, 0x005200, status(TEMPERATURE, 2140, 2135, 2120, 2105, 2090, 2070, 2055)),
         "probe": Box(0x0203, 0x000300, SENSOR_STATUS + b"".join(attempts())),
         "wind": Box(0x0101, 0x000100),
+        "tank": Box(0x0204, 0x000000, firsts={"before": status(TEMPERATURE, 1480), "now": status(TEMPERATURE, 1525)}),
     }
     for number in range(1, 10):
         # what a sonde reads before its launch: temperature inside and outside, and humidity

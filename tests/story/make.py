@@ -43,6 +43,8 @@ def sent(box, words):
             return box.segment(number(place, 31), " ".join(how))
         case ["status", ttl, dst]:
             return box.status(number(ttl, 0x7F), number(dst, 0xFFFF))
+        case ["first", when, *how]:
+            return box.first(when, " ".join(how))
         case ["recorded"]:
             return box.recorded()
     raise Unknown(" ".join(words))

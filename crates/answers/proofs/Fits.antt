@@ -1,4 +1,4 @@
--- No answer is cut: a hex number has at most 17 digits here and a decimal one 21, and so the longest text, that of a receiver, has at most 6,703 octets.
+-- No answer is cut: a hex number has at most 17 digits here and a decimal one 21, and so the longest text, that of a receiver, has at most 6,991 octets.
 --   refusal-most to sending-most   the most octets of each piece, in the order of the definitions
 -- Assumes nothing.
 use mathlib.Core.List.{List, [], _∷_, _++_}
@@ -11,6 +11,7 @@ use lib.Seq.{take-all}
 use Rattle.common.proofs.Tests.{by-choice}
 use Rattle.network.specs.Pdu.{pduOctets}
 use Rattle.memory.specs.declared.cache.Cache.{Cache}
+use Rattle.memory.specs.declared.cache.Seen.{Seen}
 use Rattle.memory.specs.declared.outgoing.Effect.{Effect}
 use Rattle.memory.specs.declared.outgoing.Effect.the-variants as effect
 use Rattle.memory.specs.declared.outgoing.Outgoing.{Outgoing}
@@ -18,7 +19,7 @@ use Rattle.memory.specs.declared.pair.Pair.{Pair}
 use Rattle.memory.specs.declared.replay.Entry.{Entry}
 use Rattle.memory.specs.declared.replay.Last.{Last}
 use Rattle.memory.specs.declared.session.Session.{Session}
-use Rattle.memory.specs.Cache.{cacheEntries}
+use Rattle.memory.specs.Cache.{cacheEntries, oldestFirst}
 use Rattle.memory.specs.Replay.{replayEntries}
 use Rattle.memory.specs.Session.{sessionSlots, isFree}
 use Rattle.transport.specs.declared.securing.MessageKey.{MessageKey}
@@ -38,7 +39,7 @@ use Rattle.text.specs.Refusal.{refusalText, refusedText}
 use Rattle.answers.specs.declared.answer.Trials.{Trials}
 use Rattle.answers.specs.Answer.{named, trialsText, pairText, segmentsText, routeText, keyText, messageText, effectText, accessText}
 use Rattle.answers.specs.Answer.{controlText, acknowledgementText, heardText, forwardText, spokenText, givenUpText, setUpText, notedText}
-use Rattle.answers.specs.Looking.{nextText, seenText, oldestFirst, cacheText, lastText, entryText, sessionText, heardSoFar, sendingText, receiverText}
+use Rattle.answers.specs.Looking.{nextText, seenText, cacheText, lastText, entryText, sessionText, heardSoFar, sendingText, receiverText}
 use Rattle.answers.specs.Fits.{FitsWhole, HeardFits, SpokenFits, GivenUpFits, SetUpFits, NotedFits, ReceiverFits}
 use Rattle.answers.proofs.TextLengths.{AtMost, both, wider, none, placed-most, label-most, number-most, decimal-most, named-most, hex-most}
 
@@ -141,16 +142,17 @@ next-most next elements =
     let few : length l ≤ elementPlaces = omega (arith, length-take (min elements elementPlaces) next) in
     both (label-most "seq") (both (placed-most (λ i seq. named " " 6 seq) 18 (λ i seq. named-most " " 6 seq) elementPlaces 0 l few) (label-most "\n"))
 
-seen-most : (src seq : ℕ) → AtMost 36 (seenText src seq)
-seen-most src seq = by-choice (AtMost 36) (eqb src 0) (λ t. none) (λ t. both (named-most " " 4 src) (named-most ":" 6 seq))
+seen-most : (e : Seen) → AtMost 54 (seenText e)
+seen-most e =
+    by-choice (AtMost 54) (eqb (e .src) 0) (λ t. none) (λ t. both (named-most " " 4 (e .src)) (both (named-most ":" 6 (e .seq)) (named-most ":" 8 (e .iv))))
 
 oldest-few : (c : Cache) → length (c .entries) ≤ cacheEntries → length (oldestFirst c) ≤ cacheEntries
 oldest-few c h = simp (length-append, length-drop, length-take) (omega arith)
 
-cache-most : (c : Cache) → length (c .entries) ≤ cacheEntries → AtMost 582 (cacheText c)
+cache-most : (c : Cache) → length (c .entries) ≤ cacheEntries → AtMost 870 (cacheText c)
 cache-most c h =
     both (label-most "cache")
-    (both (placed-most (λ i e. seenText (e .src) (e .seq)) 36 (λ i e. seen-most (e .src) (e .seq)) cacheEntries 0 (oldestFirst c) (oldest-few c h)) (label-most "\n"))
+    (both (placed-most (λ i e. seenText e) 54 (λ i e. seen-most e) cacheEntries 0 (oldestFirst c) (oldest-few c h)) (label-most "\n"))
 
 last-most : (l : Last) → AtMost 86 (lastText l)
 last-most l =

@@ -1,19 +1,17 @@
--- A loop that puts the text of one element behind the other: the invariant, and how it begins, goes on and ends; and the cache, oldest first.
+-- A loop that puts the text of one element behind the other: the invariant, and how it begins, goes on and ends.
 -- Assumes nothing.
 use mathlib.Core.Path.{_≡_, refl, sym, ap, _∙_}
 use mathlib.Core.List.{List, [], _∷_, _++_, append-assoc, append-nil}
-use Prim.Native.Nat.{ℕ, zero, suc, _+_, _-_, _%_, _≤_, _<_}
+use Prim.Native.Nat.{ℕ, zero, suc, _+_, _≤_, _<_}
 use native.Mathlib.Nat.{add-zero, zero-add}
 use native.Mathlib.Numerals.{add-one}
 use native.Mathlib.Omega.{arith}
-use borrow.Author.Tests.{eq-eqb, ne-eqb, ltb-true, ltb-false}
-use lib.Dec.{eqb, ltb}
-use lib.ListN.{length, getD, take, drop, length-append, length-take, length-drop, List·getD-append}
-use lib.Seq.{take-all, getD-take, getD-drop, getD-append-add}
+use borrow.Author.Tests.{eq-eqb, ne-eqb}
+use lib.Dec.{eqb}
+use lib.ListN.{length, getD, take}
+use lib.Seq.{take-all}
 use Rattle.common.specs.Choice.{if_then_else_}
 use Rattle.common.specs.Lent.{lent}
-use Rattle.common.proofs.Tests.{by-test}
-use Rattle.memory.specs.Cache.{cacheEntries}
 use Rattle.text.specs.Written.{putting}
 use Rattle.text.proofs.WrittenLaws.{put-then, put-nothing, put-within, put-length}
 use Rattle.answers.specs.Looking.{placedText}
@@ -72,24 +70,3 @@ module _ (out : List ℕ) (at r : ℕ) (o : List ℕ) (n : ℕ) (s : List ℕ) w
   where-some h e = rw (ne-eqb n 0 h) e
 
 pub ruleset held-rules = (where-none, where-some, put-then)
-
--- ---- the cache from place n on, and then its front: what stands at a place
-pub rotated :
-    {A : Type 0} (d : A) (l : List A) (n i : ℕ) → length l ≡ cacheEntries → n < cacheEntries → i < cacheEntries → getD (drop n l ++ take n l) i d ≡ getD l ((n + i) % cacheEntries) d
-rotated d l n i e hn hi =
-    let back : length (drop n l) ≡ cacheEntries - n = length-drop n l ∙ ap (λ (k : ℕ). k - n) e in
-    by-test (ltb (n + i) cacheEntries)
-    (λ t.
-    let low : n + i < cacheEntries = ltb-true (n + i) cacheEntries t in
-    let same : n + i ≡ (n + i) % cacheEntries = omega arith in
-    List·getD-append (drop n l) (take n l) d i (omega arith) ∙ getD-drop n l i d ∙ ap (λ (k : ℕ). getD l k d) same)
-    (λ t.
-    let high : cacheEntries ≤ n + i = ltb-false (n + i) cacheEntries t in
-    let k = n + i - cacheEntries in
-    let place : i ≡ length (drop n l) + k = omega arith in
-    let same : k ≡ (n + i) % cacheEntries = omega arith in
-    ap (λ (j : ℕ). getD (drop n l ++ take n l) j d) place
-    ∙ getD-append-add (drop n l) (take n l) k d ∙ getD-take n l k d (omega arith) ∙ ap (λ (j : ℕ). getD l j d) same)
-
-pub length-rotated : {A : Type 0} (l : List A) (n : ℕ) → n ≤ length l → length (drop n l ++ take n l) ≡ length l
-length-rotated l n h = simp (length-append, length-drop, length-take) (omega arith)

@@ -2,9 +2,9 @@
 --   placedText f i l   the text of each element with its place, from i on, one behind the other
 --   receiverText r     all of it
 use mathlib.Core.List.{List, [], _∷_, _++_}
-use Prim.Native.Nat.{ℕ, suc, _%_, min}
+use Prim.Native.Nat.{ℕ, suc, min}
 use lib.Dec.{eqb}
-use lib.ListN.{take, drop}
+use lib.ListN.{take}
 use Rattle.common.specs.Choice.{if_then_else_}
 use Rattle.memory.specs.declared.cache.Seen.{Seen}
 use Rattle.memory.specs.declared.cache.Cache.{Cache}
@@ -12,7 +12,7 @@ use Rattle.memory.specs.declared.replay.Last.{Last}
 use Rattle.memory.specs.declared.replay.Entry.{Entry}
 use Rattle.memory.specs.declared.session.Session.{Session}
 use Rattle.memory.specs.declared.outgoing.Outgoing.{Outgoing}
-use Rattle.memory.specs.Cache.{cacheEntries}
+use Rattle.memory.specs.Cache.{oldestFirst}
 use Rattle.memory.specs.Session.{isFree}
 use Rattle.node.specs.Addresses.{elementPlaces}
 use Rattle.receiver.specs.declared.state.Receiver.{Receiver}
@@ -29,15 +29,11 @@ abbrev pub nextText : List ℕ → ℕ → List ℕ
 nextText next elements = octets "seq" ++ (placedText (λ i seq. named " " 6 seq) 0 (take (min elements elementPlaces) next) ++ octets "\n")
 
 -- one cache entry; SRC 0 marks an empty place, here and below
-abbrev pub seenText : ℕ → ℕ → List ℕ
-seenText src seq = if eqb src 0 then [] else named " " 4 src ++ named ":" 6 seq
-
--- the place that is filled next is that of the oldest entry
-abbrev pub oldestFirst : Cache → List Seen
-oldestFirst c = drop (c .next % cacheEntries) (c .entries) ++ take (c .next % cacheEntries) (c .entries)
+abbrev pub seenText : Seen → List ℕ
+seenText e = if eqb (e .src) 0 then [] else named " " 4 (e .src) ++ (named ":" 6 (e .seq) ++ named ":" 8 (e .iv))
 
 abbrev pub cacheText : Cache → List ℕ
-cacheText c = octets "cache" ++ (placedText (λ i e. seenText (e .src) (e .seq)) 0 (oldestFirst c) ++ octets "\n")
+cacheText c = octets "cache" ++ (placedText (λ i e. seenText e) 0 (oldestFirst c) ++ octets "\n")
 
 -- the last segmented message handed up; DST 0 marks that there is none
 abbrev pub lastText : Last → List ℕ

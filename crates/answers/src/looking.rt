@@ -2,6 +2,7 @@
 use super::answer::put_pair;
 use super::answer::put_segments;
 use memory::cache::Cache;
+use memory::cache::Seen;
 use memory::outgoing::Outgoing;
 use memory::replay::ENTRIES;
 use memory::replay::Entry;
@@ -37,7 +38,7 @@ fn put_next(next: [u32; 8], elements: usize, out: &mut [u8], at: usize) -> usize
     text::put(b"\n", out, to)
 }
 
-// `cache S:Q ..`: oldest first.
+// `cache S:Q:I ..`: oldest first.
 fn put_cache(cache: Cache, out: &mut [u8], at: usize) -> usize
     ensures { λ r. ⌜ lent r (now (out .exit)) ≡ putting (cacheText cache) (now (out .entry)) at ⌝ }
 {
@@ -46,22 +47,22 @@ fn put_cache(cache: Cache, out: &mut [u8], at: usize) -> usize
     let mut to = text::put(b"cache", out, at);
     let mut i: usize = 0;
     while i < memory::cache::ENTRIES {
-        let e = entries[(oldest + i) % memory::cache::ENTRIES];
-        to = put_seen(e.src, e.seq, out, to);
+        to = put_seen(entries[(oldest + i) % memory::cache::ENTRIES], out, to);
         i += 1;
     }
     text::put(b"\n", out, to)
 }
 
-// ` S:Q`, where the place is not empty.
-fn put_seen(src: u16, seq: u32, out: &mut [u8], at: usize) -> usize
-    ensures { λ r. ⌜ lent r (now (out .exit)) ≡ putting (seenText src seq) (now (out .entry)) at ⌝ }
+// ` S:Q:I`, where the place is not empty.
+fn put_seen(e: Seen, out: &mut [u8], at: usize) -> usize
+    ensures { λ r. ⌜ lent r (now (out .exit)) ≡ putting (seenText e) (now (out .entry)) at ⌝ }
 {
-    if src == 0 {
+    if e.src == 0 {
         return text::put(b"", out, at);
     }
-    let source = number::put(b" ", src as u64, 4, out, at);
-    number::put(b":", seq as u64, 6, out, source)
+    let source = number::put(b" ", e.src as u64, 4, out, at);
+    let seq = number::put(b":", e.seq as u64, 6, out, source);
+    number::put(b":", e.iv as u64, 8, out, seq)
 }
 
 // ` last I Q segn N dst D`, where a segmented message is remembered.

@@ -28,7 +28,7 @@ use Rattle.receiver.specs.declared.state.Receiver.{Receiver}
 use Rattle.receiver.specs.Answer.{refusalNumber, paper}
 use Rattle.receiver.specs.Hearing as hear
 use Rattle.receiver.proofs.Laws.GiveUp.{by-giving-up}
-use Rattle.receiver.proofs.Laws.Heard.{Refuses}
+use Rattle.receiver.proofs.Laws.Heard.{Refuses, openingOf}
 use Rattle.receiver.proofs.Laws.Refusal.{Late, heard-refused}
 use Rattle.sending.specs.declared.answer.Spoken.{Spoken}
 use Rattle.sending.specs.Answer.{refusedAt}
@@ -93,7 +93,7 @@ module _ (r : Receiver) (pdu fwd msg : List ℕ) where
       subst (λ (z : hear.Outcome). Untouched r fwd msg (leftHeard z)) (sym (y .leaves))
       (record { receiver-stays = refl; pdu-stays = refl; message-stays = refl; none-made = refl; no-octets = refl })
 
-  pub refused-kind : isRefused (Heard (o .heard .answer)) ≡ true → (n : Refusal) × (o .heard .answer ≡ Refused n) × (Refuses r fwd msg n o ⊎ Late r pdu fwd msg n o)
+  pub refused-kind : isRefused (Heard (o .heard .answer)) ≡ true → (n : Refusal) × (o .heard .answer ≡ Refused n) × (Refuses r fwd msg n o ⊎ Late r fwd msg (openingOf r pdu .header) n o)
   refused-kind t = let a = refused-as (o .heard .answer) t in (a .0, a .1, heard-refused r pdu fwd msg (a .0) (a .1))
 
   heard-ends : Ends r ofHearing fwd msg (leftHeard o)

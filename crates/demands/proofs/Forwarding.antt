@@ -30,11 +30,12 @@ octet-keys node w i h =
     (record { encryption-octets = octets-encryption given; privacy-octets = octets-privacy given })
 
 pub forwards-exactly : Forwards
-forwards-exactly r pdu fwd msg trials h g p x =
+forwards-exactly r pdu fwd msg trials h g p passes =
     let node = r .node in
+    let x = passes .opened in
     let again = resealed (node .materials) (node .networks) (node .iv) pdu trials h fwd (octet-keys node (g .node-made)) p (x .wide) (x .opens) in
     by-test (forwards (node .relay) (isLocal node (h .dst)) h)
     (λ t. rw t
-    (heard-forwarded r pdu fwd msg (x .wide) (x .big) h trials (x .opens) (x .new) t
+    (heard-forwarded r pdu fwd msg (x .wide) (x .big) h trials (x .opens) (passes .new) t
     ∙ ap (λ (f : Lent Answer). lent (sealedLength (f .answer)) (f .buffer)) again))
-    (λ t. rw t (heard-kept r pdu fwd msg (x .wide) (x .big) h trials (x .opens) (x .new) t))
+    (λ t. rw t (heard-kept r pdu fwd msg (x .wide) (x .big) h trials (x .opens) (passes .new) t))

@@ -41,5 +41,6 @@ pub mod Instance
 pub mod SendingsMet
 pub mod Forwarding
 pub mod Reserved
+pub mod CacheHolds
 pub mod ForwardingMet
 pub mod AcknowledgedMet

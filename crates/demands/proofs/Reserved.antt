@@ -44,7 +44,8 @@ use Rattle.demands.proofs.Left.{walk-step}
 -- ---- heard
 pub for-nobody : ForNobody
 for-nobody r pdu fwd msg trials h p reserved =
-    let l = heard-elsewhere r pdu fwd msg (p .wide) (p .big) h trials (p .opens) (p .new) (reserved-never (r .node) (h .dst) reserved) in
+    let x = p .opened in
+    let l = heard-elsewhere r pdu fwd msg (x .wide) (x .big) h trials (x .opens) (p .new) (reserved-never (r .node) (h .dst) reserved) in
     (l .answers, l .network-is, l .application-is)
 
 -- where DST is no local address, relay and TTL decide

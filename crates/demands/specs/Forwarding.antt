@@ -21,11 +21,15 @@ use Rattle.receiver.specs.declared.state.Receiver.{Receiver}
 use Rattle.receiver.specs.Good.{Good}
 use Rattle.receiver.specs.Hearing.{hearing}
 
--- a PDU passes refusals 16 and 1 to 5, and opens to h
-pub record Passes (r : Receiver) (pdu fwd msg : List ℕ) (trials : ℕ) (h : Header) : Type 0 where
+-- a PDU passes refusals 16 and 1 to 4, and opens to h
+pub record Opens (r : Receiver) (pdu fwd msg : List ℕ) (trials : ℕ) (h : Header) : Type 0 where
   pub wide : pduOctets ≤ length fwd
   pub big : messageOctets ≤ length msg
   pub opens : opening (r .node .materials) (r .node .networks) (r .node .iv) pdu ≡ record { answer = Opened; trials = trials; header = h }
+
+-- and 5: no entry of the cache has its SRC, SEQ and IV Index
+pub record Passes (r : Receiver) (pdu fwd msg : List ℕ) (trials : ℕ) (h : Header) : Type 0 where
+  pub opened : Opens r pdu fwd msg trials h
   pub new : seen (r .cache) h ≡ false
 
 -- the octets forwarded, and the forward buffer

@@ -7,6 +7,7 @@
 --                       PDU that no key opens; from a box set up just now, one with the update flag set, and one that was used before
 --   ForwardingMet       all premises of `Forwards` hold of a PDU that one box sends another past the shed, and it is forwarded
 --   ReservedMet         so do those of `ForNobody` and `GoesOn` where it sends it to a reserved address, the first or the last
+--   IndexMet            so do those of `FreshUnderIndex` of that PDU, where the same SRC and SEQ came under the IV Index before; and those of `CachedExactly` of that one, come again
 use mathlib.Core.Bool.{true, false}
 use mathlib.Core.List.{List, [], _∷_, _++_, map}
 use mathlib.Core.Path.{_≡_}
@@ -20,18 +21,23 @@ use Rattle.network.specs.Pdu.{pduOctets, pduOf}
 use Rattle.network.specs.Sealing.{forwards}
 use Rattle.transport.specs.declared.securing.MessageKey.the-variants.{Application}
 use Rattle.transport.specs.Segment.{messageOctets}
+use Rattle.memory.specs.Cache.{seenOf}
+use Rattle.memory.specs.Remembered.{lastSixteen, Among}
 use Rattle.node.specs.declared.setup.Setup.{Setup}
 use Rattle.node.specs.Addresses.{isLocal}
 use Rattle.node.specs.Setup.{nothing, withNetworkKey, withApplicationKey, withDeviceKey, withElements, withIndex}
+use Rattle.receiver.specs.declared.fresh.Answer.the-variants.{Ready}
 use Rattle.receiver.specs.declared.state.Receiver.{Receiver}
+use Rattle.receiver.specs.Fresh.{settingUp}
 use Rattle.receiver.specs.Good.{Good}
 use Rattle.sending.specs.declared.request.Request.{Request}
 use Rattle.sending.specs.declared.request.Ttl.the-variants.{Unnamed}
 use Rattle.demands.specs.Acknowledged.{Speaker, Hears}
-use Rattle.demands.specs.Call.{Call, Hear, SendAccess, Acknowledge, Outcome, step}
-use Rattle.demands.specs.Forwarding.{Passes}
+use Rattle.demands.specs.CacheHolds.{entered}
+use Rattle.demands.specs.Call.{Call, Hear, SendAccess, Acknowledge, Outcome, step, after}
+use Rattle.demands.specs.Forwarding.{Opens, Passes}
 use Rattle.demands.specs.GoesOut.{restOf}
-use Rattle.demands.specs.Interleaved.{Event, Segment, Foreign, Ask, Own, Arrival, start, nodeOf, Scene, AllCome, handed, behind, AskedOf}
+use Rattle.demands.specs.Interleaved.{Event, Segment, Foreign, Ask, Own, Arrival, start, nodeOf, Each, Scene, AllCome, handed, behind, AskedOf}
 use Rattle.demands.specs.ReadBack.{sayCall, saidBy, pduMade, madeOf, segNAs, Incoming, Made, Relayed, Unopened, Hearing, brings, Telling}
 use Rattle.demands.specs.Speech.{Words, Access, Control, Speech, handUp}
 
@@ -199,11 +205,11 @@ AcknowledgementMet =
 
 -- ---- forwarding
 -- one box sends a control message of three parameters, TTL 5; the shed, whose relay is on, hears it
-abbrev pub passing : ℕ → Header
-passing dst =
+abbrev pub passingUnder : (iv dst : ℕ) → Header
+passingUnder iv dst =
     record {
       key = 0;
-      iv = 0x12345678;
+      iv = iv;
       ctl = true;
       ttl = 5;
       seq = 0x000300;
@@ -213,8 +219,15 @@ passing dst =
       transport = padded 16 (0x03 ∷ 0x4b ∷ 0x50 ∷ 0x05 ∷ []);
     }
 
+abbrev pub pduUnder : (iv dst : ℕ) → List ℕ
+pduUnder iv dst = pduOf (keyAt (nodeOf shed .materials) 0) (passingUnder iv dst)
+
+-- under the shed's IV Index
+abbrev pub passing : ℕ → Header
+passing dst = passingUnder 0x12345678 dst
+
 abbrev pub passingPdu : ℕ → List ℕ
-passingPdu dst = pduOf (keyAt (nodeOf shed .materials) 0) (passing dst)
+passingPdu dst = pduUnder 0x12345678 dst
 
 abbrev pub MetTo : ℕ → Type 0
 MetTo dst =
@@ -231,3 +244,20 @@ ForwardingMet = MetTo 0x0003
 -- to the first and the last reserved address
 abbrev pub ReservedMet : Type 0
 ReservedMet = (MetTo 0xFF00 × (isReserved 0xFF00 ≡ true)) × (MetTo 0xFFFB × (isReserved 0xFFFB ≡ true))
+
+-- ---- the cache
+-- the shed has heard it under the IV Index before
+abbrev pub heardBefore : List Call
+heardBefore = Hear (pduUnder 0x12345677 0x0003) (replicate pduOctets 0) (replicate messageOctets 0) ∷ []
+
+pub record IndexMet : Type 0 where
+  pub ready : settingUp shed .answer ≡ Ready
+  -- its SRC and SEQ are in the cache, under that one
+  pub one-entered : entered shed heardBefore ≡ seenOf (passingUnder 0x12345677 0x0003) ∷ []
+  -- the same SRC and SEQ under the IV Index now
+  pub opens-now : Opens (after (start shed) heardBefore) (passingPdu 0x0003) (replicate pduOctets 0) (replicate messageOctets 0) 1 (passing 0x0003)
+  pub none-now : Each (λ e. e .src ≡ passing 0x0003 .src → e .iv ≡ passing 0x0003 .iv → ⊥) (entered shed heardBefore)
+  -- and the first once more
+  pub opens-again :
+      Opens (after (start shed) heardBefore) (pduUnder 0x12345677 0x0003) (replicate pduOctets 0) (replicate messageOctets 0) 1 (passingUnder 0x12345677 0x0003)
+  pub one-again : Among (seenOf (passingUnder 0x12345677 0x0003)) (lastSixteen (entered shed heardBefore))

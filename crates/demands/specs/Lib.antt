@@ -12,5 +12,6 @@ pub mod GoesOut
 pub mod InOrder
 pub mod Forwarding
 pub mod Reserved
+pub mod CacheHolds
 pub mod Instance
 pub mod Invariant

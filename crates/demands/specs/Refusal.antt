@@ -62,7 +62,7 @@ UnopenedLeaves =
     → Untouched r fwd msg (leftHeard (hearing r pdu fwd msg))
 
 -- ---- behind the cache
--- the receiver with the PDU of a header in its cache
+-- the receiver with the PDU of a header in its cache, by its SRC, SEQ and IV Index
 abbrev pub cached : Receiver → Header → Receiver
 cached r h = withCache r (remembered (r .cache) h)
 

@@ -1,4 +1,4 @@
-// The message cache: what was heard lately, by SRC and SEQ. A full cache replaces its oldest entry.
+// The message cache: what was heard lately, by SRC, SEQ and IV Index. A full cache replaces its oldest entry.
 use network::header::Header;
 ghost use mathlib.Core.Path.{_≡_};
 ghost use Rattle.common.specs.Search.{first};
@@ -11,6 +11,8 @@ pub const ENTRIES: usize = 16;
 pub struct Seen {
     pub src: u16,
     pub seq: u32,
+    // The IV Index under which the PDU was opened.
+    pub iv: u32,
 }
 
 pub struct Cache {
@@ -24,7 +26,11 @@ pub fn none() -> Cache
     ensures { λ r. ⌜ r ≡ noCache ⌝ }
 {
     Cache {
-        entries: [Seen { src: 0, seq: 0 }; ENTRIES],
+        entries: [Seen {
+            src: 0,
+            seq: 0,
+            iv: 0,
+        }; ENTRIES],
         next: 0,
     }
 }
@@ -36,6 +42,7 @@ fn entry(h: Header) -> Seen
     Seen {
         src: h.src,
         seq: h.seq,
+        iv: h.iv,
     }
 }
 
@@ -46,7 +53,10 @@ fn same(a: Seen, b: Seen) -> bool
     if a.src != b.src {
         return false;
     }
-    a.seq == b.seq
+    if a.seq != b.seq {
+        return false;
+    }
+    a.iv == b.iv
 }
 
 // The place of an entry, or their number.

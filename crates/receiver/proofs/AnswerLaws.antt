@@ -1,7 +1,8 @@
 -- An answer is told by its number, word and values: each answer is read back from them. Assumes nothing.
 use mathlib.Core.List.{List, [], _∷_, _++_}
-use mathlib.Core.Path.{_≡_, refl, ap}
+use mathlib.Core.Path.{_≡_, refl, sym, ap, _∙_}
 use Prim.Native.Nat.{ℕ, _-_}
+use native.Mathlib.Omega.{arith}
 use lib.ListN.{getD}
 use Rattle.common.specs.Paper.{Paper, Refusal, Given}
 use Rattle.common.proofs.PaperLaws.{told-apart}
@@ -50,6 +51,10 @@ refusal-back refusals.NoSlotLeft = refl
 refusal-back refusals.NotOpened = refl
 refusal-back refusals.OutsideRules = refl
 refusal-back refusals.NoSeqLeft = refl
+
+-- 0 is none's
+pub number-some : (n : refusal.Refusal) → refusalNumber n ≡ 0 → ⊥
+number-some n e = let one = ap refusalNumber (ap refusalOf (sym e) ∙ refusal-back n) in omega arith
 
 pub number-apart : NumberApart
 number-apart = told-apart refusalNumber refusalOf refusal-back

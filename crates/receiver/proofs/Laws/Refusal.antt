@@ -1,28 +1,31 @@
--- What a refusal of `hear` leaves: it is one before the cache, and everything is as it was; or the PDU passed, and was cached, forwarded as `relayed` says and taken. Assumes
--- nothing.
---   Late             a refusal that leaves the PDU cached and forwarded: 6 to 13
---   heard-refused    each refusal is of one kind or the other
-use mathlib.Core.Bool.{true}
+-- How `hear` ends: with a refusal before the cache, and everything is as it was; or the PDU opened and passed, and was cached, forwarded as `relayed` says and taken. Assumes nothing.
+--   Late                           a refusal that leaves the PDU cached and forwarded: 6 to 13
+--   Enters                         the PDU is in the cache
+--   heard-either                   it is refused before the cache, or opened and entered
+--   heard-entered                  one that opens and is new is entered
+--   heard-refused                  each refusal is of one kind or the other
+use mathlib.Core.Bool.{true, false}
 use mathlib.Core.List.{List}
-use mathlib.Core.Logic.{_⊎_, inl, inr}
-use mathlib.Core.Path.{_≡_, refl, subst}
+use mathlib.Core.Logic.{_⊎_, inl, inr, ⊎-elim}
+use mathlib.Core.Path.{_≡_, refl, sym, ap, _∙_, subst}
 use Prim.Native.Nat.{ℕ, _≤_}
 use lib.ListN.{length}
 use Rattle.common.specs.Lent.{lent}
 use Rattle.network.specs.declared.header.Header.{Header}
+use Rattle.network.specs.declared.opening.Answer.the-variants as network
+use Rattle.network.specs.Pdu.{pduOctets}
 use Rattle.transport.specs.Segment.{messageOctets}
+use Rattle.memory.specs.Cache.{seen, remembered}
 use Rattle.receiver.specs.declared.answer.Answer.{Answer}
 use Rattle.receiver.specs.declared.answer.Answer.the-variants.{Refused}
 use Rattle.receiver.specs.declared.answer.Refusal.{Refusal}
 use Rattle.receiver.specs.declared.state.Receiver.{Receiver}
-use Rattle.receiver.specs.Hearing.{Outcome, outcome, refusedHeard, relayed, taken, passed, hearing}
+use Rattle.receiver.specs.Hearing.{Outcome, relayed, taken, passed, uncached, hearing}
 use Rattle.receiver.proofs.Laws.After.{leftBehind, After, after-taken}
-use Rattle.receiver.proofs.Laws.Heard.{early, late, Refuses, openingOf, caching, walk-hearing}
+use Rattle.receiver.proofs.Laws.Fixed.{stays-taken}
+use Rattle.receiver.proofs.Laws.Heard.{late, Refuses, Early, openingOf, caching, walk-hearing, heard-opened}
 
-module _ (r : Receiver) (pdu fwd msg : List ℕ) where
-  abbrev h : Header
-  h = openingOf r pdu .header
-
+module _ (r : Receiver) (fwd msg : List ℕ) (h : Header) where
   -- n, with the PDU cached
   pub record Late (n : Refusal) (o : Outcome) : Type 0 where
     pub is-late : late n ≡ true
@@ -31,23 +34,47 @@ module _ (r : Receiver) (pdu fwd msg : List ℕ) where
     -- the octets forwarded, and the forward buffer
     pub forwarded-as : lent (o .heard .forwarded) (o .forward) ≡ relayed (r .node) h fwd
 
-  module _ (n : Refusal) where
-    abbrev Either : Outcome → Type 0
-    Either o = o .heard .answer ≡ Refused n → Refuses r fwd msg n o ⊎ Late n o
+  pub record Enters (o : Outcome) : Type 0 where
+    pub cache-is : o .heard .receiver .cache ≡ remembered (r .cache) h
+    pub refused-late : (n : Refusal) → o .heard .answer ≡ Refused n → Late n o
 
-    early-is : (m : Refusal) (trials : ℕ) → early m ≡ true → Either (outcome (refusedHeard r m trials) fwd msg)
-    early-is m trials t e =
-        let o = outcome (refusedHeard r m trials) fwd msg in
-        let same : m ≡ n = cc in
-        inl (subst (λ (k : Refusal). Refuses r fwd msg k o) same (record { is-early = t; tried = trials; leaves = refl }))
+  passed-enters : messageOctets ≤ length msg → (trials : ℕ) → Enters (passed r h trials fwd msg)
+  unfolding passed
+  passed-enters room trials =
+      let q = caching r h in
+      let t = taken q h msg in
+      record {
+        cache-is = stays-taken q h msg room .1;
+        refused-late = λ n e.
+            let a : After q h msg (Refused n) (t .answer .receiver) (t .buffer) =
+            subst (λ (x : Answer). After q h msg x (t .answer .receiver) (t .buffer)) e (after-taken q h msg room) in
+            record { is-late = a .2; left-is = a .0; message-stays = a .1; forwarded-as = refl };
+      }
 
-    late-is : messageOctets ≤ length msg → (trials : ℕ) → Either (passed r h trials fwd msg)
-    unfolding passed
-    late-is room trials e =
-        let t = taken (caching r h) h msg in
-        let a : After (caching r h) h msg (Refused n) (t .answer .receiver) (t .buffer) =
-        subst (λ (x : Answer). After (caching r h) h msg x (t .answer .receiver) (t .buffer)) e (after-taken (caching r h) h msg room) in
-        inr (record { is-late = a .2; left-is = a .0; message-stays = a .1; forwarded-as = refl })
+module _ (r : Receiver) (pdu fwd msg : List ℕ) where
+  -- refused before the cache, or opened and entered
+  abbrev Either : Outcome → Type 0
+  Either o = Early r fwd msg o ⊎ ((openingOf r pdu .answer ≡ network.Opened) × Enters r fwd msg (openingOf r pdu .header) o)
 
-    pub heard-refused : Either (hearing r pdu fwd msg)
-    heard-refused = walk-hearing r fwd msg pdu Either early-is (λ _ room. late-is room _)
+  pub heard-either : Either (hearing r pdu fwd msg)
+  heard-either =
+      walk-hearing r fwd msg pdu Either (λ n trials e. inl (n, record { is-early = e; tried = trials; leaves = refl }))
+      (λ e room. inr (e, passed-enters r fwd msg (openingOf r pdu .header) room _))
+
+  pub heard-refused :
+      (n : Refusal) → (let o = hearing r pdu fwd msg in o .heard .answer ≡ Refused n → Refuses r fwd msg n o ⊎ Late r fwd msg (openingOf r pdu .header) n o)
+  heard-refused n e =
+      let o = hearing r pdu fwd msg in
+      ⊎-elim
+      (λ y.
+      let answered = sym (ap (λ (x : Outcome). x .heard .answer) (y .1 .leaves)) ∙ e in
+      let same : y .0 ≡ n = cc in
+      inl (subst (λ (k : Refusal). Refuses r fwd msg k o) same (y .1)))
+      (λ x. inr (x .1 .refused-late n e)) heard-either
+
+-- ---- a PDU that opens and is new
+module _ (r : Receiver) (pdu fwd msg : List ℕ) (wide : pduOctets ≤ length fwd) (big : messageOctets ≤ length msg) (h : Header) (trials : ℕ)
+    (opens : openingOf r pdu ≡ record { answer = network.Opened; trials = trials; header = h }) where
+  pub heard-entered : seen (r .cache) h ≡ false → Enters r fwd msg h (hearing r pdu fwd msg)
+  unfolding uncached
+  heard-entered e = subst (Enters r fwd msg h) (sym (heard-opened r pdu fwd msg wide big h trials opens ∙ rw e refl)) (passed-enters r fwd msg h big trials)

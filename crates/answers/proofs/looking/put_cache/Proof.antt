@@ -9,16 +9,17 @@ use lib.ListN.{length, take, drop}
 use Rattle.common.proofs.Lists.{length-mapped}
 use Rattle.memory.specs.declared.cache.Seen.{Seen}
 use Rattle.memory.specs.Cache.{cacheEntries, noSeen}
+use Rattle.memory.proofs.CacheLaws.{rotated, length-rotated}
 use Rattle.text.specs.Written.{putting}
 use Rattle.text.proofs.WrittenLaws.{put-then}
 use Rattle.answers.specs.Looking.{seenText}
-use Rattle.answers.proofs.LookingLaws.{PutSo, so-none, so-more, so-all, rotated, length-rotated}
+use Rattle.answers.proofs.LookingLaws.{PutSo, so-none, so-more, so-all}
 use Rattle.answers.proofs.looking.put_cache.Statement.{statement}
 use Rattle.answers.proofs.looking.put_cache.Tie as tie
 
 -- the text of one
 abbrev each : ℕ → Seen → List ℕ
-each k e = seenText (e .src) (e .seq)
+each k e = seenText e
 
 abbrev Inv-loop : tie.InvT-loop
 Inv-loop out₀ at entries oldest to₀ i₀ t10 out to i =
@@ -38,7 +39,7 @@ loop-again c =
     let l = c .before .before .before .before .before .before .loop in
     let a = c .before .before .before .before .before .before .before .before .before .before .before .before .before .before .before .args in
     let here = rotated noSeen (a .cache .entries) (a .cache .next % cacheEntries) (l .i) (l .inv .1) (l .inv .0) (omega arith) in
-    let text = ap (λ (e : Seen). putting (seenText (e .src) (e .seq)) (l .out) (l .to)) (sym here) in
+    let text = ap (λ (e : Seen). putting (seenText e) (l .out) (l .to)) (sym here) in
     (l .inv .0, l .inv .1, so-more noSeen (omega arith) (l .inv .2) (c .before .before .put-seen .ensures ∙ text))
 
 returns : tie.Need-returns Inv-loop μ-loop

@@ -5,4 +5,4 @@ use Rattle.memory.proofs.cache.same.Statement.{statement}
 use Rattle.memory.proofs.cache.same.Tie as tie
 
 pub same-spec : {M : Type 1} → statement M
-same-spec = tie.close (tie.spec (λ c. search same-rules) (λ c. search same-rules))
+same-spec = tie.close (tie.spec (λ c. search same-rules) (λ c. search same-rules) (λ c. search same-rules))
