@@ -20,7 +20,7 @@ use Rattle.network.proofs.AddressLaws.{unicast-some}
 use Rattle.memory.specs.declared.cache.Cache.{Cache}
 use Rattle.memory.specs.declared.cache.Seen.{Seen}
 use Rattle.memory.specs.Cache.{seenOf, seen}
-use Rattle.memory.specs.Remembered.{further, held, lastSixteen, Among, Sourced}
+use Rattle.memory.specs.Remembered.{further, held, lastEntries, Among, Sourced}
 use Rattle.memory.proofs.Remembered.{further-append, holds-last, seen-exactly, among-last}
 use Rattle.node.specs.declared.setup.Setup.{Setup}
 use Rattle.receiver.specs.declared.answer.Answer as heard-answer
@@ -137,7 +137,7 @@ module _ (s : Setup) (l : List Call) (e : settingUp s .answer ≡ Ready) (pdu fw
 
     -- it is in the cache exactly if it is one of the last sixteen
     abbrev There : Type 0
-    There = Among (seenOf h) (lastSixteen (entered s l))
+    There = Among (seenOf h) (lastEntries (entered s l))
 
     seen-there : seen (r .cache) h ≡ true → There
     seen-there t = subst (Among (seenOf h)) (cache-holds s l e) (seen-exactly (r .cache) h (good-after s l e .cache-places) spoken .0 t)

@@ -26,7 +26,7 @@ use Rattle.network.proofs.Sealed.{sealable-where}
 use Rattle.network.proofs.SealOpen.{open-seal}
 use Rattle.transport.specs.Segment.{messageOctets}
 use Rattle.memory.specs.Cache.{seenOf, seen}
-use Rattle.memory.specs.Remembered.{lastSixteen}
+use Rattle.memory.specs.Remembered.{lastEntries}
 use Rattle.node.specs.Addresses.{isLocal, listens, answersTo, forNode}
 use Rattle.node.specs.Made.{WellMade}
 use Rattle.node.specs.Setup.{boundWithin, keysValid, nextWithin, elementsValid, groupsValid, indexValid, valid, groupAt, nodeOf, making}
@@ -130,7 +130,7 @@ same-node : after (start shed) heardBefore .node ≡ node
 same-node = ap (λ (r : Receiver). r .node) (heard .left-is)
 
 pub index-met : IndexMet
-unfolding lastSixteen
+unfolding lastEntries
 index-met =
     record {
       ready = ready;

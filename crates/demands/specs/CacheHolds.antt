@@ -17,7 +17,7 @@ use Rattle.network.specs.declared.header.Header.{Header}
 use Rattle.network.specs.Opening.{opening}
 use Rattle.memory.specs.declared.cache.Seen.{Seen}
 use Rattle.memory.specs.Cache.{seenOf}
-use Rattle.memory.specs.Remembered.{held, lastSixteen, Among}
+use Rattle.memory.specs.Remembered.{held, lastEntries, Among}
 use Rattle.node.specs.declared.setup.Setup.{Setup}
 use Rattle.receiver.specs.declared.fresh.Answer.the-variants.{Ready}
 use Rattle.receiver.specs.declared.state.Receiver.{Receiver}
@@ -54,7 +54,7 @@ entered s l = map seenOf (enteredIn (start s) l (run (start s) l))
 
 -- the cache's entries, the oldest first
 abbrev pub CacheHolds : Type 0
-CacheHolds = (s : Setup) (l : List Call) → settingUp s .answer ≡ Ready → held (after (start s) l .cache) ≡ lastSixteen (entered s l)
+CacheHolds = (s : Setup) (l : List Call) → settingUp s .answer ≡ Ready → held (after (start s) l .cache) ≡ lastEntries (entered s l)
 
 -- a PDU that passes refusals 16 and 1 to 4
 abbrev pub CachedExactly : Type 0
@@ -63,7 +63,7 @@ CachedExactly =
     → (let r = after (start s) l in
     let answer = step r (Hear pdu fwd msg) .answer in
     Opens r pdu fwd msg trials h
-    → (numberOf answer ≡ 5 → Among (seenOf h) (lastSixteen (entered s l))) × (Among (seenOf h) (lastSixteen (entered s l)) → numberOf answer ≡ 5))
+    → (numberOf answer ≡ 5 → Among (seenOf h) (lastEntries (entered s l))) × (Among (seenOf h) (lastEntries (entered s l)) → numberOf answer ≡ 5))
 
 -- none was entered with its SRC under its IV Index
 abbrev pub FreshUnderIndex : Type 0

@@ -22,7 +22,7 @@ use Rattle.network.specs.Sealing.{forwards}
 use Rattle.transport.specs.declared.securing.MessageKey.the-variants.{Application}
 use Rattle.transport.specs.Segment.{messageOctets}
 use Rattle.memory.specs.Cache.{seenOf}
-use Rattle.memory.specs.Remembered.{lastSixteen, Among}
+use Rattle.memory.specs.Remembered.{lastEntries, Among}
 use Rattle.node.specs.declared.setup.Setup.{Setup}
 use Rattle.node.specs.Addresses.{isLocal}
 use Rattle.node.specs.Setup.{nothing, withNetworkKey, withApplicationKey, withDeviceKey, withElements, withIndex}
@@ -260,4 +260,4 @@ pub record IndexMet : Type 0 where
   -- and the first once more
   pub opens-again :
       Opens (after (start shed) heardBefore) (pduUnder 0x12345677 0x0003) (replicate pduOctets 0) (replicate messageOctets 0) 1 (passingUnder 0x12345677 0x0003)
-  pub one-again : Among (seenOf (passingUnder 0x12345677 0x0003)) (lastSixteen (entered shed heardBefore))
+  pub one-again : Among (seenOf (passingUnder 0x12345677 0x0003)) (lastEntries (entered shed heardBefore))

@@ -24,28 +24,28 @@ use Rattle.network.specs.declared.header.Header.{Header}
 use Rattle.memory.specs.declared.cache.Cache.{Cache}
 use Rattle.memory.specs.declared.cache.Seen.{Seen}
 use Rattle.memory.specs.Cache.{cacheEntries, noSeen, noCache, seenOf, seen, remembered, oldestFirst}
-use Rattle.memory.specs.Remembered.{further, isEntry, held, lastSixteen, Among, Sourced, HoldsLast, SeenExactly, NoneIs, StillSeen, SeenNoMore}
+use Rattle.memory.specs.Remembered.{further, isEntry, held, lastEntries, Among, Sourced, HoldsLast, SeenExactly, NoneIs, StillSeen, SeenNoMore}
 use Rattle.memory.proofs.CacheLaws.{length-remembered, seen-at, seen-place, rotated, length-rotated}
 
 -- ---- the last sixteen of sixteen and some more
 module _ (a b : List Seen) (sixteen : length a ≡ cacheEntries) where
   -- where there are few more, the end of the sixteen is among them
-  last-few : length b ≤ cacheEntries → lastSixteen (a ++ b) ≡ drop (length b) a ++ b
-  unfolding lastSixteen
+  last-few : length b ≤ cacheEntries → lastEntries (a ++ b) ≡ drop (length b) a ++ b
+  unfolding lastEntries
   last-few few =
       let n : length (a ++ b) - cacheEntries ≡ length b = rw (length-append a b) (omega arith) in
       ap (λ (k : ℕ). drop k (a ++ b)) n ∙ drop-append-le (length b) a b (omega arith)
 
   -- where there are sixteen more, they alone count
-  last-all : cacheEntries ≤ length b → lastSixteen (a ++ b) ≡ lastSixteen b
-  unfolding lastSixteen
+  last-all : cacheEntries ≤ length b → lastEntries (a ++ b) ≡ lastEntries b
+  unfolding lastEntries
   last-all many =
       let n : length (a ++ b) - cacheEntries ≡ length a + (length b - cacheEntries) = rw (length-append a b) (omega arith) in
       ap (λ (k : ℕ). drop k (a ++ b)) n ∙ drop-append-add a b (length b - cacheEntries)
 
 -- the first of more than sixteen does not count
-last-rest : (l : List Seen) → cacheEntries < length l → lastSixteen (drop 1 l) ≡ lastSixteen l
-unfolding lastSixteen
+last-rest : (l : List Seen) → cacheEntries < length l → lastEntries (drop 1 l) ≡ lastEntries l
+unfolding lastEntries
 last-rest l many =
     let n : 1 + (length (drop 1 l) - cacheEntries) ≡ length l - cacheEntries = rw (length-drop 1 l) (omega arith) in
     drop-drop (length (drop 1 l) - cacheEntries) 1 l ∙ ap (λ (k : ℕ). drop k l) n
@@ -90,7 +90,7 @@ module _ (c : Cache) (h : Header) (long : length (c .entries) ≡ cacheEntries) 
 
 -- ---- further ones
 oldest-further :
-    (c : Cache) (l : List Header) → length (c .entries) ≡ cacheEntries → oldestFirst (further c l) ≡ lastSixteen (oldestFirst c ++ map seenOf l)
+    (c : Cache) (l : List Header) → length (c .entries) ≡ cacheEntries → oldestFirst (further c l) ≡ lastEntries (oldestFirst c ++ map seenOf l)
 oldest-further c [] long = sym (last-few (oldestFirst c) [] (length-oldest c long) (omega arith) ∙ append-nil (oldestFirst c))
 oldest-further c (h ∷ l) long =
     let old = oldestFirst c in
@@ -98,8 +98,8 @@ oldest-further c (h ∷ l) long =
     let many = length-oldest c long in
     let more : cacheEntries < length (old ++ new) = rw (length-append old new) (omega arith) in
     oldest-further (remembered c h) l (length-remembered c h ∙ long)
-    ∙ ap (λ (x : List Seen). lastSixteen (x ++ map seenOf l)) (oldest-more c h long)
-    ∙ ap lastSixteen (append-assoc (drop 1 old) (seenOf h ∷ []) (map seenOf l) ∙ sym (drop-append-le 1 old new (omega arith)))
+    ∙ ap (λ (x : List Seen). lastEntries (x ++ map seenOf l)) (oldest-more c h long)
+    ∙ ap lastEntries (append-assoc (drop 1 old) (seenOf h ∷ []) (map seenOf l) ∙ sym (drop-append-le 1 old new (omega arith)))
     ∙ last-rest (old ++ new) more
 
 pub further-append : (c : Cache) (a b : List Header) → further c (a ++ b) ≡ further (further c a) b
@@ -124,12 +124,12 @@ entries-stay (h ∷ l) zero s = rw (ne-eqb (h .src) 0 (s .0)) (ap (λ (x : List 
 entries-stay (h ∷ l) (suc n) s = entries-stay l n (s .1)
 
 pub holds-last : HoldsLast
-unfolding held lastSixteen
+unfolding held lastEntries
 holds-last l s =
     let empty = replicate cacheEntries noSeen in
     let new = map seenOf l in
     let begins : oldestFirst noCache ≡ empty = append-nil empty in
-    ap (picked isEntry) (oldest-further noCache l refl ∙ ap (λ (x : List Seen). lastSixteen (x ++ new)) begins)
+    ap (picked isEntry) (oldest-further noCache l refl ∙ ap (λ (x : List Seen). lastEntries (x ++ new)) begins)
     ∙ by-test (leb (length new) cacheEntries)
     (λ t.
     let few = leb-true (length new) cacheEntries t in
@@ -163,8 +163,8 @@ module _ (e : Seen) where
   among-drop (suc n) [] m = absurd m
   among-drop (suc n) (x ∷ l) m = inr (among-drop n l m)
 
-  pub among-last : (l : List Seen) → Among e (lastSixteen l) → Among e l
-  unfolding lastSixteen
+  pub among-last : (l : List Seen) → Among e (lastEntries l) → Among e l
+  unfolding lastEntries
   among-last l m = among-drop (length l - cacheEntries) l m
 
   among-at : (l : List Seen) (j : ℕ) → j < length l → getD l j noSeen ≡ e → Among e l

@@ -2,7 +2,7 @@
 -- (document 02, W3). An entry is found after 15 further ones, and gone at the 16th.
 --   further c l              the cache with the entries of a list more
 --   held c                   its entries, the oldest first
---   lastSixteen l            the last sixteen of a list
+--   lastEntries l            the last of a list, as many as the cache has places
 --   Among e l                e is one of a list
 --   HoldsLast, SeenExactly   what a cache holds, and when a PDU is in it
 --   StillSeen, SeenNoMore    how long
@@ -32,9 +32,9 @@ isEntry e = not (eqb (e .src) 0)
 unfoldable pub held : Cache → List Seen
 held c = picked isEntry (oldestFirst c)
 
--- the last sixteen of a list; all of it where it has fewer
-unfoldable pub lastSixteen : List Seen → List Seen
-lastSixteen l = drop (length l - cacheEntries) l
+-- the last of a list, as many as the cache has places; all of it where it has fewer
+unfoldable pub lastEntries : List Seen → List Seen
+lastEntries l = drop (length l - cacheEntries) l
 
 -- e is one of a list
 abbrev pub Among : Seen → List Seen → Type 0
@@ -48,7 +48,7 @@ Sourced (h ∷ l) = (h .src ≡ 0 → ⊥) × Sourced l
 
 -- one that had none holds the last sixteen
 abbrev pub HoldsLast : Type 0
-HoldsLast = (l : List Header) → Sourced l → held (further noCache l) ≡ lastSixteen (map seenOf l)
+HoldsLast = (l : List Header) → Sourced l → held (further noCache l) ≡ lastEntries (map seenOf l)
 
 -- a PDU is in it exactly if SRC, SEQ and IV Index are those of an entry
 abbrev pub SeenExactly : Type 0
