@@ -54,6 +54,10 @@ last-rest l many =
 length-oldest : (c : Cache) → length (c .entries) ≡ cacheEntries → length (oldestFirst c) ≡ cacheEntries
 length-oldest c long = length-rotated (c .entries) (c .next % cacheEntries) (omega arith) ∙ long
 
+-- all but the oldest
+length-rest : (c : Cache) → length (c .entries) ≡ cacheEntries → length (drop 1 (oldestFirst c)) ≡ cacheEntries - 1
+length-rest c long = length-drop 1 (oldestFirst c) ∙ ap (λ (n : ℕ). n - 1) (length-oldest c long)
+
 module _ (c : Cache) (h : Header) (long : length (c .entries) ≡ cacheEntries) where
   -- the oldest goes, and the new one stands at the end
   oldest-more : oldestFirst (remembered c h) ≡ drop 1 (oldestFirst c) ++ seenOf h ∷ []
@@ -64,23 +68,23 @@ module _ (c : Cache) (h : Header) (long : length (c .entries) ≡ cacheEntries) 
       let rest = drop 1 (oldestFirst c) in
       let more = set (c .entries) at (seenOf h) in
       let many = length-oldest c long in
-      let fifteen : length rest ≡ 15 = length-drop 1 (oldestFirst c) ∙ ap (λ (n : ℕ). n - 1) many in
+      let but-one = length-rest c long in
       let all = length-set (c .entries) at (seenOf h) ∙ long in
-      let whole : length (rest ++ seenOf h ∷ []) ≡ cacheEntries = length-append rest (seenOf h ∷ []) ∙ ap (λ (n : ℕ). n + 1) fifteen in
+      let whole : length (rest ++ seenOf h ∷ []) ≡ cacheEntries = length-append rest (seenOf h ∷ []) ∙ ap (λ (n : ℕ). n + 1) but-one in
       ext-getD noSeen (oldestFirst (remembered c h)) (rest ++ seenOf h ∷ []) (length-oldest (remembered c h) all ∙ sym whole)
       (λ i low.
       let within : i < cacheEntries = omega (arith, length-oldest (remembered c h) all) in
       rotated noSeen more turn i all (omega arith) within
-      ∙ by-test (eqb i 15)
+      ∙ by-test (eqb i (cacheEntries - 1))
       (λ t.
-      let last = eqb-true i 15 t in
+      let last = eqb-true i (cacheEntries - 1) t in
       let here : (turn + i) % cacheEntries ≡ at = omega arith in
       let end : i ≡ length rest + 0 = omega arith in
       ap (λ (j : ℕ). getD more j noSeen) here
       ∙ getD-set-same (c .entries) at (seenOf h) noSeen (omega arith)
       ∙ sym (ap (λ (j : ℕ). getD (rest ++ seenOf h ∷ []) j noSeen) end ∙ getD-append-add rest (seenOf h ∷ []) 0 noSeen))
       (λ t.
-      let other = eqb-false i 15 t in
+      let other = eqb-false i (cacheEntries - 1) t in
       let away : (turn + i) % cacheEntries ≡ at → ⊥ = λ e. omega arith in
       let place : (turn + i) % cacheEntries ≡ (at + (1 + i)) % cacheEntries = omega arith in
       getD-set-other (c .entries) at ((turn + i) % cacheEntries) (seenOf h) noSeen away
@@ -227,7 +231,7 @@ still-seen c h l long few =
     let new = map seenOf l in
     let n : length new ≡ length l = length-map l seenOf in
     let rest = drop 1 (oldestFirst c) in
-    let fifteen : length rest ≡ 15 = length-drop 1 (oldestFirst c) ∙ ap (λ (n : ℕ). n - 1) (length-oldest c long) in
+    let but-one = length-rest c long in
     let stays : drop (length new) (oldestFirst c1) ≡ drop (length new) rest ++ seenOf h ∷ [] =
     ap (drop (length new)) (oldest-more c h long) ∙ drop-append-le (length new) rest (seenOf h ∷ []) (omega arith) in
     let there : Among (seenOf h) (drop (length new) (oldestFirst c1)) = rw stays (among-right (seenOf h) (drop (length new) rest) (seenOf h ∷ []) (inl refl)) in
