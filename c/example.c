@@ -1,6 +1,31 @@
-/* Seals one Network PDU and opens it again: the least that links. */
+/* Seals one Network PDU, opens it again, and shows one bit of it damaged being refused: the least that links. `bin/example` does all that follows.
+ *
+ * The archive, which is proved before it is built:
+ *   bin/built --archive radio
+ * On x86-64 (Debian: gcc, libc6-dev):
+ *   gcc -Ic c/example.c target/staticlib/libradio.a -o example
+ *   ./example
+ * On an Arm host, by the cross compiler and an emulator (Debian: gcc-x86-64-linux-gnu, libc6-dev-amd64-cross, qemu-user-static):
+ *   x86_64-linux-gnu-gcc -static -Ic c/example.c target/staticlib/libradio.a -o example
+ *   qemu-x86_64-static example
+ * It is C++, too: g++ -x c++ -Ic c/example.c -x none target/staticlib/libradio.a -o example */
 #include "gorephan.h"
 #include <stdio.h>
+
+/* What an answer of opening says. */
+static const char *told(uint32_t answer)
+{
+    switch (GOREPHAN_REFUSAL(answer)) {
+    case 0:
+        return "opened";
+    case GOREPHAN_NO_CANDIDATE:
+        return "of another network, or under an IV Index before the first";
+    case GOREPHAN_NOT_AUTHENTIC:
+        return "damaged or forged, or under another IV Index";
+    default:
+        return "refused, see docs/ANSWERS.md";
+    }
+}
 
 int main(void)
 {
@@ -16,6 +41,10 @@ int main(void)
     for (unsigned i = 0; i < GOREPHAN_OCTETS(sealed); i++)
         printf("%02x", pdu[i]);
     uint32_t opened = gorephan_open(credential, sizeof credential, 0x12345678, pdu, GOREPHAN_OCTETS(sealed), clear, sizeof clear);
-    printf(" opens with refusal %u, trials %u, octets %u\n", GOREPHAN_REFUSAL(opened), GOREPHAN_TRIALS(opened), GOREPHAN_OCTETS(opened));
-    return GOREPHAN_REFUSAL(opened) != 0;
+    printf(" is %s: refusal %u, trials %u, octets %u\n", told(opened), GOREPHAN_REFUSAL(opened), GOREPHAN_TRIALS(opened), GOREPHAN_OCTETS(opened));
+
+    pdu[9] ^= 1;
+    uint32_t damaged = gorephan_open(credential, sizeof credential, 0x12345678, pdu, GOREPHAN_OCTETS(sealed), clear, sizeof clear);
+    printf("with one bit changed it is %s: refusal %u\n", told(damaged), GOREPHAN_REFUSAL(damaged));
+    return GOREPHAN_REFUSAL(opened) != 0 || GOREPHAN_REFUSAL(damaged) != GOREPHAN_NOT_AUTHENTIC;
 }

@@ -1,21 +1,39 @@
 /* Gorephan for the C radio firmware: opening and sealing one Network PDU (Mesh Profile 1.0.1, 3.4). No function keeps state, allocates or waits.
  *
- * A length says how many octets the pointer before it points to. No pointer may be null, also where the length is 0. A buffer lent for writing may
- * not overlap another. Octets behind what is written, and the whole buffer where the call is refused, stay as they were.
+ * A length says how many octets the pointer before it points to. No pointer may be null, also where the length is 0. Octets behind what is written,
+ * and the whole buffer where the call is refused, stay as they were.
+ *
+ * A buffer lent for writing (out) may share no octet with another of the same call. The proofs suppose that out is the call's alone; where it is not,
+ * the call is undefined: neither the answer nor what stands in a buffer afterwards is promised. So a PDU is not opened in place, and not sealed over
+ * its own transport. Buffers that are only read may overlap, or be one.
  *
  * A credential is 33 octets: NID, encryption key (16), privacy key (16). Derive it once per network key and keep it: a PDU with a foreign NID then
  * costs no cipher work.
  *
- * Link target/staticlib/libradio.a (rt staticlib radio), x86-64. It needs memcpy and memset. Measured, not proved: the
- * deepest call uses some 5 KiB of stack. */
+ * Link target/staticlib/libradio.a (bin/built --archive radio), x86-64; c/example.c has the compile lines. It needs memcpy and memset. C++ may include
+ * this header. Measured, not proved: the deepest call uses some 5 KiB of stack. */
 #ifndef GOREPHAN_H
 #define GOREPHAN_H
 
 #include <stddef.h>
 #include <stdint.h>
 
+#ifdef __cplusplus
+extern "C" {
+#endif
+
 #define GOREPHAN_CREDENTIAL 33 /* octets of a credential */
 #define GOREPHAN_PDU 29        /* octets that a buffer for a PDU must have at least */
+
+/* The refusals that these functions give, by their numbers in docs/ANSWERS.md. */
+enum gorephan_refusal {
+    GOREPHAN_WRONG_LENGTH = 1,   /* the PDU's length is not 14 to 29 */
+    GOREPHAN_NO_CANDIDATE = 2,   /* no credential has its NID, or no IV Index of 0 or more fits IVI */
+    GOREPHAN_NOT_AUTHENTIC = 3,  /* no credential with its NID authenticates it */
+    GOREPHAN_WRONG_ADDRESS = 4,  /* it is authentic, but an address is not allowed */
+    GOREPHAN_OUTSIDE_RULES = 14, /* what is asked for is outside the rules */
+    GOREPHAN_SHORT_BUFFER = 16   /* out is shorter than a PDU may need */
+};
 
 /* The number of the refusal in an answer: 0 where nothing is refused. */
 #define GOREPHAN_REFUSAL(answer) ((answer) & 0xFF)
@@ -29,7 +47,8 @@
 /* Writes the credential of a network key.
  *   key, key_len   the network key, 16 octets
  *   out, out_len   33 octets or more
- * Answers 0, or 14 where a length is another. */
+ * Answers 0, or GOREPHAN_OUTSIDE_RULES (14) where a length is another. That goes for a short out, too: GOREPHAN_SHORT_BUFFER (16) speaks of a buffer
+ * that is lent for a PDU, of 29 octets, and this one is lent for a credential. */
 uint32_t gorephan_credentials(const uint8_t *key, size_t key_len, uint8_t *out, size_t out_len);
 
 /* Opens a Network PDU and writes it in clear, without NetMIC: octet 0, CTL and TTL, SEQ (3), SRC (2), DST (2), transport.
@@ -58,5 +77,9 @@ uint32_t gorephan_open(const uint8_t *credentials, size_t credentials_len, uint3
  * Refusals, in this order: 16 out is shorter than 29; 14 anything else outside these ranges. */
 uint32_t gorephan_seal(const uint8_t *credential, size_t credential_len, uint32_t iv_index, uint8_t ctl, uint8_t ttl, uint32_t seq, uint16_t src,
                        uint16_t dst, const uint8_t *transport, size_t transport_len, uint8_t *out, size_t out_len);
+
+#ifdef __cplusplus
+}
+#endif
 
 #endif

@@ -1,8 +1,9 @@
-/* Tests the archive from C: MP's Network PDUs, some to reserved groups and some of one SRC and SEQ under two IV Indexes both ways, edge lengths and
- * TTLs, every refusal with the buffer untouched, and random PDUs, whole and damaged. Prints what it counted; exits 1 at the first thing that is not
- * as it should be. */
+/* Tests the archive from C: the refusals' names, MP's Network PDUs, some to reserved groups and some of one SRC and SEQ under two IV Indexes both
+ * ways, edge lengths and TTLs, every refusal with the buffer untouched, and random PDUs, whole and damaged. Prints what it counted; exits 1 at the
+ * first thing that is not as it should be. */
 #include "gorephan.h"
-#include "pdus.h" /* made by tests/c/make_pdus.py */
+#include "names.h" /* made by tests/c/make_names.py */
+#include "pdus.h"  /* made by tests/c/make_pdus.py */
 #include <stdio.h>
 #include <stdlib.h>
 #include <string.h>
@@ -88,7 +89,8 @@ static void opens(const uint8_t *credentials, size_t len, const struct header *h
     check(untouched(out, n, 40), "and nothing behind them is written");
 }
 
-static void refuses(const uint8_t *credentials, size_t len, uint32_t iv_index, const uint8_t *pdu, size_t pdu_len, size_t out_len, uint32_t refusal, const char *what)
+static void refuses(const uint8_t *credentials, size_t len, uint32_t iv_index, const uint8_t *pdu, size_t pdu_len, size_t out_len, uint32_t refusal,
+                    const char *what)
 {
     uint8_t out[40];
     fill(out, 40);
@@ -184,6 +186,18 @@ static void edges(const uint8_t *credential)
     refuses(credential, 33, 9, pdu, 29, 40, 1 << 8 | 3, "two IV Indexes later");
 }
 
+/* Buffers that are only read may be one: transport that lies in the credential is sealed like a copy of it. */
+static void read_from_one_buffer(const uint8_t *credential)
+{
+    struct header h = {7, 0, 5, 3, 1, 2, 16, {0}};
+    uint8_t apart[40], out[40];
+    memcpy(h.transport, credential + 1, 16);
+    check(seal(credential, &h, apart) == 29 << 16, "a copy of a part of the credential is sealed");
+    fill(out, 40);
+    check(gorephan_seal(credential, 33, 7, 0, 5, 3, 1, 2, credential + 1, 16, out, 40) == 29 << 16, "and the part itself");
+    check(memcmp(out, apart, 40) == 0, "to the same octets");
+}
+
 static void every_refusal(const uint8_t *credential)
 {
     const struct header h = {8, 0, 5, 3, 0x0102, 0x0304, 4, {1, 2, 3, 4}};
@@ -270,16 +284,26 @@ static void at_random(void)
     }
 }
 
+/* A refusal's name has the number that docs/ANSWERS.md has under it. */
+static void refusals_by_name(void)
+{
+    for (size_t i = 0; i < sizeof names / sizeof names[0]; i++)
+        check(names[i].is == names[i].should_be, names[i].name);
+}
+
 int main(void)
 {
     static const uint8_t credential[33] = MP_CREDENTIAL;
+    refusals_by_name();
     samples();
     reserved_groups();
     under_both_indexes();
     edges(credential);
+    read_from_one_buffer(credential);
     every_refusal(credential);
     at_random();
-    printf("%zu samples of MP, %zu PDUs to reserved groups, %zu under two IV Indexes, 10000 random PDUs, %u checks\n",
-           sizeof mp_pdus / sizeof mp_pdus[0], sizeof reserved_pdus / sizeof reserved_pdus[0], sizeof twice_pdus / sizeof twice_pdus[0], checks);
+    printf("%zu refusals by name, %zu samples of MP, %zu PDUs to reserved groups, %zu under two IV Indexes, 10000 random PDUs, %u checks\n",
+           sizeof names / sizeof names[0], sizeof mp_pdus / sizeof mp_pdus[0], sizeof reserved_pdus / sizeof reserved_pdus[0],
+           sizeof twice_pdus / sizeof twice_pdus[0], checks);
     return 0;
 }
