@@ -1,4 +1,23 @@
-"""The boxes of the filling shed: what each of them sends, as sealed Network PDUs."""
+"""The boxes of the filling shed: what each of them sends, as sealed Network PDUs.
+
+A line of story.txt makes a box, and nothing else is needed for it:
+
+  box NAME ADDRESS "WORDS" start SEQ                                    a box that sends the wind's force
+  box NAME ADDRESS "WORDS" start SEQ long RECORDS                       and a long message, in segments
+  box NAME ADDRESS "WORDS" start SEQ before RECORDS now RECORDS         and first readings under the IV Index before and the one now
+
+NAME is its name in story.txt, WORDS its name in the picture. ADDRESS is its SRC, of four hexadecimal digits, SEQ its first number, of six. RECORDS
+are what a Sensor Status message says, written as the console reads them, any number of times one of these:
+
+  PROPERTY humidity VALUE..       two octets for each value: percent with two decimals, or unknown
+  PROPERTY temperature VALUE..    likewise: degrees with two decimals, or unknown
+  PROPERTY raw OCTETS             1 to 127 octets, as they are sent
+
+What a box sends, story.txt names behind `hear NAME`: `segment N` with nothing, resent, relayed or forged behind it; `status TTL DST`, the wind's
+force; `first before` and `first now`, with nothing or relayed behind it; `recorded`, the first PDU that it sent, once more.
+"""
+import re
+
 import network
 import transport
 from ciphers import k2, k4
@@ -10,27 +29,75 @@ IV_INDEX = 0x12345678
 INDEXES = {"before": IV_INDEX - 1, "now": IV_INDEX}
 STATION, TTL = 0x0001, 5
 
-# Sensor Status of the Mesh Model, and the properties of the two kinds of readings.
-SENSOR_STATUS, TEMPERATURE, HUMIDITY = b"\x52", 0x0075, 0x0076
-NOT_KNOWN, TEMPERATURE_NOT_KNOWN = 0xFFFF, 0x8000
-# What the old probe shows where it has no value, and a property that the site has not named.
-NO_VALUE, UNNAMED = 999, 0x0A1E
+# Sensor Status of the Mesh Model, and for each kind of value how it is counted: signed or not, and the count that says "not known".
+SENSOR_STATUS = b"\x52"
+KINDS = {"humidity": (False, 0xFFFF), "temperature": (True, -0x8000)}
 # A vendor's opcode of three octets (MP 3.7.3.1), which the wind's force follows.
 WIND_STATUS = b"\xc1\xff\xff"
+
+# A line that makes a box, and its parts.
+FORM = 'box NAME ADDRESS "WORDS" start SEQ, and behind it nothing, long RECORDS, or before RECORDS now RECORDS'
+LINE = re.compile(r'box (\w+) ([0-9a-f]{4}) "([^"]*[^" ][^"]*)" start ([0-9a-f]{6})(?: long (?P<long>.+)| before (?P<before>.+) now (?P<now>.+))?')
+VALUE, PROPERTY, OCTETS = re.compile(r"-?\d+\.\d\d"), re.compile(r"[0-9a-f]{4}"), re.compile(r"(?:[0-9a-f]{2})+")
+# The longest message in segments, and in one PDU.
+LONGEST, SHORT = 380, 11
+LAST_SEQ = 0xFFFFFF
 
 
 class Unknown(Exception):
     """What a box was to say is nothing that it can say."""
 
 
-def reading(of, count):
-    """One record, low octets first: the length less one and the property in format A, or in B where 11 bits do not hold the property; then two octets."""
-    header = (of << 5 | 1 << 1).to_bytes(2, "little") if of < 0x800 else (of << 8 | 1 << 1 | 1).to_bytes(3, "little")
-    return header + count.to_bytes(2, "little")
+def header(of, size):
+    """What stands before a value: the length less one and the property, in format A, or in B where they need more bits."""
+    if of < 0x800 and 1 <= size <= 16:
+        return (of << 5 | (size - 1) << 1).to_bytes(2, "little")
+    return (of << 8 | (size - 1 & 0x7F) << 1 | 1).to_bytes(3, "little")
 
 
-def status(of, *values):
-    return SENSOR_STATUS + b"".join(reading(of, value) for value in values)
+def counted(kind, word):
+    """The two octets of a value, low octet first: its hundredths, or that it is not known."""
+    signed, unknown = KINDS[kind]
+    if word != "unknown" and not VALUE.fullmatch(word):
+        raise Unknown(f"{word} is no {kind}: it is a number with two decimals, or unknown")
+    count = unknown if word == "unknown" else int(word.replace(".", ""))
+    try:
+        return count.to_bytes(2, "little", signed=signed)
+    except OverflowError:
+        raise Unknown(f"{word} is no {kind}: two octets do not hold it") from None
+
+
+def octets(word):
+    """The octets of a raw value."""
+    if not OCTETS.fullmatch(word) or len(word) > 2 * 127:
+        raise Unknown(f"{word or 'nothing'} is not 1 to 127 octets in hexadecimal")
+    return bytes.fromhex(word)
+
+
+def record(of, kind, words):
+    """The records of one property; takes their values off the words."""
+    if kind == "raw":
+        values = [octets(words.pop(0) if words else "")]
+    elif kind in KINDS:
+        values = []
+        while words and not PROPERTY.fullmatch(words[0]):
+            values.append(counted(kind, words.pop(0)))
+    else:
+        raise Unknown(f"{kind or 'nothing'} stands behind property {of}, not humidity, temperature or raw")
+    if not values:
+        raise Unknown(f"property {of} has no value")
+    return b"".join(header(int(of, 16), len(value)) + value for value in values)
+
+
+def status(text):
+    """The Sensor Status message of some records."""
+    words, found = text.split(), SENSOR_STATUS
+    while words:
+        of = words.pop(0)
+        if not PROPERTY.fullmatch(of):
+            raise Unknown(f"{of} stands where a property of four hexadecimal digits should")
+        found += record(of, words.pop(0) if words else "", words)
+    return found
 
 
 class Box:
@@ -39,23 +106,30 @@ class Box:
     A box whose SEQ starts again with the IV Index has a first reading before and one now.
     """
 
-    def __init__(self, src, start, payload=b"", firsts=()):
-        self.src, self.start, self.firsts = src, start, dict(firsts)
+    def __init__(self, src, start, words, payload, firsts):
+        self.src, self.start, self.words, self.firsts = src, start, words, firsts
         self.segments, self.latest, self.said = [], {}, []
         if payload:
             upper = self._secured(start, STATION, payload)
             self.segments = transport.cut(0, 0x40 | k4(APPLICATION_KEY), 0, start, upper)
-        self.next = start + len(self.segments)
+        self.next = start + len(self.segments) + (1 if firsts else 0)
+        if self.next > LAST_SEQ + 1:
+            raise Unknown(f"its numbers end with {LAST_SEQ:x}, and its message needs more")
 
     def _secured(self, seq, dst, payload, index=IV_INDEX):
+        """The upper transport octets of a message."""
         return transport.secure(APPLICATION_KEY, False, 4, seq, self.src, dst, index, payload)
 
     def _take(self):
+        """Its next SEQ."""
+        if self.next > LAST_SEQ:
+            raise Unknown(f"its numbers end with {LAST_SEQ:x}")
         self.next += 1
         return self.next - 1
 
-    def _sealed(self, ttl, seq, dst, octets, index=IV_INDEX):
-        pdu = network.seal(k2(NETWORK_KEY), index, 0, ttl, seq, self.src, dst, octets)
+    def _sealed(self, ttl, seq, dst, body, index=IV_INDEX):
+        """A Network PDU that it sends."""
+        pdu = network.seal(k2(NETWORK_KEY), index, 0, ttl, seq, self.src, dst, body)
         self.said.append(pdu)
         return pdu
 
@@ -90,29 +164,23 @@ class Box:
         return self.said[0]
 
 
-def attempts():
-    """How the old probe's maker has tried to say that there is no value."""
-    yield reading(HUMIDITY, NOT_KNOWN)
-    # taken for percent, of whose hundredths two octets keep the low 16 bits
-    yield reading(HUMIDITY, NO_VALUE * 100 & 0xFFFF)
-    # taken for tenths of a percent
-    yield reading(HUMIDITY, NO_VALUE * 10)
-    yield reading(UNNAMED, NO_VALUE)
-    yield reading(TEMPERATURE, NOT_KNOWN)
-    yield reading(TEMPERATURE, TEMPERATURE_NOT_KNOWN)
+def said(text, most):
+    """The message of some records, or none where there are none."""
+    message = status(text) if text else b""
+    if len(message) > most:
+        raise Unknown(f"its message of {len(message)} octets is longer than {most}")
+    return message
 
 
-def boxes():
-    """All boxes by their names in story.txt, with nothing sent yet."""
-    found = {
-        "humidity": Box(0x0201, 0x000A10, status(HUMIDITY, 4800, 4820, 4855, 4890, 4910, NOT_KNOWN, 4960, 4985, 5005, 5030)),
-        "temperature": Box(0x0202, 0x005200, status(TEMPERATURE, 2140, 2135, 2120, 2105, 2090, 2070, 2055)),
-        "probe": Box(0x0203, 0x000300, SENSOR_STATUS + b"".join(attempts())),
-        "wind": Box(0x0101, 0x000100),
-        "tank": Box(0x0204, 0x000000, firsts={"before": status(TEMPERATURE, 1480), "now": status(TEMPERATURE, 1525)}),
-    }
-    for number in range(1, 10):
-        # what a sonde reads before its launch: temperature inside and outside, and humidity
-        payload = status(TEMPERATURE, 2140 + number, 2055 - number) + reading(HUMIDITY, 4800 + 5 * number)
-        found[f"sonde{number}"] = Box(0x0300 + number, 0x001000 * number, payload)
-    return found
+def from_line(line, shed):
+    """The name and the box that a line of story.txt makes, beside those of the shed."""
+    found = LINE.fullmatch(line)
+    if not found:
+        raise Unknown(f"a box is made by: {FORM}")
+    name, src, words, start = found.groups()[:4]
+    if name in shed:
+        raise Unknown(f"there is a box {name} already")
+    if not 1 <= int(src, 16) <= 0x7FFF or int(src, 16) in (STATION, *(box.src for box in shed.values())):
+        raise Unknown(f"{src} is no box's address, or it is taken: 0001 is the station, and a box has another up to 7fff")
+    firsts = {when: said(found[when], SHORT) for when in INDEXES if found[when]}
+    return name, Box(int(src, 16), int(start, 16), words.strip(), said(found["long"], LONGEST), firsts)

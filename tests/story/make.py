@@ -3,10 +3,11 @@
   python3 tests/story/make.py --write    writes crates/console/stdin, crates/console/stdout and docs/story.svg
   python3 tests/story/make.py --check    writes nothing; fails, and names the first difference, where a file differs
 
-story.txt is the script, but that what a box sends is named there (`hear humidity segment 2 resent`; boxes.py has the forms), likewise what was
-handed up from it (`readings humidity`; `changed` has the forms), and that `=>` may stand behind a command, with words of its answer: they must
-stand in the answer in that order, `forward` exactly where something is forwarded. The answers are those of the independent model, which the
-console itself is held to by `rt check console`.
+story.txt is the script, but that a box is made there by a line of its own (`box wind 0101 "wind box" start 000100`; it becomes the comment that
+names the box in the picture), that what a box sends is named there (`hear humidity segment 2 resent`; boxes.py has the forms of both), likewise
+what was handed up from it (`readings humidity`; `changed` has the forms), and that `=>` may stand behind a command, with words of its answer:
+they must stand in the answer in that order, `forward` exactly where something is forwarded. The answers are those of the independent model, which
+the console itself is held to by `rt check console`.
 """
 import subprocess
 import sys
@@ -18,7 +19,7 @@ HERE = Path(__file__).resolve().parent
 ROOT = HERE.parents[1]
 sys.path.insert(0, str(ROOT / "tests" / "independent"))
 
-from boxes import Unknown, boxes  # noqa: E402
+from boxes import Unknown, from_line  # noqa: E402
 from language import Console  # noqa: E402
 from transport import ACCESS_SEGMENT  # noqa: E402
 
@@ -81,11 +82,21 @@ def spoken(line, shed, messages):
     if words[0] != "hear":
         return line
     if len(words) < 2 or words[1] not in shed:
-        raise Wrong("hear needs the name of a box")
+        raise Wrong("hear needs the name of a box, and a line before it that makes the box")
     try:
         return "hear " + sent(shed[words[1]], words[2:]).hex()
     except Unknown as unknown:
         raise Wrong(f"{words[1]} cannot send: {unknown}") from None
+
+
+def boxed(line, shed):
+    """Puts a box into the shed; gives the comment that names it."""
+    try:
+        name, box = from_line(line, shed)
+    except Unknown as unknown:
+        raise Wrong(unknown) from None
+    shed[name] = box
+    return f"# box {box.src:04x}: {box.words}"
 
 
 def fits(wanted, answer):
@@ -96,11 +107,13 @@ def fits(wanted, answer):
 
 def told(text):
     """The script and the answers, as lines; `messages` holds what was handed up last from each box."""
-    shed, console, script, answers, messages = boxes(), Console(), [], [], {}
+    shed, console, script, answers, messages = {}, Console(), [], [], {}
     for at, line in enumerate(text.splitlines(), 1):
         try:
             command, arrow, wanted = line.partition(" => ")
-            if line and not line.startswith("#"):
+            if line.split()[:1] == ["box"]:
+                line = boxed(line, shed)
+            elif line and not line.startswith("#"):
                 line = spoken(command, shed, messages)
             answer = console.answer(line.encode())
             if command.startswith("hear ") and " message " in answer[0]:
