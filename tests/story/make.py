@@ -1,6 +1,6 @@
-"""Makes the console's story from story.txt: the script, the answers to it and their picture.
+"""Makes the console's story from story.txt: the script, the answers to it, their picture, and the picture of its first two acts for README.
 
-  python3 tests/story/make.py --write    writes crates/console/stdin, crates/console/stdout and docs/story.svg
+  python3 tests/story/make.py --write    writes crates/console/stdin, crates/console/stdout, docs/story.svg and docs/shed.svg
   python3 tests/story/make.py --check    writes nothing; fails, and names the first difference, where a file differs
 
 story.txt is the script, but that a box is made there by a line of its own (`box wind 0101 "wind box" start 000100`; it becomes the comment that
@@ -23,7 +23,9 @@ from boxes import Unknown, from_line  # noqa: E402
 from language import Console  # noqa: E402
 from transport import ACCESS_SEGMENT  # noqa: E402
 
-SCRIPT, ANSWERS, PICTURE = (ROOT / name for name in ("crates/console/stdin", "crates/console/stdout", "docs/story.svg"))
+SCRIPT, ANSWERS, PICTURE, FIRST = (ROOT / name for name in ("crates/console/stdin", "crates/console/stdout", "docs/story.svg", "docs/shed.svg"))
+# Where the first two acts end.
+THIRD_ACT = "\n# 3. "
 
 
 class Wrong(Exception):
@@ -141,8 +143,11 @@ def picture(script, answers):
 
 def made():
     """The text of each file."""
-    script, answers = ("\n".join(lines) + "\n" for lines in told((HERE / "story.txt").read_text()))
-    return {SCRIPT: script, ANSWERS: answers, PICTURE: picture(script, answers)}
+    text = (HERE / "story.txt").read_text()
+    if THIRD_ACT not in text:
+        raise Wrong("story.txt has no third act")
+    whole, begun = (["\n".join(lines) + "\n" for lines in told(part)] for part in (text, text.partition(THIRD_ACT)[0]))
+    return {SCRIPT: whole[0], ANSWERS: whole[1], PICTURE: picture(*whole), FIRST: picture(*begun)}
 
 
 def difference(file, text):
