@@ -144,16 +144,16 @@ def built(build):
 
 
 def main():
-    names = sys.argv[1:]
-    archive = names[:1] == ["--archive"]
-    if len(names) != 1 + archive or names[-1].startswith("-"):
-        say("use: bin/built [--archive] NAME")
+    *option, name = sys.argv[1:] or [""]
+    if option not in ([], ["--archive"], ["--current"]) or not name or name.startswith("-"):
+        say("use: bin/built [--archive | --current] NAME")
         return 2
     if not shutil.which("rt"):
         say("bin/built: the Rattle toolchain (rt) is not on this machine")
         return 1
     try:
-        return built(Build(names[-1], archive))
+        build = Build(name, option == ["--archive"])
+        return int(not build.is_current(build.sources())) if option == ["--current"] else built(build)
     except KeyboardInterrupt:
         return 130
 

@@ -7,6 +7,7 @@ ROOT = Path(__file__).resolve().parents[2]
 sys.path[:0] = [str(ROOT / "bin" / "parts"), str(ROOT / "tests" / "independent")]
 
 import building  # noqa: E402
+import earlier  # noqa: E402
 import explaining  # noqa: E402
 import typing_in  # noqa: E402
 from program import asked  # noqa: E402
@@ -15,7 +16,7 @@ from program import asked  # noqa: E402
 def main():
     _, words = asked(argparse.ArgumentParser(description=__doc__))
     wrong, counts = [], []
-    for check in (explaining.logs, explaining.sessions, typing_in.passes, typing_in.help_fits, building.builds):
+    for check in (explaining.logs, explaining.sessions, typing_in.passes, typing_in.help_fits, building.builds, earlier.early):
         found, count = check(words)
         wrong += found
         counts.append(count)
