@@ -3,7 +3,7 @@ from dataclasses import dataclass
 from math import ceil
 
 from letters import lines, text, wide
-from rows import OWN
+from rows import OWN, names, title, told
 
 ROW, BOX, COLUMN, GAP, LEAST, TITLE, HEAD_LINE = 20, 14, 34, 16, 900, 17, 15
 # A cell of a readings row: how wide it is at least with the gap behind it, where in it the value begins, and a letter's width there.
@@ -172,10 +172,10 @@ def row_lines(row, plan, y):
                     *(text(words, plan.words, y + 14 + at * ROW, "words") for at, words in enumerate(folds)), *found, "</g>"]
 
 
-def top_lines(plan, title, messages_read):
+def top_lines(plan, head_words, messages_read):
     """Where the rows begin, and what stands over them: title, legend, and the heads of the columns."""
     y, found = 8, []
-    for words in lines(title, plan.width - plan.words - GAP, TITLE, bold=True) if title else ():
+    for words in lines(head_words, plan.width - plan.words - GAP, TITLE, bold=True) if head_words else ():
         found.append(text(words, plan.words, y + 16, "head title"))
         y += ROW + 6
     for entries in (LEGEND, READINGS if messages_read else ()):
@@ -191,10 +191,10 @@ def top_lines(plan, title, messages_read):
     return y, found
 
 
-def drawn(rows, title, called):
+def drawn(rows, head_words, called):
     """The lines of the SVG."""
     plan, messages_read = layout(rows, called), any(row.kind.startswith("readings") for row in rows)
-    y, found = top_lines(plan, title, messages_read)
+    y, found = top_lines(plan, head_words, messages_read)
     for row in rows:
         height, body = row_lines(row, plan, y)
         found += body
@@ -204,3 +204,10 @@ def drawn(rows, title, called):
     yield f'<rect class="paper" width="{plan.width}" height="{height}"/>'
     yield from found
     yield "</svg>"
+
+
+def picture(log, answers, numbers=None):
+    """The octets of the SVG of a log and its answers: ASCII, with any other letter by its number."""
+    called = names(log)
+    found = drawn(told(log, answers, called, numbers), title(log), called)
+    return "".join(f"{line}\n" for line in found).encode("ascii", "xmlcharrefreplace")

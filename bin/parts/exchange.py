@@ -5,11 +5,16 @@ class Unfit(Exception):
     """The answers are not those of a console to this log."""
 
 
-def read(name):
-    """The lines of a file; every octet is a letter, so that none is lost."""
-    with open(name, "rb") as file:
-        lines = file.read().decode("latin-1").split("\n")
+def lines_of(octets):
+    """The lines of some octets; every octet is a letter, so that none is lost."""
+    lines = octets.decode("latin-1").split("\n")
     return lines[:-1] if lines[-1] == "" else lines
+
+
+def read(name):
+    """The lines of a file."""
+    with open(name, "rb") as file:
+        return lines_of(file.read())
 
 
 def is_silent(line):

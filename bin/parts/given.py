@@ -11,6 +11,15 @@ def refused(words):
     return 2
 
 
+def put(octets):
+    """Writes to standard output; whoever reads may have seen enough."""
+    try:
+        sys.stdout.buffer.write(octets)
+        sys.stdout.buffer.flush()
+    except BrokenPipeError:
+        os.dup2(os.open(os.devnull, os.O_WRONLY), sys.stdout.fileno())
+
+
 def written(program, use, made):
     """Writes what `made` makes of the log's lines and the answers', and gives the status; wrong input gets a word, and nothing is written."""
     if len(sys.argv) != 3:
@@ -21,10 +30,5 @@ def written(program, use, made):
         return refused(f"{program}: {error.filename}: {error.strerror}")
     except Unfit as unfit:
         return refused(f"{program}: {sys.argv[2]} does not answer {sys.argv[1]}: {unfit}")
-    try:
-        sys.stdout.buffer.write(octets)
-        sys.stdout.buffer.flush()
-    except BrokenPipeError:
-        # whoever reads has seen enough
-        os.dup2(os.open(os.devnull, os.O_WRONLY), sys.stdout.fileno())
+    put(octets)
     return 0

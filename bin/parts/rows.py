@@ -118,7 +118,7 @@ class Story:
 
     def fresh(self):
         """A receiver that was just set up has heard and sent nothing."""
-        self.open, self.known, self.last, self.doubt, self.sending = {}, {}, {}, set(), 0
+        self.open, self.known, self.begun, self.last, self.doubt, self.sending = {}, {}, set(), {}, set(), 0
 
     def whose(self, src):
         """A source in words: its name with its address, or its address."""
@@ -169,7 +169,8 @@ class Story:
         """The message of a source and a SeqAuth, new where it was not open; where its SEQ came under another IV Index before, its own is named."""
         key = (said["src"], said["iv"], auth)
         if key not in self.known:
-            again = any((src, seq) == (said["src"], auth) for src, _, seq in self.known)
+            again = (said["src"], auth) in self.begun
+            self.begun.add((said["src"], auth))
             self.known[key] = Message(said["src"], f"{auth} under {said['iv']}" if again else auth)
         return self.known[key]
 
@@ -279,13 +280,13 @@ HEARD = {"refused": Story.refused, "stored": Story.stored, "repeat": Story.repea
          "acknowledgement": Story.acknowledged}
 
 
-def told(log, answers, called):
-    """The rows of a log, its headings among them."""
+def told(log, answers, called, numbers=None):
+    """The rows of a log, its headings among them; the numbers are those of its lines, where they are not counted from 1."""
     story = Story(called)
-    found = {number: (line, answered) for number, line, answered in exchanged(log, answers)}
-    for number, line in enumerate(log, 1):
+    found = {at: (line, answered) for at, line, answered in exchanged(log, answers)}
+    for at, (number, line) in enumerate(zip(numbers or range(1, len(log) + 1), log), 1):
         if heading := HEADING.fullmatch(line):
             story.rows.append(Row(number, written(heading[1]), "heading"))
-        elif number in found:
-            story.tell(number, *found[number])
+        elif at in found:
+            story.tell(number, *found[at])
     return story.rows

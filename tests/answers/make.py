@@ -20,7 +20,7 @@ for folder in ("bin/parts", "tests/story", "tests/independent"):
 import causes  # noqa: E402
 import program  # noqa: E402
 import recipe  # noqa: E402
-import table  # noqa: E402
+import refusal_table as table  # noqa: E402
 from coverage import ASKED  # noqa: E402
 from examples import MADE, Hidden  # noqa: E402
 from language import Console  # noqa: E402

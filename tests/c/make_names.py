@@ -7,9 +7,9 @@ import sys
 from pathlib import Path
 
 ROOT = Path(__file__).resolve().parents[2]
-sys.path.insert(0, str(ROOT / "tests" / "answers"))
+sys.path.insert(0, str(ROOT / "bin" / "parts"))
 
-from table import PAGE, refusals  # noqa: E402
+from refusal_table import PAGE, refusals  # noqa: E402
 
 
 def in_c(name):

@@ -33,6 +33,7 @@ class Tree:
         shutil.copytree(ROOT / "bin", self.root / "bin")
         shutil.copytree(ROOT / "tests" / "independent", self.root / "tests" / "independent")
         shutil.copy(ROOT / "tests" / "python", self.root / "tests")
+        (self.root / "docs").symlink_to(ROOT / "docs")
         shutil.copy(ROOT / "crates.txt", self.root)
         (self.root / "crates").symlink_to(ROOT / "crates")
         self.log.write_text(LOG)
@@ -52,7 +53,8 @@ class Tree:
         named = {"PATH": self.path, "TREE": str(self.root), "TRIED": tried, "CONSOLE": shlex.join(self.words), "RT": shutil.which("rt") or "rt",
                  "BUILT": str(ROOT / "target" / "bin" / "console")}
         words = [str(self.root / "bin" / program), *([] if given else [str(self.log)])]
-        return subprocess.run(words, input=given, capture_output=True, text=True, timeout=SECONDS, check=False, env={**os.environ, **named})
+        kept = {name: text for name, text in os.environ.items() if name != "GOREPHAN_CONSOLE"}
+        return subprocess.run(words, input=given, capture_output=True, text=True, timeout=SECONDS, check=False, env={**kept, **named})
 
 
 def _console(tree):
@@ -80,11 +82,21 @@ def _story(tree):
     yield "bin/story, where the proved answers are others", f"{MARK}known to nobody" in other.stdout and ANSWERS[1] in behind and MARK not in behind
 
 
+def _page(tree):
+    """bin/class: a page that says that nothing is proved yet, and then the proved one in its place."""
+    first, second = tree.run("class", "asked"), tree.again("class", "asked")
+    places = [line.rpartition(": ")[2] for line in first.stdout.splitlines() if line.startswith("The page of it")]
+    yield "bin/class, the first time", "The page of it, not proved yet: " in first.stdout and SAME in first.stdout and len(set(places)) == 1 < len(places)
+    yield "bin/class, the second time", second.stdout == f"The page of it: {places[-1]}\n" and "not proved" not in Path(places[-1]).read_text().lower()
+    refused = tree.run("class", "refused")
+    yield "bin/class, where another is written unproved", "not proved yet" not in refused.stdout and NONE in refused.stderr and "The page of it: " in refused.stdout
+
+
 def early(words):
     """Each way to answer before the proof; one of them by the toolchain's own `rt try`."""
     with tempfile.TemporaryDirectory() as folder:
         tree = Tree(folder, words)
-        found = [*_console(tree), *_story(tree)]
+        found = [*_console(tree), *_story(tree), *_page(tree)]
         real = tree.run("console", "real")
         found.append(("bin/console, by rt try itself", real.stdout.splitlines() == ANSWERS and SAME in real.stderr))
     return [f"{what}: not as expected" for what, fits in found if not fits], f"{len(found)} runs before a proof"

@@ -145,7 +145,7 @@ class Box:
             self.latest[place] = self._take()
         seq = self.latest.setdefault(place, self.start + place)
         pdu = self._sealed(TTL - (how == "relayed"), seq, STATION, self.segments[place])
-        return pdu[:12] + bytes([pdu[12] ^ 1]) + pdu[13:] if how == "forged" else pdu
+        return pdu[:-1] + bytes([pdu[-1] ^ 1]) if how == "forged" else pdu
 
     def status(self, ttl, dst):
         """A short message, whole in one PDU: the wind's force, which grows from 3 on."""
