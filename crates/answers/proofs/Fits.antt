@@ -2,7 +2,7 @@
 --   refusal-most to sending-most   the most octets of each piece, in the order of the definitions
 -- Assumes nothing.
 use mathlib.Core.List.{List, [], _∷_, _++_}
-use Prim.Native.Nat.{ℕ, _+_, _≤_, min}
+use Prim.Native.Nat.{ℕ, _+_, _*_, _≤_, min}
 use Prim.Native.String.{String}
 use native.Mathlib.Omega.{arith}
 use lib.Dec.{eqb}
@@ -136,7 +136,7 @@ noted-fits reply.Silence = omega arith
 noted-fits reply.Refused = omega (arith, refused-most 14)
 
 -- ---- what a receiver holds: at most 8 elements, 16 cache entries, 32 replay entries and 8 sessions
-next-most : (next : List ℕ) (elements : ℕ) → AtMost 148 (nextText next elements)
+next-most : (next : List ℕ) (elements : ℕ) → AtMost (3 + (elementPlaces * 18 + 1)) (nextText next elements)
 next-most next elements =
     let l : List ℕ = take (min elements elementPlaces) next in
     let few : length l ≤ elementPlaces = omega (arith, length-take (min elements elementPlaces) next) in
@@ -149,7 +149,7 @@ seen-most e =
 oldest-few : (c : Cache) → length (c .entries) ≤ cacheEntries → length (oldestFirst c) ≤ cacheEntries
 oldest-few c h = simp (length-append, length-drop, length-take) (omega arith)
 
-cache-most : (c : Cache) → length (c .entries) ≤ cacheEntries → AtMost 870 (cacheText c)
+cache-most : (c : Cache) → length (c .entries) ≤ cacheEntries → AtMost (5 + (cacheEntries * 54 + 1)) (cacheText c)
 cache-most c h =
     both (label-most "cache")
     (both (placed-most (λ i e. seenText e) 54 (λ i e. seen-most e) cacheEntries 0 (oldestFirst c) (oldest-few c h)) (label-most "\n"))
