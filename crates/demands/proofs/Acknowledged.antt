@@ -40,6 +40,7 @@ use Rattle.node.proofs.Addressed.{local-for}
 use Rattle.receiver.specs.declared.answer.Answer.the-variants.{Acknowledgement}
 use Rattle.receiver.specs.declared.answer.Taken.{Taken}
 use Rattle.receiver.specs.declared.state.Receiver.{Receiver}
+use Rattle.receiver.specs.Passing.{Passes}
 use Rattle.receiver.specs.State.{withOutgoing}
 use Rattle.receiver.specs.Whole.{admitted}
 use Rattle.receiver.proofs.Good.{good-fresh}
@@ -136,14 +137,18 @@ module _ (r : Receiver) (made : WellMade (r .node)) (element net src : ℕ) (s :
     taken =
         lent (record { answer = Acknowledgement (head .src) bits (marked .effect); trials = 0; receiver = withOutgoing (admitted (caching speaker head) head) (marked .out) }) msg
 
-    leaves : Leaves speaker sent fwd msg (hears .room-forward) (hears .room-message) head place (opens-so can (hears .own-key-first)) taken
+    leaves : Leaves speaker sent fwd msg place taken
     leaves =
         let opened = head-is can (hears .own-key-first) in
         let low : bits < 2 ^ 32 = lt-of-lt-of-le within (pow-mono {j = 32} (omega arith)) in
-        let new = rw opened at (hears .new) in
+        let passes : Passes speaker sent fwd msg place head =
+        record {
+          opened = record { wide = hears .room-forward; big = hears .room-message; opens = opens-so can (hears .own-key-first) };
+          new = rw opened at (hears .new);
+        } in
         let admits = rw opened at (hears .admits) in
         let here : forNode (speaker .node) src ≡ true = rw from (local-for (speaker .node) (s .src) unicast (sp .its-element)) in
-        heard-new speaker sent fwd msg (hears .room-forward) (hears .room-message) head place (opens-so can (hears .own-key-first)) new here taken
+        heard-new passes here taken
         (taken-acknowledgement (caching speaker head) head msg false zero bits (ack.form-is r element net src c buf low) admits)
 
     pub read-marks : Marks (speaker .out) (s .dst) bits msg (step speaker (Hear sent fwd msg))

@@ -20,7 +20,6 @@ use Rattle.common.specs.Lent.{Lent}
 use Rattle.common.proofs.BitLaws.{has-with-own, has-with-other, with-of-set}
 use Rattle.common.proofs.Tests.{by-test}
 use Rattle.network.specs.declared.header.Header.{Header}
-use Rattle.network.specs.declared.opening.Answer.the-variants as network
 use Rattle.network.specs.Candidates.{keyAt}
 use Rattle.network.specs.Opening.{opening}
 use Rattle.network.specs.Sealing.{sealable}
@@ -40,6 +39,7 @@ use Rattle.receiver.specs.declared.answer.Refusal.the-variants as refusal
 use Rattle.receiver.specs.declared.answer.Taken.{Taken}
 use Rattle.receiver.specs.declared.state.Receiver.{Receiver}
 use Rattle.receiver.specs.Hearing.{outcome, refusedHeard, takenAs, hearing}
+use Rattle.receiver.specs.Passing.{Opens}
 use Rattle.receiver.specs.Segmented as segments
 use Rattle.receiver.specs.State.{withCache}
 use Rattle.receiver.proofs.Good.{good-hear}
@@ -132,11 +132,16 @@ module _ (node : Node) (speeches : List Speech) (spent : Spent) where
       can : sealable (keyAt (node .materials) (s .network)) h ≡ true
       can = segment-sealable node s w i (sent .segment-there) seq ttl made (sent .seq-fits) (sent .ttl-fits)
 
-      opens : opening (r .node .materials) (r .node .networks) (r .node .iv) pdu ≡ record { answer = network.Opened; trials = trials; header = h }
+      opened : Opens r pdu fwd msg trials h
       unfolding headerOf
-      opens =
-          rw (same-scene sc)
-          (open-seal (node .materials) (node .networks) (node .iv) h can (formed node s w i (sent .segment-there) seq ttl) (sent .own-key-first))
+      opened =
+          record {
+            wide = wide;
+            big = big;
+            opens =
+                rw (same-scene sc)
+                (open-seal (node .materials) (node .networks) (node .iv) h can (formed node s w i (sent .segment-there) seq ttl) (sent .own-key-first));
+          }
 
       taken-is : takenAs (formOf h) q h msg ≡ t
       taken-is =
@@ -148,7 +153,7 @@ module _ (node : Node) (speeches : List Speech) (spent : Spent) where
       again e =
           let there : hasBit (filled k) i ≡ true = rw (sent .number-spent) (sc .seen-come k h (sent .one-of) refl e) in
           let o : step r (Hear pdu fwd msg) ≡ leftHeard (outcome (refusedHeard r refusal.Cached trials) fwd msg) =
-          ap leftHeard (heard-again r pdu fwd msg wide big h trials opens e) in
+          ap leftHeard (heard-again opened e) in
           let more : (j : ℕ) → comeWith j (filled j) (Segment k i seq ttl) ≡ filled j =
           λ j. by-test (eqb k j)
           (λ u. rw u (with-of-set (filled j) i (subst (λ (n : ℕ). hasBit (filled n) i ≡ true) (eqb-true k j u) there)))
@@ -169,11 +174,11 @@ module _ (node : Node) (speeches : List Speech) (spent : Spent) where
           placed-steps node made s w spoken-of q (sc .setup-same) (good-cache r (sc .good) _ c) (filled k) i (sent .segment-there) msg dst big seq ttl
           (entry-room node speeches spent r filled sc few (s .src)) (session-room node speeches spent r filled sc few k (sent .one-of)) (sc .stages k (sent .one-of))
 
-      leaves : seen (r .cache) h ≡ false → Leaves r pdu fwd msg wide big h trials opens t
+      leaves : seen (r .cache) h ≡ false → Leaves r pdu fwd msg trials t
       unfolding headerOf
       leaves e =
           let here = for-fixed (r .node) node (sc .setup-same) (s .dst) ∙ w .for-here in
-          heard-new r pdu fwd msg wide big h trials opens e here t taken-is
+          heard-new (record { opened = opened; new = e }) here t taken-is
 
       -- what the call answers is what placing it does
       answered-new : seen (r .cache) h ≡ false → SegmentAnswered node s (filled k) i msg (step r (Hear pdu fwd msg))

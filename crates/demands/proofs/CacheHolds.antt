@@ -14,8 +14,6 @@ use lib.Dec.{eqb, leb}
 use lib.ListN.{length}
 use Rattle.common.proofs.Tests.{by-test, and-first, and-second}
 use Rattle.network.specs.declared.header.Header.{Header}
-use Rattle.network.specs.declared.opening.Answer.the-variants as network
-use Rattle.network.specs.declared.opening.Opening.{Opening}
 use Rattle.network.proofs.AddressLaws.{unicast-some}
 use Rattle.memory.specs.declared.cache.Cache.{Cache}
 use Rattle.memory.specs.declared.cache.Seen.{Seen}
@@ -32,8 +30,9 @@ use Rattle.receiver.specs.declared.state.Receiver.{Receiver}
 use Rattle.receiver.specs.Answer.{refusalNumber}
 use Rattle.receiver.specs.Fresh.{settingUp}
 use Rattle.receiver.specs.Hearing as hear
+use Rattle.receiver.specs.Passing.{Opens}
 use Rattle.receiver.proofs.AnswerLaws.{number-some}
-use Rattle.receiver.proofs.Opened.{ClearIn, opening-clear}
+use Rattle.receiver.proofs.Opened.{opens-clear}
 use Rattle.receiver.proofs.Laws.Fresh.{fresh-is}
 use Rattle.receiver.proofs.Laws.GiveUp.{by-giving-up}
 use Rattle.receiver.proofs.Laws.Heard.{early, late, openingOf, heard-again}
@@ -41,7 +40,6 @@ use Rattle.receiver.proofs.Laws.Refusal.{Enters, heard-either, heard-entered}
 use Rattle.demands.specs.Answers.{numberOf}
 use Rattle.demands.specs.CacheHolds.{stopped, enteredBy, enteredIn, entered, CacheHolds, CachedExactly, FreshUnderIndex}
 use Rattle.demands.specs.Call.{Call, Hear, GiveUp, SendAccess, SendControl, SendSegment, Acknowledge, Stop, Heard, leftHeard, step, run, after}
-use Rattle.demands.specs.Forwarding.{Opens}
 use Rattle.demands.specs.Interleaved.{start, Each}
 use Rattle.demands.proofs.Invariant.{good-after}
 use Rattle.demands.proofs.KeptLaws.{kept-said}
@@ -74,10 +72,8 @@ entered-passes (Control src dst net opcode pair len) f = refl
 entered-passes (Acknowledgement src bits effect) f = refl
 
 -- ---- one call
-pub opened-sourced : (r : Receiver) (pdu : List ℕ) → openingOf r pdu .answer ≡ network.Opened → openingOf r pdu .header .src ≡ 0 → ⊥
-opened-sourced r pdu e =
-    let h = openingOf r pdu .header in
-    unicast-some (h .src) (subst (λ a. ClearIn a h) e (opening-clear (r .node .materials) (r .node .networks) (r .node .iv) pdu) .unicast)
+pub opens-sourced : {r : Receiver} {pdu fwd msg : List ℕ} {trials : ℕ} {h : Header} → Opens r pdu fwd msg trials h → h .src ≡ 0 → ⊥
+opens-sourced {h = h} o = unicast-some (h .src) (opens-clear o .unicast)
 
 -- the call leaves the cache with what it entered, which has a source
 record Writes (r : Receiver) (c : Call) : Type 0 where
@@ -93,7 +89,7 @@ hear-writes r pdu fwd msg =
     record { cache-is = rw (y .1 .leaves, stops) refl; sourced = rw (y .1 .leaves, stops) (tt {0}) })
     (λ x.
     let passes = entered-passes (hear.hearing r pdu fwd msg .heard .answer) (λ n e. x .1 .refused-late n e .is-late) in
-    record { cache-is = rw passes (x .1 .cache-is); sourced = rw passes (opened-sourced r pdu (x .0), tt {0}) })
+    record { cache-is = rw passes (x .1 .cache-is); sourced = rw passes (opens-sourced (x .0 .opened), tt {0}) })
     (heard-either r pdu fwd msg)
 
 writes : (r : Receiver) (c : Call) → Writes r c
@@ -132,23 +128,20 @@ module _ (s : Setup) (l : List Call) (e : settingUp s .answer ≡ Ready) (pdu fw
   r = after (start s) l
 
   module _ (o : Opens r pdu fwd msg trials h) where
-    spoken : h .src ≡ 0 → ⊥
-    spoken = subst (λ (x : Opening). x .header .src ≡ 0 → ⊥) (o .opens) (opened-sourced r pdu (ap (λ (x : Opening). x .answer) (o .opens)))
-
     -- it is in the cache exactly if it is one of the last sixteen
     abbrev There : Type 0
     There = Among (seenOf h) (lastEntries (entered s l))
 
     seen-there : seen (r .cache) h ≡ true → There
-    seen-there t = subst (Among (seenOf h)) (cache-holds s l e) (seen-exactly (r .cache) h (good-after s l e .cache-places) spoken .0 t)
+    seen-there t = subst (Among (seenOf h)) (cache-holds s l e) (seen-exactly (r .cache) h (good-after s l e .cache-places) (opens-sourced o) .0 t)
 
     there-seen : There → seen (r .cache) h ≡ true
-    there-seen m = seen-exactly (r .cache) h (good-after s l e .cache-places) spoken .1 (subst (Among (seenOf h)) (sym (cache-holds s l e)) m)
+    there-seen m = seen-exactly (r .cache) h (good-after s l e .cache-places) (opens-sourced o) .1 (subst (Among (seenOf h)) (sym (cache-holds s l e)) m)
 
     -- one that is new is entered, so its number is not 5
     new-passes : seen (r .cache) h ≡ false → numberOf (step r (Hear pdu fwd msg) .answer) ≡ 5 → ⊥
     new-passes f five =
-        let x = heard-entered r pdu fwd msg (o .wide) (o .big) h trials (o .opens) f in
+        let x = heard-entered (record { opened = o; new = f }) in
         let passes = entered-passes (hear.hearing r pdu fwd msg .heard .answer) (λ n t. x .refused-late n t .is-late) in
         true≢false (sym (ap stopped five) ∙ passes)
 
@@ -156,7 +149,7 @@ module _ (s : Setup) (l : List Call) (e : settingUp s .answer ≡ Ready) (pdu fw
     five-there five = seen-there (by-test (seen (r .cache) h) (λ t. t) (λ f. absurd (new-passes f five)))
 
     there-five : There → numberOf (step r (Hear pdu fwd msg) .answer) ≡ 5
-    there-five m = ap (λ (x : hear.Outcome). numberOf (leftHeard x .answer)) (heard-again r pdu fwd msg (o .wide) (o .big) h trials (o .opens) (there-seen m))
+    there-five m = ap (λ (x : hear.Outcome). numberOf (leftHeard x .answer)) (heard-again o (there-seen m))
 
 pub cached-exactly : CachedExactly
 cached-exactly s l pdu fwd msg trials h e o = (five-there s l e pdu fwd msg trials h o, there-five s l e pdu fwd msg trials h o)

@@ -36,6 +36,6 @@ forwards-exactly r pdu fwd msg trials h g p passes =
     let again = resealed (node .materials) (node .networks) (node .iv) pdu trials h fwd (octet-keys node (g .node-made)) p (x .wide) (x .opens) in
     by-test (forwards (node .relay) (isLocal node (h .dst)) h)
     (λ t. rw t
-    (heard-forwarded r pdu fwd msg (x .wide) (x .big) h trials (x .opens) (passes .new) t
+    (heard-forwarded passes t
     ∙ ap (λ (f : Lent Answer). lent (sealedLength (f .answer)) (f .buffer)) again))
-    (λ t. rw t (heard-kept r pdu fwd msg (x .wide) (x .big) h trials (x .opens) (passes .new) t))
+    (λ t. rw t (heard-kept passes t))

@@ -33,13 +33,13 @@ use Rattle.node.specs.Setup.{boundWithin, keysValid, nextWithin, elementsValid,
 use Rattle.receiver.specs.declared.answer.Refusal.the-variants.{NotForNode}
 use Rattle.receiver.specs.declared.state.Receiver.{Receiver}
 use Rattle.receiver.specs.Fresh.{settingUp}
+use Rattle.receiver.specs.Passing.{Opens}
 use Rattle.receiver.specs.Whole.{refusedAt}
 use Rattle.receiver.proofs.Good.{good-fresh}
 use Rattle.receiver.proofs.Laws.Fresh.{fresh-unseen}
 use Rattle.receiver.proofs.Laws.Heard.{caching, Leaves, heard-elsewhere}
 use Rattle.demands.specs.CacheHolds.{entered}
 use Rattle.demands.specs.Call.{after}
-use Rattle.demands.specs.Forwarding.{Opens}
 use Rattle.demands.specs.Instance.{shed, passingUnder, pduUnder, passing, MetTo, ForwardingMet, ReservedMet, heardBefore, IndexMet}
 use Rattle.demands.specs.Interleaved.{start}
 use Rattle.demands.proofs.Forwarding.{octet-keys}
@@ -117,11 +117,10 @@ opens-before : Opens (start shed) (pduUnder 0x12345677 0x0003) (replicate pduOct
 opens-before = opens-in 0x12345677 0x0003 (inr refl) (omega arith) may-three (start shed) refl
 
 -- heard first, it is refused 6 and entered
-heard : Leaves (start shed) (pduUnder 0x12345677 0x0003) (replicate pduOctets 0) (replicate messageOctets 0) (opens-before .wide) (opens-before .big) before 1 (opens-before .opens)
+heard : Leaves (start shed) (pduUnder 0x12345677 0x0003) (replicate pduOctets 0) (replicate messageOctets 0) 1
     (lent (refusedAt (caching (start shed) before) NotForNode 0) (replicate messageOctets 0))
 heard =
-    heard-elsewhere (start shed) (pduUnder 0x12345677 0x0003) (replicate pduOctets 0) (replicate messageOctets 0) (opens-before .wide) (opens-before .big) before 1 (opens-before .opens)
-    (unseen 0x12345677 0x0003 (inr refl) (omega arith) may-three) elsewhere
+    heard-elsewhere (record { opened = opens-before; new = unseen 0x12345677 0x0003 (inr refl) (omega arith) may-three }) elsewhere
 
 one-entered : entered shed heardBefore ≡ seenOf before ∷ []
 one-entered = rw (heard .answers, opens-before .opens) refl

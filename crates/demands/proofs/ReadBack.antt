@@ -43,7 +43,7 @@ use Rattle.demands.proofs.SegmentsHeard.{each-read, each-within}
 use Rattle.demands.proofs.SentLaws.{SaidBy, StartedBy, headerAs, keptAs, sendingAs, Way, Whole, Begun, way, step-is}
 use Rattle.demands.proofs.SpeechCut.{cut-is, last-low}
 use Rattle.demands.proofs.WholeRead.{Sendable, each-whole, whole-within}
-use Rattle.demands.proofs.WholeSent.{wholeHeader, Passes, Heard, formed, access-whole, control-whole}
+use Rattle.demands.proofs.WholeSent.{wholeHeader, Reaches, Heard, formed, access-whole, control-whole}
 
 module _ (sender : Receiver) (setup : Setup) (q : Request) (words : Words) (buf : List ℕ) (b : Between sender setup q words) (l : List Call) where
   abbrev node : Node
@@ -107,7 +107,7 @@ module _ (sender : Receiver) (setup : Setup) (q : Request) (words : Words) (buf 
   module _ (a : accepted sender q words ≡ true) (g : SaidBy sender (q .element) (headerAs sender q words) said) (ctl : Bool) (octet : ℕ) (body : List ℕ)
       (short : length (octet ∷ body) ≤ 16) (shape : stamped sender (q .element) (headerAs sender q words) ≡ wholeHeader s ctl ttl (octet ∷ body))
       (hands-up : (ready : settingUp setup .answer ≡ Ready) (t : ℕ) (fwd msg : List ℕ)
-      → (let h = wholeHeader s ctl t (octet ∷ body) in Passes setup s h fwd msg → Heard setup ready s t fwd msg h)) where
+      → (let h = wholeHeader s ctl t (octet ∷ body) in Reaches setup s h fwd msg → Heard setup ready s t fwd msg h)) where
     abbrev h : Header
     h = wholeHeader s ctl ttl (octet ∷ body)
 
@@ -131,7 +131,6 @@ module _ (sender : Receiver) (setup : Setup) (q : Request) (words : Words) (buf 
           receives = λ t none.
               record { held = held sender node (b .shared) q words a; near = near sender node (b .shared) q (b .good .node-made); none-before = none };
           here = b .for-here;
-          dst-fits = b .dst-fits;
           hands-up = hands-up;
         }
 

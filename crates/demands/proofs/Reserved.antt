@@ -10,11 +10,14 @@ use lib.ListN.{length, getD}
 use Rattle.common.specs.Lent.{Lent}
 use Rattle.common.proofs.Tests.{by-test}
 use Rattle.network.specs.declared.header.Header.{Header}
-use Rattle.network.specs.Address.{isReserved}
+use Rattle.network.specs.Address.{isUnicast, isReserved}
 use Rattle.network.specs.Sealing.{forwards}
 use Rattle.network.proofs.AddressLaws.{unicast-some, reserved-some, reserved-not-unicast}
 use Rattle.memory.specs.declared.outgoing.Outgoing.{Outgoing}
+use Rattle.memory.specs.declared.session.SessionKey.{SessionKey}
 use Rattle.memory.specs.Replay.{noEntry}
+use Rattle.memory.proofs.ReplayMap.{lookUp-nowhere}
+use Rattle.memory.proofs.SessionSlots.{place-nowhere}
 use Rattle.node.specs.declared.setup.Setup.{Setup}
 use Rattle.node.specs.Addresses.{isLocal}
 use Rattle.node.specs.Setup.{making}
@@ -23,11 +26,11 @@ use Rattle.node.proofs.SetupLaws.{local-is-unicast, groups-given}
 use Rattle.receiver.specs.declared.state.Receiver.{Receiver}
 use Rattle.receiver.specs.Fresh.{settingUp}
 use Rattle.receiver.specs.Good.{Good}
-use Rattle.receiver.proofs.Good.{good-fresh}
+use Rattle.receiver.proofs.Opened.{opens-clear}
 use Rattle.receiver.proofs.Laws.Fresh.{ready-made, fresh-is}
 use Rattle.receiver.proofs.Laws.Heard.{heard-elsewhere}
 use Rattle.receiver.proofs.Laws.Outgoing.{outgoing-heard}
-use Rattle.receiver.proofs.Laws.Sources.{UnknownIn, unknown-fresh, unknown-freed, unknown-heard}
+use Rattle.receiver.proofs.Laws.Sources.{Lists, lists-fresh, lists-freed, lists-heard}
 use Rattle.sending.specs.declared.acknowledge.Chosen.{Chosen}
 use Rattle.sending.specs.declared.answer.Spoken.{Spoken}
 use Rattle.sending.specs.Acknowledge.{chosen}
@@ -38,14 +41,13 @@ use Rattle.demands.specs.NeverTwice.{addressee}
 use Rattle.demands.specs.Reserved.{ForNobody, GoesOn, NoneListened, NoneAsked, NoneSentTo}
 use Rattle.demands.specs.Speech.{Access, Control}
 use Rattle.demands.proofs.Forwarding.{forwards-exactly}
-use Rattle.demands.proofs.Invariant.{good-step}
+use Rattle.demands.proofs.Invariant.{good-after}
 use Rattle.demands.proofs.Left.{walk-step}
 
 -- ---- heard
 pub for-nobody : ForNobody
 for-nobody r pdu fwd msg trials h p reserved =
-    let x = p .opened in
-    let l = heard-elsewhere r pdu fwd msg (x .wide) (x .big) h trials (x .opens) (p .new) (reserved-never (r .node) (h .dst) reserved) in
+    let l = heard-elsewhere p (reserved-never (r .node) (h .dst) reserved) in
     (l .answers, l .network-is, l .application-is)
 
 -- where DST is no local address, relay and TTL decide
@@ -75,48 +77,57 @@ none-asked r q (Control opcode parameters) buf =
     (λ a _ _. asked-spared (control-allows r q opcode (length parameters) a .asks)) (λ a _ _. asked-spared (control-allows r q opcode (length parameters) a .asks))
 
 -- ---- sent to
--- no reserved address has a session or an entry, and no message to one is kept
-abbrev Spares : Receiver → Type 0
-Spares r = ((a : ℕ) → isReserved a ≡ true → UnknownIn a r) × (isReserved (r .out .terms .dst) ≡ false)
+-- no reserved address is listed, and no message to one is kept
+abbrev Spared : ℕ → Type 0
+Spared a = isReserved a ≡ false
 
-zero-spared : isReserved 0 ≡ false
+abbrev Spares : Receiver → Type 0
+Spares r = Lists Spared r × Spared (r .out .terms .dst)
+
+zero-spared : Spared 0
 zero-spared = by-test (isReserved 0) (λ t. absurd (reserved-some 0 t refl)) (λ t. t)
 
-spares-fresh : (s : Setup) → Spares (settingUp s .receiver)
-spares-fresh s = rw (fresh-is s) ((λ a t. unknown-fresh a (reserved-some a t) (making s .node) (making s .next)), zero-spared)
+unicast-spared : (a : ℕ) → isUnicast a ≡ true → Spared a
+unicast-spared a u = by-test (isReserved a) (λ t. absurd (true≢false (sym u ∙ reserved-not-unicast a t))) (λ t. t)
 
-spares-step : (r : Receiver) (c : Call) → Good r → Spares r → Spares (step r c .receiver)
-spares-step r c good s =
+spares-fresh : (s : Setup) → Spares (settingUp s .receiver)
+spares-fresh s = rw (fresh-is s) (lists-fresh Spared zero-spared (making s .node) (making s .next), zero-spared)
+
+spares-step : (r : Receiver) (c : Call) → Spares r → Spares (step r c .receiver)
+spares-step r c s =
     walk-step r Spares
     (record {
       hears = λ pdu fwd msg. (
-        (λ a t. unknown-heard a (reserved-some a t) (reserved-not-unicast a t) r good (s .0 a t) pdu fwd msg),
-        outgoing-heard (λ (o : Outgoing). isReserved (o .terms .dst) ≡ false) r zero-spared (s .1) (λ _. s .1) fwd msg pdu,
+        lists-heard Spared zero-spared r (s .0) pdu fwd msg (λ p. unicast-spared _ (opens-clear (p .opened) .unicast)),
+        outgoing-heard (λ (o : Outgoing). Spared (o .terms .dst)) r zero-spared (s .1) (λ _. s .1) fwd msg pdu,
       );
-      frees = λ slot low. ((λ a t. unknown-freed a (reserved-some a t) r (s .0 a t) slot low), s .1);
+      frees = λ slot _. (lists-freed Spared zero-spared r (s .0) slot, s .1);
       speaks =
           record { stays = s; sends = λ _ _. s; begins = λ _ _ o b. (s .0, rw (b .to-whom) (asked-spared (b .asks))); ends = (s .0, zero-spared) };
     }) c
 
-spares-after : (r : Receiver) (l : List Call) → Good r → Spares r → Spares (after r l)
-spares-after r [] g s = s
-spares-after r (c ∷ l) g s = spares-after (step r c .receiver) l (good-step r c g) (spares-step r c g s)
+spares-after : (r : Receiver) (l : List Call) → Spares r → Spares (after r l)
+spares-after r [] s = s
+spares-after r (c ∷ l) s = spares-after (step r c .receiver) l (spares-step r c s)
 
--- a source that has neither is not acknowledged
-unanswered : (r : Receiver) (net src : ℕ) (buf : List ℕ) → (src ≡ 0 → ⊥) → UnknownIn src r → step r (Acknowledge net src buf) .made ≡ true → ⊥
-unanswered r net src buf some u =
-    let none = ap (λ (c : Chosen). c .dst) (chosen-last (r .replay) (r .sessions) src some noEntry (u .no-session) (u .no-entry)) in
+-- a source that is not listed is not acknowledged
+unanswered : (r : Receiver) → Good r → Lists Spared r → (net src : ℕ) (buf : List ℕ) → isReserved src ≡ true → step r (Acknowledge net src buf) .made ≡ true → ⊥
+unanswered r good s net src buf t =
+    let other : (a : ℕ) → Spared a → a ≡ src → ⊥ = λ a u e. true≢false (sym t ∙ ap isReserved (sym e) ∙ u) in
+    let no-session = place-nowhere (r .sessions) (good .sessions-kept .places) (record { src = src }) (λ i e. other _ (s .held i) (ap (λ (k : SessionKey). k .src) e)) in
+    let no-entry = lookUp-nowhere (r .replay) src (λ i. other _ (s .entries i)) in
+    let none = ap (λ (c : Chosen). c .dst) (chosen-last (r .replay) (r .sessions) src (reserved-some src t) noEntry no-session no-entry) in
     walk-acknowledge r buf (λ (s : Lent Spoken). madeBy (s .answer .answer) ≡ true → ⊥) (λ _ _ m. false≢true m) net src
     (λ unicast _ _. unicast-some (chosen (r .replay) (r .sessions) src .dst) unicast none)
 
-spared : (r : Receiver) → Spares r → (c : Call) → step r c .made ≡ true → isReserved (addressee r c) ≡ false
-spared r s (Hear pdu fwd msg) m = absurd (false≢true m)
-spared r s (GiveUp src) m = absurd (false≢true m)
-spared r s (SendAccess q key szmic payload buf) m = none-asked r q (Access key szmic payload) buf m
-spared r s (SendControl q opcode parameters buf) m = none-asked r q (Control opcode parameters) buf m
-spared r s (SendSegment n buf) m = s .1
-spared r s (Acknowledge net src buf) m = by-test (isReserved src) (λ t. absurd (unanswered r net src buf (reserved-some src t) (s .0 src t) m)) (λ t. t)
-spared r s Stop m = absurd (false≢true m)
+spared : (r : Receiver) → Good r → Spares r → (c : Call) → step r c .made ≡ true → Spared (addressee r c)
+spared r g s (Hear pdu fwd msg) m = absurd (false≢true m)
+spared r g s (GiveUp src) m = absurd (false≢true m)
+spared r g s (SendAccess q key szmic payload buf) m = none-asked r q (Access key szmic payload) buf m
+spared r g s (SendControl q opcode parameters buf) m = none-asked r q (Control opcode parameters) buf m
+spared r g s (SendSegment n buf) m = s .1
+spared r g s (Acknowledge net src buf) m = by-test (isReserved src) (λ t. absurd (unanswered r g (s .0) net src buf t m)) (λ t. t)
+spared r g s Stop m = absurd (false≢true m)
 
 pub none-sent-to : NoneSentTo
-none-sent-to s l c e = spared (after (settingUp s .receiver) l) (spares-after (settingUp s .receiver) l (good-fresh s e) (spares-fresh s)) c
+none-sent-to s l c e = spared (after (settingUp s .receiver) l) (good-after s l e) (spares-after (settingUp s .receiver) l (spares-fresh s)) c

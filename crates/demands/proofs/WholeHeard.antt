@@ -1,28 +1,22 @@
--- A message that went whole, heard by a fresh receiver: its PDU opens to the header that was sealed, nothing is in the cache or the replay list, and the form is the one that was written.
+-- A message that went whole, heard by a fresh receiver: its PDU passes, nothing is in the replay list, and the form is the one that was written.
 -- Behind it the cache has the PDU. Assumes nothing.
 --   HandsUp                       what is handed up, counted and remembered
 --   access-heard, control-heard   of an access and of a control message
 use mathlib.Core.Bool.{Bool, true}
 use mathlib.Core.List.{List, [], _∷_}
 use mathlib.Core.Path.{_≡_, refl, sym, ap, _∙_, subst}
-use Prim.Native.Nat.{ℕ, _+_, _≤_}
+use Prim.Native.Nat.{ℕ}
 use lib.ListN.{length, drop}
 use lib.Seq.{take-append-seam}
 use Rattle.common.specs.Lent.{Lent, lent}
 use Rattle.common.specs.Lists.{onto}
 use Rattle.network.specs.declared.header.Header.{Header}
-use Rattle.network.specs.Candidates.{keyAt, candidates}
 use Rattle.network.specs.Header.{transportOf}
-use Rattle.network.specs.Pdu.{pduOctets, pduOf}
-use Rattle.network.specs.Sealing.{sealable}
-use Rattle.network.specs.SealOpen.{Formed, Receives}
-use Rattle.network.proofs.SealOpen.{open-seal}
 use Rattle.transport.specs.declared.form.Form.the-variants as form
 use Rattle.transport.specs.declared.securing.MessageKey.{MessageKey}
 use Rattle.transport.specs.declared.securing.Opened.the-variants.{Message}
 use Rattle.transport.specs.Form.{formOf}
 use Rattle.transport.specs.Securing.{unsecuring}
-use Rattle.transport.specs.Segment.{messageOctets}
 use Rattle.memory.specs.Cache.{seenOf, seen, remembered}
 use Rattle.memory.proofs.CacheLaws.{seen-new}
 use Rattle.node.specs.declared.setup.Setup.{Setup}
@@ -33,11 +27,12 @@ use Rattle.receiver.specs.declared.fresh.Answer.the-variants.{Ready}
 use Rattle.receiver.specs.declared.state.Receiver.{Receiver}
 use Rattle.receiver.specs.Fresh.{settingUp}
 use Rattle.receiver.specs.Hearing.{takenAs}
+use Rattle.receiver.specs.Passing.{Passes}
 use Rattle.receiver.specs.State.{withCache}
 use Rattle.receiver.specs.Whole as whole
 use Rattle.receiver.proofs.Good.{good-fresh}
 use Rattle.receiver.proofs.Laws.Form.{taken-access, taken-control, admitted-is}
-use Rattle.receiver.proofs.Laws.Fresh.{fresh-unseen, fresh-admits}
+use Rattle.receiver.proofs.Laws.Fresh.{fresh-admits}
 use Rattle.receiver.proofs.Laws.Heard.{heard-new}
 use Rattle.demands.specs.Call.{Hear, Heard, Tried, step}
 use Rattle.demands.specs.Interleaved.{start, nodeOf, handedAs, handed}
@@ -50,19 +45,11 @@ pub record HandsUp (setup : Setup) (h : Header) (pdu fwd msg : List ℕ) (m : Ha
   -- its header is in the cache
   pub caches : (k : Header) → seenOf k ≡ seenOf h → seen (step (start setup) (Hear pdu fwd msg) .receiver .cache) k ≡ true
 
-module _ (setup : Setup) (ready : settingUp setup .answer ≡ Ready) (h : Header) (sealed : sealable (keyAt (nodeOf setup .materials) (h .key)) h ≡ true) (formed : Formed h)
-    (receives : Receives (nodeOf setup .materials) (nodeOf setup .networks) (nodeOf setup .iv) h (pduOf (keyAt (nodeOf setup .materials) (h .key)) h))
-    (spoken : h .src ≡ 0 → ⊥) (here : forNode (nodeOf setup) (h .dst) ≡ true) (fwd msg : List ℕ) (wide : pduOctets ≤ length fwd) (big : messageOctets ≤ length msg) where
-  abbrev pdu : List ℕ
-  pdu = pduOf (keyAt (nodeOf setup .materials) (h .key)) h
-
+module _ (setup : Setup) (ready : settingUp setup .answer ≡ Ready) (h : Header) (pdu fwd msg : List ℕ) (place : ℕ)
+    (passes : Passes (start setup) pdu fwd msg place h) (here : forNode (nodeOf setup) (h .dst) ≡ true) where
   -- the receiver with the PDU in its cache
   abbrev q : Receiver
   q = withCache (start setup) (remembered (start setup .cache) h)
-
-  -- the place of its network key
-  abbrev place : ℕ
-  place = length (candidates (nodeOf setup .materials) (h .key) (keyAt (nodeOf setup .materials) (h .key) .nid)) + 1
 
   -- what is handed up and counted is what the message of its form hands up and counts
   record Whole (t : Lent Taken) : Type 0 where
@@ -72,9 +59,7 @@ module _ (setup : Setup) (ready : settingUp setup .answer ≡ Ready) (h : Header
 
   heard-whole : (t : Lent Taken) → takenAs (formOf h) q h msg ≡ t → Whole t
   heard-whole t e =
-      let l = heard-new (start setup) pdu fwd msg wide big h place (open-seal (nodeOf setup .materials) (nodeOf setup .networks) (nodeOf setup .iv) h sealed formed receives)
-      (fresh-unseen setup h spoken) here
-      t e in
+      let l = heard-new passes here t e in
       record { hands-as = rw (l .answers, l .message-is) refl; tried-as = rw (l .network-is, l .application-is) refl; left-as = l .left-is }
 
   -- an admitted message leaves the cache with its PDU

@@ -19,9 +19,8 @@ use Rattle.network.specs.Pdu.{pduOctets, pduOf}
 use Rattle.network.specs.Sealing.{sealable}
 use Rattle.network.specs.SealOpen.{Formed, Receives}
 use Rattle.network.specs.Trial.{tried}
-use Rattle.network.proofs.AddressLaws.{unicast-some, allowed-source}
+use Rattle.network.proofs.AddressLaws.{unicast-some}
 use Rattle.network.proofs.SealOpen.{open-seal}
-use Rattle.network.proofs.Sealed.{within}
 use Rattle.transport.specs.Segment.{messageOctets}
 use Rattle.memory.specs.Cache.{seen}
 use Rattle.node.specs.declared.addresses.Node.{Node}
@@ -34,7 +33,10 @@ use Rattle.receiver.specs.declared.state.Receiver.{Receiver}
 use Rattle.receiver.specs.Fresh.{settingUp}
 use Rattle.receiver.specs.Hearing as hear
 use Rattle.receiver.specs.Hearing.{outcome, refusedHeard}
+use Rattle.receiver.specs.Passing.{Opens}
+use Rattle.receiver.proofs.Opened.{opens-clear}
 use Rattle.receiver.proofs.Laws.Fixed.{fixed-heard}
+use Rattle.receiver.proofs.Laws.Fresh.{fresh-unseen}
 use Rattle.receiver.proofs.Laws.Heard.{heard-unopened, heard-again}
 use Rattle.demands.specs.Call.{Hear, Outcome, leftHeard, step}
 use Rattle.demands.specs.Interleaved.{start, nodeOf, isLastMissing, Each, handed}
@@ -44,7 +46,7 @@ use Rattle.demands.specs.Speech.{Speech, networkPlace}
 use Rattle.demands.proofs.Refusal.{unopened, unopened-leaves}
 use Rattle.demands.proofs.ReadOnce.{Within, AllWithin}
 use Rattle.demands.proofs.RelayLaws.{ttl-sealable, relayed-sealed}
-use Rattle.demands.proofs.WholeSent.{wholeHeader, Passes, Heard}
+use Rattle.demands.proofs.WholeSent.{wholeHeader, Reaches, Heard}
 
 -- the only segment is the last that is missing
 only-missing : isLastMissing 0 0 0 ≡ true
@@ -80,8 +82,7 @@ module _ (setup : Setup) (s : Speech) (ctl : Bool) (body : List ℕ) (ttl : ℕ)
     pub formed : (t : ℕ) → Formed (header t)
     pub receives : (t : ℕ) → OwnKeyFirst node s (pduWith t) → Receives (node .materials) (node .networks) (node .iv) (header t) (pduWith t)
     pub here : forNode node (s .dst) ≡ true
-    pub dst-fits : s .dst < 65536
-    pub hands-up : (ready : settingUp setup .answer ≡ Ready) (t : ℕ) (fwd msg : List ℕ) → Passes setup s (header t) fwd msg → Heard setup ready s t fwd msg (header t)
+    pub hands-up : (ready : settingUp setup .answer ≡ Ready) (t : ℕ) (fwd msg : List ℕ) → Reaches setup s (header t) fwd msg → Heard setup ready s t fwd msg (header t)
 
   module _ (ready : settingUp setup .answer ≡ Ready) (m : Sendable) (p : Piece) (segment-is : p .segment ≡ 0) (pdu-is : p .pdu ≡ pduWith ttl) where
     abbrev ps : List Piece
@@ -99,18 +100,14 @@ module _ (setup : Setup) (s : Speech) (ctl : Bool) (body : List ℕ) (ttl : ℕ)
       opens : opening (node .materials) (node .networks) (node .iv) (pduWith t) ≡ record { answer = network.Opened; trials = networkPlace node s; header = header t }
       opens = open-seal (node .materials) (node .networks) (node .iv) (header t) (can-with t fits) (m .formed t) (m .receives t first)
 
+      opens-in : (r : Receiver) → r .node ≡ node → Opens r (pduWith t) fwd msg (networkPlace node s) (header t)
+      opens-in r same = record { wide = wide; big = big; opens = rw same opens }
+
       up : Heard setup ready s t fwd msg (header t)
       up =
+          let o = opens-in (start setup) refl in
           m .hands-up ready t fwd msg
-          (record {
-            can = can-with t fits;
-            receives = m .receives t first;
-            spoken = unicast-some (s .src) (allowed-source ctl (s .src) (s .dst) (within key (header ttl) (m .can) .allowed));
-            here = m .here;
-            dst-fits = m .dst-fits;
-            wide = wide;
-            big = big;
-          })
+          (record { passes = record { opened = o; new = fresh-unseen setup (header t) (unicast-some (s .src) (opens-clear o .unicast)) }; here = m .here })
 
       first-reads : Reads node s 0 0 0 (step (start setup) (Hear (pduWith t) fwd msg))
       first-reads =
@@ -125,7 +122,7 @@ module _ (setup : Setup) (s : Speech) (ctl : Bool) (body : List ℕ) (ttl : ℕ)
       -- ---- it comes again
       module _ (r : Receiver) (bits : ℕ) (same : r .node ≡ node) (cached : (k : ℕ) → seen (r .cache) (header k) ≡ true) (has : hasBit bits 0 ≡ true) where
         refused : step r (Hear (pduWith t) fwd msg) ≡ leftHeard (outcome (refusedHeard r Cached (networkPlace node s)) fwd msg)
-        refused = ap leftHeard (heard-again r (pduWith t) fwd msg wide big (header t) (networkPlace node s) (rw same opens) (cached t))
+        refused = ap leftHeard (heard-again (opens-in r same) (cached t))
 
         again-reads : Reads node s 0 bits 0 (step r (Hear (pduWith t) fwd msg))
         again-reads =

@@ -1,5 +1,6 @@
 -- A message that goes whole, as its sender stamps it, and what a fresh receiver with the same keys hands up of it. Assumes nothing.
 --   wholeHeader          the header of a transport PDU that goes whole
+--   Reaches              its PDU passes a fresh receiver
 --   access-whole, control-whole   what is handed up
 use mathlib.Core.Bool.{Bool, true, false, true≢false}
 use mathlib.Core.List.{List, [], _∷_, _++_}
@@ -13,15 +14,14 @@ use Rattle.network.specs.declared.header.Header.{Header}
 use Rattle.network.specs.Address.{isUnicast}
 use Rattle.network.specs.Candidates.{keyAt}
 use Rattle.network.specs.Header.{transportOf}
-use Rattle.network.specs.Pdu.{pduOctets, pduOf}
-use Rattle.network.specs.Sealing.{sealable}
-use Rattle.network.specs.SealOpen.{Formed, Receives}
+use Rattle.network.specs.Pdu.{pduOf}
+use Rattle.network.specs.SealOpen.{Formed}
 use Rattle.network.proofs.TrialLaws.{onto-zeros, take-padded}
 use Rattle.transport.specs.declared.securing.MessageKey.{MessageKey}
 use Rattle.transport.specs.declared.securing.MessageKey.the-variants.{Application, Device}
 use Rattle.transport.specs.Ranges.{KeyInRange, OpcodeInRange}
 use Rattle.transport.specs.ReadsBack.{Carries}
-use Rattle.transport.specs.Segment.{messageOctets, accessOctet, controlOctet}
+use Rattle.transport.specs.Segment.{accessOctet, controlOctet}
 use Rattle.transport.proofs.FormLaws.{key-application, key-device}
 use Rattle.transport.proofs.ReadsBack.{access-reads-back, control-reads-back}
 use Rattle.transport.proofs.SecureOpen.{secured-length}
@@ -31,7 +31,8 @@ use Rattle.node.specs.Addresses.{forNode}
 use Rattle.node.specs.Made.{WellMade}
 use Rattle.receiver.specs.declared.fresh.Answer.the-variants.{Ready}
 use Rattle.receiver.specs.Fresh.{settingUp}
-use Rattle.demands.specs.Interleaved.{nodeOf}
+use Rattle.receiver.specs.Passing.{Passes}
+use Rattle.demands.specs.Interleaved.{start, nodeOf}
 use Rattle.demands.specs.Speech.{Words, Access, Control, Speech, keyOf, aidOf, akfOf, envelopeOf, octetsOf, WordsRead, handUp, networkPlace, applicationPlace}
 use Rattle.demands.proofs.SpeechCut.{cut-is}
 use Rattle.demands.proofs.SpeechMessage.{message-opens}
@@ -52,15 +53,10 @@ wholeHeader s ctl ttl pdu =
       transport = padded 16 pdu;
     }
 
--- what sending and receiving it needs
-pub record Passes (setup : Setup) (s : Speech) (h : Header) (fwd msg : List ℕ) : Type 0 where
-  pub can : sealable (keyAt (nodeOf setup .materials) (s .network)) h ≡ true
-  pub receives : Receives (nodeOf setup .materials) (nodeOf setup .networks) (nodeOf setup .iv) h (pduOf (keyAt (nodeOf setup .materials) (s .network)) h)
-  pub spoken : s .src ≡ 0 → ⊥
+-- sealed by its network key, it passes a fresh receiver, and is for it
+pub record Reaches (setup : Setup) (s : Speech) (h : Header) (fwd msg : List ℕ) : Type 0 where
+  pub passes : Passes (start setup) (pduOf (keyAt (nodeOf setup .materials) (s .network)) h) fwd msg (networkPlace (nodeOf setup) s) h
   pub here : forNode (nodeOf setup) (s .dst) ≡ true
-  pub dst-fits : s .dst < 65536
-  pub wide : pduOctets ≤ length fwd
-  pub big : messageOctets ≤ length msg
 
 module _ (setup : Setup) (ready : settingUp setup .answer ≡ Ready) (s : Speech) (ttl : ℕ) (fwd msg : List ℕ) where
   abbrev node : Node
@@ -92,13 +88,13 @@ module _ (setup : Setup) (ready : settingUp setup .answer ≡ Ready) (s : Speech
   -- ---- control
   pub control-whole :
       (code : ℕ) (parameters : List ℕ) → s .words ≡ Control code parameters → OpcodeInRange code → length parameters ≤ 11
-      → (let h = wholeHeader s true ttl (controlOctet false code ∷ parameters) in Passes setup s h fwd msg → Heard h)
+      → (let h = wholeHeader s true ttl (controlOctet false code ∷ parameters) in Reaches setup s h fwd msg → Heard h)
   control-whole code parameters e o m p =
       let short : length (controlOctet false code ∷ parameters) ≤ 16 = omega arith in
       let first = controlOctet false code in
       let h = wholeHeader s true ttl (first ∷ parameters) in
       rw e
-      (control-heard setup ready h (p .can) (formed true first parameters short (p .dst-fits)) (p .receives) (p .spoken) (p .here) fwd msg (p .wide) (p .big) code parameters
+      (control-heard setup ready h _ fwd msg _ (p .passes) (p .here) code parameters
       (control-reads-back h code (carries true first parameters short) o) (body-is true first parameters short))
 
   -- ---- access
@@ -134,15 +130,15 @@ module _ (setup : Setup) (ready : settingUp setup .answer ≡ Ready) (s : Speech
     device-aid (Application i) f = absurd (true≢false f)
     device-aid Device f = refl
 
-    pub access-whole : (let h = wholeHeader s false ttl (octet ∷ secured-octets) in Passes setup s h fwd msg → Heard h)
+    pub access-whole : (let h = wholeHeader s false ttl (octet ∷ secured-octets) in Reaches setup s h fwd msg → Heard h)
     access-whole p =
         let h = wholeHeader s false ttl (octet ∷ secured-octets) in
-        let o = message-opens node s made false payload msg (p .big) key e read in
+        let o = message-opens node s made false payload msg (p .passes .opened .big) key e read in
         let range = key-range (aidOf node key) (o .aid-fits) (λ f. (device-aid key f, o .unicast f)) in
         let some = read-some key read in
         let l = octets-long in
         let x =
-        access-heard setup ready h (p .can) (formed false octet secured-octets fits-one (p .dst-fits)) (p .receives) (p .spoken) (p .here) fwd msg (p .wide) (p .big)
+        access-heard setup ready h _ fwd msg _ (p .passes) (p .here)
         (akfOf key) (aidOf node key) (applicationPlace node s (Access key false payload)) key payload
         (access-reads-back h (akfOf key) (aidOf node key) (carries false octet secured-octets fits-one) range (omega arith))
         (rw (body-is false octet secured-octets fits-one) (o .opens-to)) in

@@ -22,9 +22,9 @@ use Rattle.node.specs.declared.setup.Setup.{Setup}
 use Rattle.receiver.specs.declared.fresh.Answer.the-variants.{Ready}
 use Rattle.receiver.specs.declared.state.Receiver.{Receiver}
 use Rattle.receiver.specs.Fresh.{settingUp}
+use Rattle.receiver.specs.Passing.{Opens}
 use Rattle.demands.specs.Answers.{numberOf}
 use Rattle.demands.specs.Call.{Call, Hear, GiveUp, SendAccess, SendControl, SendSegment, Acknowledge, Stop, Outcome, step, run, after}
-use Rattle.demands.specs.Forwarding.{Opens}
 use Rattle.demands.specs.Interleaved.{start, Each}
 
 -- 16 and 1 to 3: it was not opened; 4; 5

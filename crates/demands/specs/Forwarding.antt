@@ -1,36 +1,21 @@
 -- Forwarding (document 01, "Forwarding"): a PDU that passes refusals 1 to 5 is forwarded exactly when relay is on, TTL is at least 2 and DST is no local unicast address; what is
 -- forwarded is the PDU sealed again by the key that opened it, with TTL less 1, in as many octets.
-use mathlib.Core.Bool.{false}
 use mathlib.Core.List.{List}
 use mathlib.Core.Path.{_≡_}
-use Prim.Native.Nat.{ℕ, _≤_}
+use Prim.Native.Nat.{ℕ}
 use lib.ListN.{length}
 use Rattle.common.specs.Choice.{if_then_else_}
 use Rattle.common.specs.Lent.{lent}
 use Rattle.common.specs.Lists.{onto, Octets}
 use Rattle.network.specs.declared.header.Header.{Header}
-use Rattle.network.specs.declared.opening.Answer.the-variants.{Opened}
 use Rattle.network.specs.Candidates.{keyAt}
-use Rattle.network.specs.Opening.{opening}
-use Rattle.network.specs.Pdu.{pduOctets, pduOf}
+use Rattle.network.specs.Pdu.{pduOf}
 use Rattle.network.specs.Sealing.{forwards, lowered}
-use Rattle.transport.specs.Segment.{messageOctets}
-use Rattle.memory.specs.Cache.{seen}
 use Rattle.node.specs.Addresses.{isLocal}
 use Rattle.receiver.specs.declared.state.Receiver.{Receiver}
 use Rattle.receiver.specs.Good.{Good}
 use Rattle.receiver.specs.Hearing.{hearing}
-
--- a PDU passes refusals 16 and 1 to 4, and opens to h
-pub record Opens (r : Receiver) (pdu fwd msg : List ℕ) (trials : ℕ) (h : Header) : Type 0 where
-  pub wide : pduOctets ≤ length fwd
-  pub big : messageOctets ≤ length msg
-  pub opens : opening (r .node .materials) (r .node .networks) (r .node .iv) pdu ≡ record { answer = Opened; trials = trials; header = h }
-
--- and 5: no entry of the cache has its SRC, SEQ and IV Index
-pub record Passes (r : Receiver) (pdu fwd msg : List ℕ) (trials : ℕ) (h : Header) : Type 0 where
-  pub opened : Opens r pdu fwd msg trials h
-  pub new : seen (r .cache) h ≡ false
+use Rattle.receiver.specs.Passing.{Passes}
 
 -- the octets forwarded, and the forward buffer
 abbrev pub Forwards : Type 0

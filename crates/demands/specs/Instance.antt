@@ -30,12 +30,12 @@ use Rattle.receiver.specs.declared.fresh.Answer.the-variants.{Ready}
 use Rattle.receiver.specs.declared.state.Receiver.{Receiver}
 use Rattle.receiver.specs.Fresh.{settingUp}
 use Rattle.receiver.specs.Good.{Good}
+use Rattle.receiver.specs.Passing.{Opens, Passes}
 use Rattle.sending.specs.declared.request.Request.{Request}
 use Rattle.sending.specs.declared.request.Ttl.the-variants.{Unnamed}
 use Rattle.demands.specs.Acknowledged.{Speaker, Hears}
 use Rattle.demands.specs.CacheHolds.{entered}
 use Rattle.demands.specs.Call.{Call, Hear, SendAccess, Acknowledge, Outcome, step, after}
-use Rattle.demands.specs.Forwarding.{Opens, Passes}
 use Rattle.demands.specs.GoesOut.{restOf}
 use Rattle.demands.specs.Interleaved.{Event, Segment, Foreign, Ask, Own, Arrival, start, nodeOf, Each, Scene, AllCome, handed, behind, AskedOf}
 use Rattle.demands.specs.ReadBack.{sayCall, saidBy, pduMade, madeOf, segNAs, Incoming, Made, Relayed, Unopened, Hearing, brings, Telling}

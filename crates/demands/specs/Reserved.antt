@@ -26,9 +26,9 @@ use Rattle.receiver.specs.declared.state.Receiver.{Receiver}
 use Rattle.receiver.specs.Fresh.{settingUp}
 use Rattle.receiver.specs.Good.{Good}
 use Rattle.receiver.specs.Hearing.{hearing}
+use Rattle.receiver.specs.Passing.{Passes}
 use Rattle.sending.specs.declared.request.Request.{Request}
 use Rattle.demands.specs.Call.{Call, step, after}
-use Rattle.demands.specs.Forwarding.{Passes}
 use Rattle.demands.specs.NeverTwice.{addressee}
 use Rattle.demands.specs.ReadBack.{sayCall}
 use Rattle.demands.specs.Speech.{Words}

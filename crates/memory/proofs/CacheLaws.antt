@@ -16,7 +16,7 @@ use Rattle.network.specs.declared.header.Header.{Header}
 use Rattle.memory.specs.declared.cache.Cache.{Cache}
 use Rattle.memory.specs.declared.cache.Seen.{Seen}
 use Rattle.memory.specs.Cache.{cacheEntries, noSeen, noCache, seenOf, sameSeen, seen, remembered}
-use Rattle.memory.proofs.Keyed.{Keyed, place, found-key, place-upto}
+use Rattle.memory.proofs.Keyed.{each-set, Keyed, place, found-key, place-upto}
 
 same-told : (a b : Seen) → sameSeen a b ≡ true → a ≡ b
 same-told a b e =
@@ -70,6 +70,12 @@ module _ (c : Cache) (h : Header) where
   pub length-remembered : length (remembered c h .entries) ≡ length (c .entries)
   unfolding remembered
   length-remembered = length-set (c .entries) (c .next % cacheEntries) (seenOf h)
+
+  -- what holds of each place's source, and of its own
+  pub each-remembered :
+      (P : ℕ → Type 0) → P (h .src) → ((i : ℕ) → P (getD (c .entries) i noSeen .src)) → (i : ℕ) → P (getD (remembered c h .entries) i noSeen .src)
+  unfolding remembered
+  each-remembered P = each-set (λ (e : Seen). P (e .src)) noSeen (c .entries) (c .next % cacheEntries) (seenOf h)
 
   module _ (long : length (c .entries) ≡ cacheEntries) where
     -- what is seen with one entry more is the new one, or was seen before

@@ -1,20 +1,37 @@
 -- A list of places, each held under a key or empty, in which a key is looked for from the front. What is found has the key; setting a place changes only what is found of the key that
 -- stood there and of the one that is put there; and no key stands twice where each is put into its own place, or into any while it has none. Of any elements and keys. Assumes nothing.
+--   each-..      what holds at each place
 --   Keyed        how the key of an element is read and compared, and which keys are none
 --   place, free  where a key is found, and the first empty place
 --   Apart        no key stands twice
 use mathlib.Core.Bool.{Bool, true, false, true≢false}
 use mathlib.Core.List.{List}
 use mathlib.Core.Path.{_≡_, sym, ap, _∙_, subst}
-use Prim.Native.Nat.{ℕ, _≤_, _<_}
+use Prim.Native.Nat.{ℕ, zero, suc, _≤_, _<_}
 use native.Mathlib.Omega.{arith}
 use borrow.Author.Tests.{eqb-true, eqb-false, ltb-true, ltb-false}
 use lib.Dec.{eqb, ltb}
-use lib.ListN.{length, getD, set, length-set}
-use lib.Seq.{getD-set-same, getD-set-other}
+use lib.ListN.{length, getD, replicate, set, length-set}
+use lib.Seq.{getD-set-same, getD-set-other, set-out}
 use Rattle.common.specs.Search.{first}
 use Rattle.common.proofs.Search as search
 use Rattle.common.proofs.Tests.{by-test}
+
+-- ---- what holds at each place
+module _ {A : Type 0} (P : A → Type 0) (d : A) where
+  pub each-replicate : (n : ℕ) (x : A) → P x → P d → (i : ℕ) → P (getD (replicate n x) i d)
+  each-replicate zero x p z i = z
+  each-replicate (suc n) x p z zero = p
+  each-replicate (suc n) x p z (suc i) = each-replicate n x p z i
+
+  -- of what is put into one of them, and of the others
+  pub each-set : (l : List A) (j : ℕ) (x : A) → P x → ((i : ℕ) → P (getD l i d)) → (i : ℕ) → P (getD (set l j x) i d)
+  each-set l j x p old i =
+      by-test (eqb i j)
+      (λ t.
+      let e = eqb-true i j t in
+      by-test (ltb j (length l)) (λ u. rw (e, getD-set-same l j x d (ltb-true j (length l) u)) p) (λ u. rw (set-out l j x (ltb-false j (length l) u)) (old i)))
+      (λ t. rw (getD-set-other l j i x d (eqb-false i j t)) (old i))
 
 pub record Keyed (A K : Type 0) : Type 0 where
   pub key : A → K
@@ -59,6 +76,10 @@ module _ {A K : Type 0} (k : Keyed A K) (d : A) where
     -- and nothing before it has
     pub place-upto : (a : K) (j : ℕ) → keyAt l j ≡ a → place l a ≤ j
     place-upto a j e = search.first-upto (λ x. k .same (k .key x) a) l j d (same-is (keyAt l j) a e)
+
+    -- one that stands nowhere is not found
+    pub place-nowhere : (a : K) → ((i : ℕ) → keyAt l i ≡ a → ⊥) → length l ≤ place l a
+    place-nowhere a none = by-test (ltb (place l a) (length l)) (λ t. absurd (none _ (found-key a (ltb-true (place l a) (length l) t)))) (ltb-false (place l a) (length l))
 
     -- the first empty place is empty
     pub free-none : free l < length l → k .none (keyAt l (free l)) ≡ true

@@ -2,6 +2,7 @@
 -- and where fewer sources than there are entries have one, there is room for any. Assumes nothing.
 --   lookUp-.., hasRoom-..   what is found, and that there is room
 --   kept-..                 the list stays as it is kept
+--   each-..                 what holds of every entry's source
 --   Listed, listed-or-none  which sources have an entry
 --   room-left               and that there is room
 use mathlib.Core.Bool.{true, false, true≢false}
@@ -103,17 +104,12 @@ module _ (l : List Entry) (e : Entry) where
         let w = new-within l (e .src) room in
         rw (place-inserted, inserted-is l e) (getD-set-same l (newPlace l (e .src)) e noEntry (omega arith))
 
--- ---- after a whole message was accepted
-pub lookUp-accepted-other : (l : List Entry) (src : ℕ) (pair : Pair) (a : ℕ) → (a ≡ src → ⊥) → (a ≡ 0 → ⊥) → lookUp (accepted l src pair) a ≡ lookUp l a
-unfolding accepted
-lookUp-accepted-other l src pair = lookUp-inserted-other l _
-
+-- ---- after a segmented message was handed up
 -- a pair that the entry is not as new as is the greater
 raised-new : (e : Entry) (pair : Pair) → stale e pair ≡ false → raised e pair ≡ pair
 unfolding raised stale greater
 raised-new e pair old = by-test (eqb (e .src) 0) (λ t. rw t refl) (λ t. by-test (newer pair (e .pair)) (λ u. rw (t, u) refl) (λ u. absurd (true≢false (rw (t, u) at old))))
 
--- ---- after a segmented message was handed up
 module _ (l : List Entry) (src : ℕ) (auth : Pair) (segN dst : ℕ) where
   pub lookUp-handedUp-other : (a : ℕ) → (a ≡ src → ⊥) → (a ≡ 0 → ⊥) → lookUp (handedUp l src auth segN dst) a ≡ lookUp l a
   unfolding handedUp
@@ -163,6 +159,24 @@ module _ (l : List Entry) (k : ReplayKept l) where
   kept-handedUp src auth segN dst = kept-inserted _
 
 -- ---- which sources have an entry
+-- what holds of each place's source, and of the one whose message was accepted or handed up
+module _ (P : ℕ → Type 0) (l : List Entry) (each : (i : ℕ) → P (getD l i noEntry .src)) where
+  each-inserted : (e : Entry) → P (e .src) → (i : ℕ) → P (getD (inserted l e) i noEntry .src)
+  each-inserted e p = rw (inserted-is l e) (keyed.each-set (λ (x : Entry). P (x .src)) noEntry l (newPlace l (e .src)) e p each)
+
+  pub each-accepted : (src : ℕ) (pair : Pair) → P src → (i : ℕ) → P (getD (accepted l src pair) i noEntry .src)
+  unfolding accepted
+  each-accepted src pair = each-inserted _
+
+  pub each-handedUp : (src : ℕ) (auth : Pair) (segN dst : ℕ) → P src → (i : ℕ) → P (getD (handedUp l src auth segN dst) i noEntry .src)
+  unfolding handedUp
+  each-handedUp src auth segN dst = each-inserted _
+
+-- no place has it: it has none
+pub lookUp-nowhere : (l : List Entry) (a : ℕ) → ((i : ℕ) → getD l i noEntry .src ≡ a → ⊥) → lookUp l a ≡ noEntry
+unfolding lookUp entryPlace
+lookUp-nowhere l a none = List·getD-eq-default l noEntry (keyed.place-nowhere entriesKeyed noEntry l a none)
+
 -- each is one of n
 abbrev pub Listed : ℕ → (ℕ → ℕ) → List Entry → Type 0
 Listed n source l = (a : ℕ) → (lookUp l a .src ≡ 0 → ⊥) → (m : ℕ) × (m < n) × (a ≡ source m)

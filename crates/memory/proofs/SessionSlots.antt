@@ -72,24 +72,21 @@ module _ (l : List Session) (i : ℕ) (s : Session) where
     unfolding sessionPlace
     session-set-other = keyed.found-set-other sessionsKeyed past l i s a new old
 
-  -- a key that has none, and is not the new session's, has none afterwards
-  pub none-set-other : i < sessionSlots → (a : SessionKey) → (a ≡ sessionKey s → ⊥) → sessionSlots ≤ sessionPlace l a → sessionSlots ≤ sessionPlace (set l i s) a
-  none-set-other h a new none = rw (place-set-other a new (λ e. let upto = place-upto l a i (sym e) in omega arith)) none
-
 -- ---- a key that has none
+pub place-nowhere :
+    (l : List Session) → length l ≡ sessionSlots → (a : SessionKey) → ((i : ℕ) → sessionKey (sessionAt l i) ≡ a → ⊥) → sessionSlots ≤ sessionPlace l a
+unfolding sessionPlace
+place-nowhere l long a none = rw (sym long) (keyed.place-nowhere sessionsKeyed past l a none)
+
 some-key : (a : SessionKey) → noKey a ≡ false → a ≡ sessionKey noSession → ⊥
 some-key a z e = true≢false (sym (ap noKey e) ∙ z)
 
 -- every slot is free
 pub place-none : (a : SessionKey) → noKey a ≡ false → sessionSlots ≤ sessionPlace noSessions a
 place-none a z =
-    let j = sessionPlace noSessions a in
-    by-test (ltb j sessionSlots)
-    (λ t.
-    let h = ltb-true j sessionSlots t in
-    let e = session-key noSessions a (rw (length-replicate sessionSlots noSession) h) in
-    absurd (some-key a z (sym e ∙ ap sessionKey (getD-replicate sessionSlots j noSession _ h))))
-    (λ t. ltb-false j sessionSlots t)
+    let none : sessionKey noSession ≡ a → ⊥ = λ e. some-key a z (sym e) in
+    place-nowhere noSessions (length-replicate sessionSlots noSession) a
+    (keyed.each-replicate (λ (s : Session). sessionKey s ≡ a → ⊥) past sessionSlots noSession none none)
 
 -- its only slot is freed
 pub freed-none :

@@ -9,7 +9,6 @@ use native.Mathlib.Omega.{arith}
 use borrow.Author.Tests.{ne-eqb}
 use lib.ListN.{length-replicate, getD-replicate}
 use Rattle.network.specs.declared.header.Header.{Header}
-use Rattle.network.specs.declared.opening.Answer.{Answer}
 use Rattle.network.proofs.AddressLaws.{unicast-some}
 use Rattle.memory.specs.declared.session.Segment.{Segment}
 use Rattle.memory.specs.declared.session.Session.{Session}
@@ -35,7 +34,7 @@ use Rattle.receiver.proofs.Laws.Fresh.{ready-made, fresh-is}
 use Rattle.receiver.proofs.Laws.GiveUp.{by-giving-up}
 use Rattle.receiver.proofs.Laws.Heard.{openingOf, caching}
 use Rattle.receiver.proofs.Laws.Ways.{Goes, goes-opens, goes-key, Ways, walk-left}
-use Rattle.receiver.proofs.Opened.{Clear, ClearIn, opening-clear}
+use Rattle.receiver.proofs.Opened.{Clear, opens-clear}
 
 -- ---- setup
 good-fresh-of : (node : Node) (next : List ℕ) → WellMade node → NextWell (node .elements) next → Good (fresh node next)
@@ -109,9 +108,7 @@ pub good-hear : GoodHear
 good-hear r pdu fwd msg g =
     let o = openingOf r pdu in
     walk-left r pdu fwd msg Good g
-    (λ e.
-    let c : Clear (o .header) = subst (λ (a : Answer). ClearIn a (o .header)) e (opening-clear (r .node .materials) (r .node .networks) (r .node .iv) pdu) in
-    ways (caching r (o .header)) (good-caching r g (o .header)) (o .header) c msg)
+    (λ p. ways (caching r (o .header)) (good-caching r g (o .header)) (o .header) (opens-clear (p .opened)) msg)
 
 -- ---- giving up
 pub good-give-up : GoodGiveUp

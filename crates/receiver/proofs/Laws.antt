@@ -7,7 +7,7 @@
 --   Refusal   what a refusal leaves
 --   Fixed     what no call changes
 --   Outgoing  what hearing leaves of the outgoing message
---   Sources   which sources have a session or a replay entry
+--   Sources   whom cache, replay list and sessions list
 --   Fresh     what a receiver holds that setup made
 --   GiveUp    giving up a session
 pub mod Heard

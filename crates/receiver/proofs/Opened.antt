@@ -2,7 +2,7 @@
 -- Assumes nothing.
 use mathlib.Core.Bool.{true, _&&_}
 use mathlib.Core.List.{List}
-use mathlib.Core.Path.{_≡_}
+use mathlib.Core.Path.{_≡_, subst}
 use Prim.Native.Nat.{ℕ, _/_, _%_}
 use lib.Dec.{eqb, ltb}
 use lib.ListN.{length, getD, drop, length-replicate}
@@ -26,6 +26,8 @@ use Rattle.network.specs.Opening.{judged, under, opening}
 use Rattle.network.specs.Pdu.{pduOctets, frontOf}
 use Rattle.network.specs.Trial.{ctlOf, headerOf, bodyTried, tried}
 use Rattle.network.proofs.AddressLaws.{allowed-source}
+use Rattle.receiver.specs.declared.state.Receiver.{Receiver}
+use Rattle.receiver.specs.Passing.{Opens}
 
 -- what is sure of an opened header
 pub record Clear (h : Header) : Type 0 where
@@ -33,7 +35,7 @@ pub record Clear (h : Header) : Type 0 where
   pub unicast : isUnicast (h .src) ≡ true
 
 -- a header is opened, or a refusal says why not
-abbrev pub ClearIn : Answer → Header → Type 0
+abbrev ClearIn : Answer → Header → Type 0
 ClearIn Opened h = Clear h
 ClearIn WrongLength h = Unit {0}
 ClearIn NoCandidate h = Unit {0}
@@ -88,7 +90,7 @@ under-clear keys count pdu (Index iv) =
     let nid = getD pdu 0 0 % 128 in
     judged-clear (searched keys count nid iv pdu) (searched-places keys count nid iv pdu)
 
-pub opening-clear :
+opening-clear :
     (keys : List NetworkKeys) (count current : ℕ) (pdu : List ℕ) → ClearIn (opening keys count current pdu .answer) (opening keys count current pdu .header)
 unfolding opening
 opening-clear keys count current pdu =
@@ -96,3 +98,6 @@ opening-clear keys count current pdu =
     (λ t. by-choice ClearOf (ltb pduOctets (length pdu)) (λ u. tt {0})
     (λ u. by-choice ClearOf (eqb (length (candidates keys count (getD pdu 0 0 % 128))) 0) (λ v. tt {0})
     (λ v. under-clear keys count pdu (ivIndexHeard current (getD pdu 0 0 / 128)))))
+
+pub opens-clear : {r : Receiver} {pdu fwd msg : List ℕ} {trials : ℕ} {h : Header} → Opens r pdu fwd msg trials h → Clear h
+opens-clear {r} {pdu} p = subst ClearOf (p .opens) (opening-clear (r .node .materials) (r .node .networks) (r .node .iv) pdu)

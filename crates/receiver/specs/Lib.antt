@@ -5,5 +5,6 @@ pub mod Fresh
 pub mod Whole
 pub mod Segmented
 pub mod Hearing
+pub mod Passing
 pub mod GiveUp
 pub mod Good

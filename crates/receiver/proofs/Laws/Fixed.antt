@@ -68,4 +68,4 @@ module _ (r : Receiver) (fwd msg : List ℕ) where
   pub fixed-heard : (pdu : List ℕ) → Fixed r (hearing r pdu fwd msg .heard .receiver)
   fixed-heard pdu =
       walk-hearing r fwd msg pdu (λ (o : Outcome). Fixed r (o .heard .receiver)) (λ _ _ _. record { setup-stays = refl; index-stays = refl; next-stays = refl })
-      (λ _ room. fixed-passed room _ _)
+      (λ p. fixed-passed (p .opened .big) _ _)

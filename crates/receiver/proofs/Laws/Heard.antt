@@ -1,10 +1,11 @@
--- A call refuses before the cache and leaves everything, or the PDU opened and is new, and passes: the tests in front are walked once. One that opens and is in the
--- cache leaves everything; one that is new, and for this node, leaves what the message of its form leaves. Assumes nothing.
+-- A call refuses before the cache and leaves everything, or the PDU passes: the tests in front are walked once. One that opens and is in the cache leaves everything; one
+-- that passes, and is for this node, leaves what the message of its form leaves. Assumes nothing.
 --   early, late      the refusals before the cache, 16 and 1 to 5, and behind it, 6 to 13
 --   walk-hearing     what holds of each such refusal, and of what a PDU leaves that passes, holds of the call
 --   heard-unopened   one that does not open is refused so
 --   heard-closed     and as its opening is
---   heard-again, heard-elsewhere, heard-new   one that opens: it is in the cache, not for this node, or taken by its form
+--   heard-again      one that opens and is in the cache
+--   heard-elsewhere, heard-new    one that passes: it is not for this node, or taken by its form
 --   heard-forwarded, heard-kept   what it forwards
 use mathlib.Core.Bool.{Bool, true, false, _&&_, _||_}
 use mathlib.Core.List.{List}
@@ -34,6 +35,7 @@ use Rattle.receiver.specs.declared.answer.Taken.{Taken}
 use Rattle.receiver.specs.declared.state.Receiver.{Receiver}
 use Rattle.receiver.specs.Answer.{refusalNumber}
 use Rattle.receiver.specs.Hearing.{Outcome, outcome, refusedHeard, relayed, takenAs, taken, passed, uncached, openedAs, hearing}
+use Rattle.receiver.specs.Passing.{Opens, Passes}
 use Rattle.receiver.specs.State.{withCache}
 use Rattle.receiver.specs.Whole.{refusedAt}
 
@@ -66,25 +68,41 @@ module _ (r : Receiver) (fwd msg pdu : List ℕ) where
   abbrev o : Opening
   o = openingOf r pdu
 
+  -- it passes, and opens to its header
+  abbrev pub PassesSo : Type 0
+  PassesSo = Passes r pdu fwd msg (o .trials) (o .header)
+
   module _ (P : Outcome → Type 0) (refuses : (n : Refusal) (trials : ℕ) → early n ≡ true → P (outcome (refusedHeard r n trials) fwd msg)) where
-    walk-opened : (a : opening-answer.Answer) (h : Header) (trials : ℕ) → (a ≡ network.Opened → P (passed r h trials fwd msg)) → P (openedAs a r h trials fwd msg)
+    walk-opened :
+        (a : opening-answer.Answer) (h : Header) (trials : ℕ) → (a ≡ network.Opened → seen (r .cache) h ≡ false → P (passed r h trials fwd msg))
+        → P (openedAs a r h trials fwd msg)
     unfolding openedAs uncached
     walk-opened network.WrongLength h trials f = refuses refusal.WrongLength trials refl
     walk-opened network.NoCandidate h trials f = refuses refusal.NoCandidate trials refl
     walk-opened network.NotAuthentic h trials f = refuses refusal.NotAuthentic trials refl
     walk-opened network.WrongAddress h trials f = refuses refusal.WrongAddress trials refl
     walk-opened network.Opened h trials f =
-        by-choice P (seen (r .cache) h) {y = passed r h trials fwd msg} (λ _. refuses refusal.Cached trials refl) (λ _. f refl)
+        by-choice P (seen (r .cache) h) {y = passed r h trials fwd msg} (λ _. refuses refusal.Cached trials refl) (f refl)
 
-    pub walk-hearing : (o .answer ≡ network.Opened → messageOctets ≤ length msg → P (passed r (o .header) (o .trials) fwd msg)) → P (hearing r pdu fwd msg)
+    pub walk-hearing : (PassesSo → P (passed r (o .header) (o .trials) fwd msg)) → P (hearing r pdu fwd msg)
     unfolding hearing
     walk-hearing passes =
         by-choice P (ltb (length fwd) pduOctets) (λ _. refuses refusal.ShortBuffer 0 refl)
-        (λ _. by-choice P (ltb (length msg) messageOctets) (λ _. refuses refusal.ShortBuffer 0 refl)
-        (λ u. walk-opened (o .answer) (o .header) (o .trials) (λ e. passes e (ltb-false (length msg) messageOctets u))))
+        (λ t. by-choice P (ltb (length msg) messageOctets) (λ _. refuses refusal.ShortBuffer 0 refl)
+        (λ u. walk-opened (o .answer) (o .header) (o .trials)
+        (λ e new.
+        let opened : Opens r pdu fwd msg (o .trials) (o .header) =
+        record {
+          wide = ltb-false (length fwd) pduOctets t;
+          big = ltb-false (length msg) messageOctets u;
+          opens = ap (λ (a : opening-answer.Answer). record { answer = a; trials = o .trials; header = o .header }) e;
+        } in
+        passes (record { opened = opened; new = new }))))
 
   pub heard-unopened : (o .answer ≡ network.Opened → ⊥) → Early r fwd msg (hearing r pdu fwd msg)
-  heard-unopened n = walk-hearing (Early r fwd msg) (λ n trials e. (n, record { is-early = e; tried = trials; leaves = refl })) (λ e _. absurd (n e))
+  heard-unopened n =
+      walk-hearing (Early r fwd msg) (λ n trials e. (n, record { is-early = e; tried = trials; leaves = refl }))
+      (λ p. absurd (n (ap (λ (x : Opening). x .answer) (p .opened .opens))))
 
   -- ---- one that does not open: it carries the number of its opening, with its trials
   abbrev pub RefusedAs : opening-answer.Answer → ℕ → Outcome → Type 0
@@ -104,63 +122,65 @@ module _ (r : Receiver) (fwd msg pdu : List ℕ) where
   heard-closed wide big n = rw (le-ltb (length fwd) pduOctets wide, le-ltb (length msg) messageOctets big) (closed-as (o .answer) (o .header) (o .trials) n)
 
 -- ---- a PDU that opens
-module _ (r : Receiver) (pdu fwd msg : List ℕ) (wide : pduOctets ≤ length fwd) (big : messageOctets ≤ length msg) (h : Header) (trials : ℕ)
-    (opens : opening (r .node .materials) (r .node .networks) (r .node .iv) pdu ≡ record { answer = network.Opened; trials = trials; header = h }) where
-  pub heard-opened : hearing r pdu fwd msg ≡ uncached r h trials fwd msg
+-- what the call leaves is t, and the trials are those of opening it and those of its message
+pub record Leaves (r : Receiver) (pdu fwd msg : List ℕ) (trials : ℕ) (t : Lent Taken) : Type 0 where
+  pub answers : hearing r pdu fwd msg .heard .answer ≡ t .answer .answer
+  pub left-is : hearing r pdu fwd msg .heard .receiver ≡ t .answer .receiver
+  pub message-is : hearing r pdu fwd msg .message ≡ t .buffer
+  pub network-is : hearing r pdu fwd msg .heard .network ≡ trials
+  pub application-is : hearing r pdu fwd msg .heard .application ≡ t .answer .trials
+
+module _ {r : Receiver} {pdu fwd msg : List ℕ} {trials : ℕ} {h : Header} where
+  heard-opened : Opens r pdu fwd msg trials h → hearing r pdu fwd msg ≡ uncached r h trials fwd msg
   unfolding hearing openedAs
-  heard-opened = rw (le-ltb (length fwd) pduOctets wide, le-ltb (length msg) messageOctets big, opens) refl
+  heard-opened p = rw (le-ltb (length fwd) pduOctets (p .wide), le-ltb (length msg) messageOctets (p .big), p .opens) refl
 
-  pub heard-again : seen (r .cache) h ≡ true → hearing r pdu fwd msg ≡ outcome (refusedHeard r refusal.Cached trials) fwd msg
+  pub heard-again : Opens r pdu fwd msg trials h → seen (r .cache) h ≡ true → hearing r pdu fwd msg ≡ outcome (refusedHeard r refusal.Cached trials) fwd msg
   unfolding uncached
-  heard-again e = heard-opened ∙ rw e refl
+  heard-again p e = heard-opened p ∙ rw e refl
 
-  -- ---- it is new: whatever becomes of its message, it is sealed again where it is to be forwarded, and else the forward buffer stays
-  abbrev goesOn : Bool
-  goesOn = forwards (r .node .relay) (isLocal (r .node) (h .dst)) h
+  -- ---- it passes
+  module _ (p : Passes r pdu fwd msg trials h) where
+    pub heard-passed : hearing r pdu fwd msg ≡ passed r h trials fwd msg
+    unfolding uncached
+    heard-passed = heard-opened (p .opened) ∙ rw (p .new) refl
 
-  abbrev forwardedIs : Lent ℕ → Type 0
-  forwardedIs f = lent (hearing r pdu fwd msg .heard .forwarded) (hearing r pdu fwd msg .forward) ≡ f
+    -- whatever becomes of its message, it is sealed again where it is to be forwarded, and else the forward buffer stays
+    abbrev goesOn : Bool
+    goesOn = forwards (r .node .relay) (isLocal (r .node) (h .dst)) h
 
-  pub heard-forwarded :
-      seen (r .cache) h ≡ false → goesOn ≡ true
-      → (let f = forwarding (r .node .materials) h fwd in forwardedIs (lent (sealedLength (f .answer)) (f .buffer)))
-  unfolding uncached passed relayed
-  heard-forwarded e t = rw (heard-opened, e, t) refl
+    abbrev forwardedIs : Lent ℕ → Type 0
+    forwardedIs f = lent (hearing r pdu fwd msg .heard .forwarded) (hearing r pdu fwd msg .forward) ≡ f
 
-  pub heard-kept : seen (r .cache) h ≡ false → goesOn ≡ false → forwardedIs (lent 0 fwd)
-  unfolding uncached passed relayed
-  heard-kept e t = rw (heard-opened, e, t) refl
+    pub heard-forwarded :
+        goesOn ≡ true → (let f = forwarding (r .node .materials) h fwd in forwardedIs (lent (sealedLength (f .answer)) (f .buffer)))
+    unfolding passed relayed
+    heard-forwarded t = rw (heard-passed, t) refl
 
-  -- what the call leaves is t
-  pub record Leaves (t : Lent Taken) : Type 0 where
-    pub answers : hearing r pdu fwd msg .heard .answer ≡ t .answer .answer
-    pub left-is : hearing r pdu fwd msg .heard .receiver ≡ t .answer .receiver
-    pub message-is : hearing r pdu fwd msg .message ≡ t .buffer
-    -- the trials are those of opening it, and those of its message
-    pub network-is : hearing r pdu fwd msg .heard .network ≡ trials
-    pub application-is : hearing r pdu fwd msg .heard .application ≡ t .answer .trials
+    pub heard-kept : goesOn ≡ false → forwardedIs (lent 0 fwd)
+    unfolding passed relayed
+    heard-kept t = rw (heard-passed, t) refl
 
-  -- it is new, and not for this node
-  pub heard-elsewhere : seen (r .cache) h ≡ false → forNode (r .node) (h .dst) ≡ false → Leaves (lent (refusedAt (caching r h) refusal.NotForNode 0) msg)
-  unfolding uncached passed taken
-  heard-elsewhere e f =
-      record {
-        answers = rw (heard-opened, e, f) refl;
-        left-is = rw (heard-opened, e, f) refl;
-        message-is = rw (heard-opened, e, f) refl;
-        network-is = rw (heard-opened, e) refl;
-        application-is = rw (heard-opened, e, f) refl;
-      }
+    -- it is not for this node
+    pub heard-elsewhere : forNode (r .node) (h .dst) ≡ false → Leaves r pdu fwd msg trials (lent (refusedAt (caching r h) refusal.NotForNode 0) msg)
+    unfolding passed taken
+    heard-elsewhere f =
+        record {
+          answers = rw (heard-passed, f) refl;
+          left-is = rw (heard-passed, f) refl;
+          message-is = rw (heard-passed, f) refl;
+          network-is = rw heard-passed refl;
+          application-is = rw (heard-passed, f) refl;
+        }
 
-  -- it is new, and for this node: it is taken by its form
-  pub heard-new :
-      seen (r .cache) h ≡ false → forNode (r .node) (h .dst) ≡ true → (t : Lent Taken) → takenAs (formOf h) (caching r h) h msg ≡ t → Leaves t
-  unfolding uncached passed taken
-  heard-new e f t g =
-      record {
-        answers = rw (heard-opened, e, f) (ap (λ (x : Lent Taken). x .answer .answer) g);
-        left-is = rw (heard-opened, e, f) (ap (λ (x : Lent Taken). x .answer .receiver) g);
-        message-is = rw (heard-opened, e, f) (ap (λ (x : Lent Taken). x .buffer) g);
-        network-is = rw (heard-opened, e) refl;
-        application-is = rw (heard-opened, e, f) (ap (λ (x : Lent Taken). x .answer .trials) g);
-      }
+    -- it is for this node: it is taken by its form
+    pub heard-new : forNode (r .node) (h .dst) ≡ true → (t : Lent Taken) → takenAs (formOf h) (caching r h) h msg ≡ t → Leaves r pdu fwd msg trials t
+    unfolding passed taken
+    heard-new f t g =
+        record {
+          answers = rw (heard-passed, f) (ap (λ (x : Lent Taken). x .answer .answer) g);
+          left-is = rw (heard-passed, f) (ap (λ (x : Lent Taken). x .answer .receiver) g);
+          message-is = rw (heard-passed, f) (ap (λ (x : Lent Taken). x .buffer) g);
+          network-is = rw heard-passed refl;
+          application-is = rw (heard-passed, f) (ap (λ (x : Lent Taken). x .answer .trials) g);
+        }

@@ -1,10 +1,10 @@
--- How `hear` ends: with a refusal before the cache, and everything is as it was; or the PDU opened and passed, and was cached, forwarded as `relayed` says and taken. Assumes nothing.
+-- How `hear` ends: with a refusal before the cache, and everything is as it was; or the PDU passed, and was cached, forwarded as `relayed` says and taken. Assumes nothing.
 --   Late                           a refusal that leaves the PDU cached and forwarded: 6 to 13
 --   Enters                         the PDU is in the cache
---   heard-either                   it is refused before the cache, or opened and entered
---   heard-entered                  one that opens and is new is entered
+--   heard-either                   it is refused before the cache, or passes and is entered
+--   heard-entered                  one that passes is entered
 --   heard-refused                  each refusal is of one kind or the other
-use mathlib.Core.Bool.{true, false}
+use mathlib.Core.Bool.{true}
 use mathlib.Core.List.{List}
 use mathlib.Core.Logic.{_⊎_, inl, inr, ⊎-elim}
 use mathlib.Core.Path.{_≡_, refl, sym, ap, _∙_, subst}
@@ -12,18 +12,17 @@ use Prim.Native.Nat.{ℕ, _≤_}
 use lib.ListN.{length}
 use Rattle.common.specs.Lent.{lent}
 use Rattle.network.specs.declared.header.Header.{Header}
-use Rattle.network.specs.declared.opening.Answer.the-variants as network
-use Rattle.network.specs.Pdu.{pduOctets}
 use Rattle.transport.specs.Segment.{messageOctets}
-use Rattle.memory.specs.Cache.{seen, remembered}
+use Rattle.memory.specs.Cache.{remembered}
 use Rattle.receiver.specs.declared.answer.Answer.{Answer}
 use Rattle.receiver.specs.declared.answer.Answer.the-variants.{Refused}
 use Rattle.receiver.specs.declared.answer.Refusal.{Refusal}
 use Rattle.receiver.specs.declared.state.Receiver.{Receiver}
-use Rattle.receiver.specs.Hearing.{Outcome, relayed, taken, passed, uncached, hearing}
+use Rattle.receiver.specs.Hearing.{Outcome, relayed, taken, passed, hearing}
+use Rattle.receiver.specs.Passing.{Passes}
 use Rattle.receiver.proofs.Laws.After.{leftBehind, After, after-taken}
 use Rattle.receiver.proofs.Laws.Fixed.{stays-taken}
-use Rattle.receiver.proofs.Laws.Heard.{late, Refuses, Early, openingOf, caching, walk-hearing, heard-opened}
+use Rattle.receiver.proofs.Laws.Heard.{late, Refuses, Early, openingOf, caching, PassesSo, walk-hearing, heard-passed}
 
 module _ (r : Receiver) (fwd msg : List ℕ) (h : Header) where
   -- n, with the PDU cached
@@ -52,14 +51,14 @@ module _ (r : Receiver) (fwd msg : List ℕ) (h : Header) where
       }
 
 module _ (r : Receiver) (pdu fwd msg : List ℕ) where
-  -- refused before the cache, or opened and entered
+  -- refused before the cache, or passed and entered
   abbrev Either : Outcome → Type 0
-  Either o = Early r fwd msg o ⊎ ((openingOf r pdu .answer ≡ network.Opened) × Enters r fwd msg (openingOf r pdu .header) o)
+  Either o = Early r fwd msg o ⊎ (PassesSo r fwd msg pdu × Enters r fwd msg (openingOf r pdu .header) o)
 
   pub heard-either : Either (hearing r pdu fwd msg)
   heard-either =
       walk-hearing r fwd msg pdu Either (λ n trials e. inl (n, record { is-early = e; tried = trials; leaves = refl }))
-      (λ e room. inr (e, passed-enters r fwd msg (openingOf r pdu .header) room _))
+      (λ p. inr (p, passed-enters r fwd msg (openingOf r pdu .header) (p .opened .big) _))
 
   pub heard-refused :
       (n : Refusal) → (let o = hearing r pdu fwd msg in o .heard .answer ≡ Refused n → Refuses r fwd msg n o ⊎ Late r fwd msg (openingOf r pdu .header) n o)
@@ -72,9 +71,7 @@ module _ (r : Receiver) (pdu fwd msg : List ℕ) where
       inl (subst (λ (k : Refusal). Refuses r fwd msg k o) same (y .1)))
       (λ x. inr (x .1 .refused-late n e)) heard-either
 
--- ---- a PDU that opens and is new
-module _ (r : Receiver) (pdu fwd msg : List ℕ) (wide : pduOctets ≤ length fwd) (big : messageOctets ≤ length msg) (h : Header) (trials : ℕ)
-    (opens : openingOf r pdu ≡ record { answer = network.Opened; trials = trials; header = h }) where
-  pub heard-entered : seen (r .cache) h ≡ false → Enters r fwd msg h (hearing r pdu fwd msg)
-  unfolding uncached
-  heard-entered e = subst (Enters r fwd msg h) (sym (heard-opened r pdu fwd msg wide big h trials opens ∙ rw e refl)) (passed-enters r fwd msg h big trials)
+-- ---- a PDU that passes
+pub heard-entered : {r : Receiver} {pdu fwd msg : List ℕ} {trials : ℕ} {h : Header} → Passes r pdu fwd msg trials h → Enters r fwd msg h (hearing r pdu fwd msg)
+heard-entered {r} {fwd = fwd} {msg = msg} {trials = trials} {h = h} p =
+    subst (Enters r fwd msg h) (sym (heard-passed p)) (passed-enters r fwd msg h (p .opened .big) trials)

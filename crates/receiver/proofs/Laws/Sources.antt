@@ -1,106 +1,103 @@
--- Hearing gives a session or a replay entry to the source of the PDU that it takes, and to no other. So a source that is not unicast, which no PDU has that passes refusal 4, never
--- has either. Assumes nothing.
---   Unknown, UnknownIn   a source has neither session nor entry
---   unknown-fresh        after setup no source has
---   unknown-freed        nor where a slot is freed
---   unknown-heard        nor after hearing
-use mathlib.Core.Bool.{false, false≢true}
+-- Whom a receiver lists. Hearing gives an entry of the cache or of the replay list, or a session, to the SRC of a PDU that passes, and to no other. So what holds of these, and of 0, which
+-- marks an empty place, holds of each that is listed. Assumes nothing.
+--   Sources, Lists   it holds of the SRC of every entry and of every session
+--   lists-fresh      so it is after setup
+--   lists-freed      where a slot is freed
+--   lists-heard      and after hearing
 use mathlib.Core.List.{List}
-use mathlib.Core.Path.{_≡_, sym, ap, _∙_, subst}
-use Prim.Native.Nat.{ℕ, _≤_, _<_}
-use borrow.Author.Tests.{ne-eqb}
-use lib.ListN.{length}
+use mathlib.Core.Logic.{⊎-elim}
+use mathlib.Core.Path.{sym, subst}
+use Prim.Native.Nat.{ℕ}
+use lib.ListN.{getD}
 use Rattle.common.specs.Lent.{Lent}
 use Rattle.network.specs.declared.header.Header.{Header}
-use Rattle.network.specs.declared.opening.Answer.{Answer}
-use Rattle.network.specs.Address.{isUnicast}
+use Rattle.memory.specs.declared.cache.Cache.{Cache}
+use Rattle.memory.specs.declared.cache.Seen.{Seen}
 use Rattle.memory.specs.declared.replay.Entry.{Entry}
 use Rattle.memory.specs.declared.session.Segment.{Segment}
 use Rattle.memory.specs.declared.session.Session.{Session}
-use Rattle.memory.specs.declared.session.SessionKey.{SessionKey}
-use Rattle.memory.specs.Replay.{noEntry, lookUp}
-use Rattle.memory.specs.Session.{sessionSlots, noSession, sessionPlace, stored}
-use Rattle.memory.proofs.ReplayMap.{lookUp-none, lookUp-accepted-other, lookUp-handedUp-other}
-use Rattle.memory.proofs.SessionSlots.{place-none, none-set-other}
+use Rattle.memory.specs.Cache.{cacheEntries, noSeen}
+use Rattle.memory.specs.Replay.{replayEntries, noEntry}
+use Rattle.memory.specs.Session.{sessionSlots, noSession, sessionAt, begun, stored}
+use Rattle.memory.proofs.CacheLaws.{each-remembered}
+use Rattle.memory.proofs.Keyed.{each-replicate, each-set}
+use Rattle.memory.proofs.ReplayMap.{each-accepted, each-handedUp}
+use Rattle.memory.proofs.SessionSlots.{past}
 use Rattle.node.specs.declared.addresses.Node.{Node}
 use Rattle.receiver.specs.declared.answer.Taken.{Taken}
 use Rattle.receiver.specs.declared.state.Receiver.{Receiver}
 use Rattle.receiver.specs.Fresh.{fresh}
-use Rattle.receiver.specs.Good.{Good}
 use Rattle.receiver.specs.Hearing.{hearing}
 use Rattle.receiver.specs.Segmented.{upgraded, accessUpAs, controlUp}
 use Rattle.receiver.specs.State.{withSession}
 use Rattle.receiver.specs.Whole.{admitted, openedAs, wholeControlUp, acted}
-use Rattle.receiver.proofs.Laws.Heard.{openingOf, caching}
-use Rattle.receiver.proofs.Laws.Ways.{Goes, goes-opens, goes-key, Ways, walk-left}
-use Rattle.receiver.proofs.Opened.{ClearIn, opening-clear}
+use Rattle.receiver.proofs.Laws.Heard.{openingOf, caching, PassesSo}
+use Rattle.receiver.proofs.Laws.Ways.{Goes, Ways, walk-left}
 
--- source a has neither among these
-pub record Unknown (a : ℕ) (sessions : List Session) (replay : List Entry) : Type 0 where
-  pub no-session : sessionSlots ≤ sessionPlace sessions (record { src = a })
-  pub no-entry : lookUp replay a ≡ noEntry
+-- of these
+pub record Sources (P : ℕ → Type 0) (cache : Cache) (replay : List Entry) (sessions : List Session) : Type 0 where
+  pub cached : (i : ℕ) → P (getD (cache .entries) i noSeen .src)
+  pub entries : (i : ℕ) → P (getD replay i noEntry .src)
+  pub held : (i : ℕ) → P (sessionAt sessions i .src)
 
--- nor in a receiver
-abbrev pub UnknownIn : ℕ → Receiver → Type 0
-UnknownIn a r = Unknown a (r .sessions) (r .replay)
+-- of a receiver's
+abbrev pub Lists : (ℕ → Type 0) → Receiver → Type 0
+Lists P r = Sources P (r .cache) (r .replay) (r .sessions)
 
-module _ (a : ℕ) (some : a ≡ 0 → ⊥) where
-  pub unknown-fresh : (node : Node) (next : List ℕ) → UnknownIn a (fresh node next)
-  unknown-fresh node next = record { no-session = place-none (record { src = a }) (ne-eqb a 0 some); no-entry = lookUp-none a }
-
-  -- a slot is set for another source, or freed
-  unknown-set : (r : Receiver) → UnknownIn a r → (slot : ℕ) → slot < sessionSlots → (s : Session) → (a ≡ s .src → ⊥) → UnknownIn a (withSession r slot s)
-  unknown-set r u slot low s other =
+module _ (P : ℕ → Type 0) (none : P 0) where
+  pub lists-fresh : (node : Node) (next : List ℕ) → Lists P (fresh node next)
+  lists-fresh node next =
       record {
-        no-session = none-set-other (r .sessions) slot s low (record { src = a }) (λ e. other (ap (λ (k : SessionKey). k .src) e)) (u .no-session);
-        no-entry = u .no-entry;
+        cached = each-replicate (λ (e : Seen). P (e .src)) noSeen cacheEntries noSeen none none;
+        entries = each-replicate (λ (e : Entry). P (e .src)) noEntry replayEntries noEntry none none;
+        held = each-replicate (λ (s : Session). P (s .src)) past sessionSlots noSession none none;
       }
 
-  pub unknown-freed : (r : Receiver) → UnknownIn a r → (slot : ℕ) → slot < sessionSlots → UnknownIn a (withSession r slot noSession)
-  unknown-freed r u slot low = unknown-set r u slot low noSession some
+  lists-set : (r : Receiver) → Lists P r → (slot : ℕ) (s : Session) → P (s .src) → Lists P (withSession r slot s)
+  lists-set r l slot s p = record { cached = l .cached; entries = l .entries; held = each-set (λ (x : Session). P (x .src)) past (r .sessions) slot s p (l .held) }
 
-  module _ (q : Receiver) (long : length (q .sessions) ≡ sessionSlots) (u : UnknownIn a q) (h : Header) (other : a ≡ h .src → ⊥) where
+  pub lists-freed : (r : Receiver) → Lists P r → (slot : ℕ) → Lists P (withSession r slot noSession)
+  lists-freed r l slot = lists-set r l slot noSession none
+
+  module _ (q : Receiver) (l : Lists P q) (h : Header) (new : P (h .src)) where
     -- a whole message is accepted
-    accepts : UnknownIn a (admitted q h)
+    accepts : Lists P (admitted q h)
     unfolding admitted
-    accepts = record { no-session = u .no-session; no-entry = lookUp-accepted-other (q .replay) (h .src) _ a other some ∙ u .no-entry }
+    accepts = record { cached = l .cached; entries = each-accepted P (q .replay) (l .entries) (h .src) _ new; held = l .held }
 
     module _ (seg : Segment) (slot : ℕ) (before : Session) (g : Goes q h seg slot before) where
-      other-session : a ≡ stored before h (seg .sego) .src → ⊥
-      unfolding stored
-      other-session e = other (e ∙ ap (λ (k : SessionKey). k .src) (goes-key long g))
+      -- a segment goes to a session that is there, or to one begun for its source
+      its-source : P (stored before h (seg .sego) .src)
+      unfolding begun stored
+      its-source =
+          ⊎-elim (λ j. subst (λ (s : Session). P (s .src)) (sym (j .1)) (l .held slot)) (λ j. subst (λ (s : Session). P (s .src)) (sym (j .1)) new) (g .stands)
 
-      -- a segment is stored, or completes its message, which frees the slot; and the message is handed up
-      stores : UnknownIn a (withSession q slot (stored before h (seg .sego)))
-      stores = unknown-set q u slot (goes-opens g .within) (stored before h (seg .sego)) other-session
-
-      frees : UnknownIn a (withSession q slot noSession)
-      frees = unknown-freed q u slot (goes-opens g .within)
-
-      hands-up : UnknownIn a (upgraded (withSession q slot noSession) (stored before h (seg .sego)))
+      hands-up : Lists P (upgraded (withSession q slot noSession) (stored before h (seg .sego)))
       unfolding upgraded
-      hands-up = record { no-session = frees .no-session; no-entry = lookUp-handedUp-other (q .replay) _ _ _ _ a other-session some ∙ u .no-entry }
+      hands-up =
+          record { cached = l .cached; entries = each-handedUp P (q .replay) (l .entries) _ _ _ _ its-source; held = lists-freed q l slot .held }
 
-    ways : (msg : List ℕ) → Ways q h msg (λ (t : Lent Taken). UnknownIn a (t .answer .receiver))
+    ways : (msg : List ℕ) → Ways q h msg (λ (t : Lent Taken). Lists P (t .answer .receiver))
     unfolding openedAs wholeControlUp acted accessUpAs controlUp
     ways msg =
         record {
-          refuses = λ n trials l f. u;
+          refuses = λ n trials late f. l;
           access-whole = λ key trials len left. accepts;
           control-whole = λ opcode. accepts;
           acknowledges = λ obo seqZero bits. accepts;
-          repeats = λ auth bits. u;
-          stores = λ seg slot before g e. stores seg slot before g;
+          repeats = λ auth bits. l;
+          stores = λ seg slot before g e. lists-set q l slot _ (its-source seg slot before g);
           access-gathered = λ seg slot before g key trials len left. hands-up seg slot before g;
           control-gathered = hands-up;
-          frees = λ seg slot before g f trials. frees seg slot before g;
+          frees = λ seg slot before g f trials. lists-freed q l slot;
         }
 
-  pub unknown-heard : isUnicast a ≡ false → (r : Receiver) → Good r → UnknownIn a r → (pdu fwd msg : List ℕ) → UnknownIn a (hearing r pdu fwd msg .heard .receiver)
-  unknown-heard strange r g u pdu fwd msg =
-      let o = openingOf r pdu in
-      walk-left r pdu fwd msg (UnknownIn a) u
-      (λ e.
-      let clear = subst (λ (x : Answer). ClearIn x (o .header)) e (opening-clear (r .node .materials) (r .node .networks) (r .node .iv) pdu) in
-      let other : a ≡ o .header .src → ⊥ = λ f. false≢true (sym strange ∙ ap isUnicast f ∙ clear .unicast) in
-      ways (caching r (o .header)) (g .sessions-kept .places) u (o .header) other msg)
+  pub lists-heard :
+      (r : Receiver) → Lists P r → (pdu fwd msg : List ℕ) → (PassesSo r fwd msg pdu → P (openingOf r pdu .header .src))
+      → Lists P (hearing r pdu fwd msg .heard .receiver)
+  lists-heard r l pdu fwd msg new =
+      let h = openingOf r pdu .header in
+      walk-left r pdu fwd msg (Lists P) l
+      (λ p.
+      let cached = each-remembered (r .cache) h P (new p) (l .cached) in
+      ways (caching r h) (record { cached = cached; entries = l .entries; held = l .held }) h (new p) msg)

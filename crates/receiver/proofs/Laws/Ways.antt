@@ -21,7 +21,6 @@ use Rattle.common.specs.Lent.{Lent, lent}
 use Rattle.common.specs.Paper.{numberOf}
 use Rattle.common.proofs.Tests.{by-choice}
 use Rattle.network.specs.declared.header.Header.{Header}
-use Rattle.network.specs.declared.opening.Answer.the-variants as network
 use Rattle.network.specs.Header.{transportOf}
 use Rattle.transport.specs.declared.form.Form.{Form}
 use Rattle.transport.specs.declared.form.Form.the-variants as form
@@ -62,7 +61,7 @@ use Rattle.receiver.specs.Hearing.{Outcome, takenAs, taken, passed, hear
 use Rattle.receiver.specs.Segmented.{segmentOf, messageOf, sessionEnvelope, controlUp, accessUpAs, accessUp, gathered, placedAs, placed, segmentedAs, segmented}
 use Rattle.receiver.specs.State.{withSession}
 use Rattle.receiver.specs.Whole.{refusedAt, admission, wholeEnvelope, openedAs, openedWhole, unless, wholeAccess, wholeControlUp, wholeControl, acted, wholeAcknowledgement}
-use Rattle.receiver.proofs.Laws.Heard.{late, openingOf, caching, walk-hearing}
+use Rattle.receiver.proofs.Laws.Heard.{late, openingOf, caching, PassesSo, walk-hearing}
 
 -- the session s that a segment goes to: its source's own, on whose terms it is, or one begun
 pub record Goes (q : Receiver) (h : Header) (seg : Segment) (slot : ℕ) (s : Session) : Type 0 where
@@ -221,5 +220,5 @@ module _ (r : Receiver) (pdu fwd msg : List ℕ) (P : Receiver → Type 0) where
   unfolding passed
   left-passed w room trials = walk-taken (caching r h) h msg room (λ t. P (t .answer .receiver)) w
 
-  pub walk-left : P r → (openingOf r pdu .answer ≡ network.Opened → WaysLeft) → P (hearing r pdu fwd msg .heard .receiver)
-  walk-left p w = walk-hearing r fwd msg pdu (λ (o : Outcome). P (o .heard .receiver)) (λ _ _ _. p) (λ e room. left-passed (w e) room _)
+  pub walk-left : P r → (PassesSo r fwd msg pdu → WaysLeft) → P (hearing r pdu fwd msg .heard .receiver)
+  walk-left p w = walk-hearing r fwd msg pdu (λ (o : Outcome). P (o .heard .receiver)) (λ _ _ _. p) (λ x. left-passed (w x) (x .opened .big) _)
