@@ -170,6 +170,12 @@ src-is : (k : ℕ) → k < 8 → speechAt crowd k .src ≡ k + 2
 src-is k h =
     each-below (λ (n : ℕ). speechAt crowd n .src ≡ n + 2) 0 8 (refl then refl then refl then refl then refl then refl then refl then refl then tt {0}) k (omega arith) h
 
+strangers : (k : ℕ) → k < 8 → isLocal node (speechAt crowd k .src) ≡ false
+unfolding settingUp making valid keysValid boundWithin elementsValid nextWithin groupsValid indexValid first kindOf nodeOf isLocal
+strangers k h =
+    each-below (λ (n : ℕ). isLocal node (speechAt crowd n .src) ≡ false) 0 8
+    (refl then refl then refl then refl then refl then refl then refl then refl then tt {0}) k (omega arith) h
+
 differ : (j k : ℕ) → j < 8 → k < 8 → speechAt crowd j .src ≡ speechAt crowd k .src → j ≡ k
 differ j k hj hk e =
     let a = src-is j hj in
@@ -345,6 +351,7 @@ crowd-met =
             eight-at-most = omega arith;
             speakable = speaks;
             sources-differ = differ;
+            others = strangers;
             spent = spent;
             arrives = (arrives (Ask 0 0x0002) (tt {0}), each-alternating (Arrives node crowd spent) descending others descending-arrive others-arrive);
           };

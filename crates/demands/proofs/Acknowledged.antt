@@ -144,6 +144,7 @@ module _ (r : Receiver) (made : WellMade (r .node)) (element net src : ℕ) (s :
         let passes : Passes speaker sent fwd msg place head =
         record {
           opened = record { wide = hears .room-forward; big = hears .room-message; opens = opens-so can (hears .own-key-first) };
+          other = rw address (sp .other-node);
           new = rw opened at (hears .new);
         } in
         let admits = rw opened at (hears .admits) in

@@ -92,14 +92,15 @@ numbers-left =
     let first = box-number in
     rw in-segments (omega arith)
 
--- what it says is the speech, and an element of its own says it
+-- what it says is the speech, an element of its own says it, and the shed's is none
 record SaidAs : Type 0 where
   speech-is : saidBy (start box) toShed words ≡ humidity
   own-element : isLocal (start box .node) 0x0002 ≡ true
+  other-element : isLocal (start box .node) 0x0001 ≡ false
 
 said-as : SaidAs
 unfolding settingUp making valid keysValid boundWithin elementsValid nextWithin groupsValid indexValid first kindOf nodeOf nextOf nextAt addressOf sendingIv ivIndexSent isLocal
-said-as = record { speech-is = refl; own-element = refl }
+said-as = record { speech-is = refl; own-element = refl; other-element = refl }
 
 not-whole : isWhole false 20 ≡ true → ⊥
 unfolding isWhole
@@ -117,6 +118,7 @@ speaker-by (Begun a w s) =
       materials-same = ap (λ (n : Node). n .materials) node-is ∙ shared .materials-same;
       iv-same = ap (λ (n : Node). n .iv) node-is ∙ shared .iv-same;
       its-element = ap (λ (n : Node). isLocal n 0x0002) node-is ∙ said-as .own-element;
+      other-node = ap (λ (n : Node). isLocal n 0x0001) node-is ∙ said-as .other-element;
       src-kept = ap (λ (o : Outgoing). o .src) out-is ∙ k .src-is ∙ ap (λ (s : Speech). s .src) is;
       dst-kept = ap (λ (o : Outgoing). o .terms .dst) out-is ∙ ap (λ (t : Terms). t .dst) (k .terms-is);
       auth-kept = ap (λ (o : Outgoing). o .auth) out-is ∙ k .auth-is ∙ ap (λ (s : Speech). s .auth) is;

@@ -33,8 +33,9 @@ use Rattle.memory.specs.declared.cache.Seen as cached
 use Rattle.memory.specs.Cache.{seen, remembered}
 use Rattle.memory.proofs.CacheLaws.{length-remembered, seen-or-new}
 use Rattle.node.specs.declared.addresses.Node.{Node}
+use Rattle.node.specs.Addresses.{isLocal}
 use Rattle.node.specs.Made.{WellMade}
-use Rattle.node.proofs.IndexLaws.{for-fixed}
+use Rattle.node.proofs.IndexLaws.{local-fixed, for-fixed}
 use Rattle.receiver.specs.declared.answer.Refusal.the-variants as refusal
 use Rattle.receiver.specs.declared.answer.Taken.{Taken}
 use Rattle.receiver.specs.declared.state.Receiver.{Receiver}
@@ -147,13 +148,16 @@ module _ (node : Node) (speeches : List Speech) (spent : Spent) where
       taken-is =
           segment-taken node s w i (sent .segment-there) seq ttl made q msg ∙ segment-placed node s w i (sent .segment-there) seq ttl q msg (sent .in-time)
 
+      other : isLocal (r .node) (s .src) ≡ false
+      other = local-fixed (r .node) node (sc .setup-same) (s .src) ∙ sc .others k (sent .one-of)
+
       -- the cache has it: its segment had come
       again : seen (r .cache) h ≡ true → Next r filled (Segment k i seq ttl) (Hear pdu fwd msg)
       unfolding headerOf
       again e =
           let there : hasBit (filled k) i ≡ true = rw (sent .number-spent) (sc .seen-come k h (sent .one-of) refl e) in
           let o : step r (Hear pdu fwd msg) ≡ leftHeard (outcome (refusedHeard r refusal.Cached trials) fwd msg) =
-          ap leftHeard (heard-again opened e) in
+          ap leftHeard (heard-again opened other e) in
           let more : (j : ℕ) → comeWith j (filled j) (Segment k i seq ttl) ≡ filled j =
           λ j. by-test (eqb k j)
           (λ u. rw u (with-of-set (filled j) i (subst (λ (n : ℕ). hasBit (filled n) i ≡ true) (eqb-true k j u) there)))
@@ -178,7 +182,7 @@ module _ (node : Node) (speeches : List Speech) (spent : Spent) where
       unfolding headerOf
       leaves e =
           let here = for-fixed (r .node) node (sc .setup-same) (s .dst) ∙ w .for-here in
-          heard-new (record { opened = opened; new = e }) here t taken-is
+          heard-new (record { opened = opened; other = other; new = e }) here t taken-is
 
       -- what the call answers is what placing it does
       answered-new : seen (r .cache) h ≡ false → SegmentAnswered node s (filled k) i msg (step r (Hear pdu fwd msg))
@@ -233,6 +237,7 @@ module _ (node : Node) (speeches : List Speech) (spent : Spent) where
                   good = hears;
                   setup-same = stays .setup-stays ∙ sc .setup-same;
                   index-same = stays .index-stays ∙ sc .index-same;
+                  others = sc .others;
                   stages = rw (l .left-is) more-stages;
                   sessions-owned = rw (l .left-is) (steps .sessions-owned (length speeches) (speakerKey speeches) k (sent .one-of) refl (sc .sessions-owned));
                   entries-listed = rw (l .left-is) (steps .entries-listed (length speeches) (speakerOf speeches) k (sent .one-of) refl (sc .entries-listed));

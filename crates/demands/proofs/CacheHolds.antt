@@ -20,7 +20,9 @@ use Rattle.memory.specs.declared.cache.Seen.{Seen}
 use Rattle.memory.specs.Cache.{seenOf, seen}
 use Rattle.memory.specs.Remembered.{further, held, lastEntries, Among, Sourced}
 use Rattle.memory.proofs.Remembered.{further-append, holds-last, seen-exactly, among-last}
+use Rattle.memory.proofs.CacheLaws.{seen-place}
 use Rattle.node.specs.declared.setup.Setup.{Setup}
+use Rattle.node.specs.Addresses.{isLocal}
 use Rattle.receiver.specs.declared.answer.Answer as heard-answer
 use Rattle.receiver.specs.declared.answer.Answer.the-variants.{Refused, Stored, Repeated, Access, Control, Acknowledgement}
 use Rattle.receiver.specs.declared.answer.Refusal.{Refusal}
@@ -35,7 +37,7 @@ use Rattle.receiver.proofs.AnswerLaws.{number-some}
 use Rattle.receiver.proofs.Opened.{opens-clear}
 use Rattle.receiver.proofs.Laws.Fresh.{fresh-is}
 use Rattle.receiver.proofs.Laws.GiveUp.{by-giving-up}
-use Rattle.receiver.proofs.Laws.Heard.{early, late, openingOf, heard-again}
+use Rattle.receiver.proofs.Laws.Heard.{early, late, openingOf, heard-own, heard-again}
 use Rattle.receiver.proofs.Laws.Refusal.{Enters, heard-either, heard-entered}
 use Rattle.demands.specs.Answers.{numberOf}
 use Rattle.demands.specs.CacheHolds.{stopped, enteredBy, enteredIn, entered, CacheHolds, CachedExactly, FreshUnderIndex}
@@ -43,6 +45,7 @@ use Rattle.demands.specs.Call.{Call, Hear, GiveUp, SendAccess, SendContr
 use Rattle.demands.specs.Interleaved.{start, Each}
 use Rattle.demands.proofs.Invariant.{good-after}
 use Rattle.demands.proofs.KeptLaws.{kept-said}
+use Rattle.demands.proofs.OwnVoice.{never-listed}
 
 -- ---- the numbers
 early-stops : (n : Refusal) → early n ≡ true → stopped (refusalNumber n) ≡ true
@@ -50,17 +53,18 @@ early-stops n e =
     let m = refusalNumber n in
     let some : leb 1 m ≡ true = by-test (leb 1 m) (λ t. t) (λ t. let none = leb-false 1 m t in absurd (number-some n (omega arith))) in
     by-test (eqb m 16) (λ t. rw t refl)
-    (λ t.
-    let low : leb m 5 ≡ true = rw t at e in
+    (λ t. by-test (eqb m 22) (λ u. rw (t, u) refl)
+    (λ u.
+    let low : leb m 5 ≡ true = rw (t, u) at e in
     let most = leb-true m 5 low in
-    rw (t, some) (le-leb m _ (omega arith)))
+    rw (t, u, some) (le-leb m _ (omega arith))))
 
 late-passes : (n : Refusal) → late n ≡ true → stopped (refusalNumber n) ≡ false
 late-passes n e =
     let m = refusalNumber n in
     let least = leb-true 6 m (and-first (leb 6 m) (leb m 13) e) in
     let most = leb-true m 13 (and-second (leb 6 m) (leb m 13) e) in
-    rw (ne-eqb m 16 (λ s. omega arith), le-leb 1 m (omega arith)) (lt-leb m _ (omega arith))
+    rw (ne-eqb m 16 (λ s. omega arith), ne-eqb m 22 (λ s. omega arith), le-leb 1 m (omega arith)) (lt-leb m _ (omega arith))
 
 -- what is entered is refused behind the cache, or not at all
 entered-passes : (a : heard-answer.Answer) → ((n : Refusal) → a ≡ Refused n → late n ≡ true) → stopped (numberOf (Heard a)) ≡ false
@@ -138,18 +142,30 @@ module _ (s : Setup) (l : List Call) (e : settingUp s .answer ≡ Ready) (pdu fw
     there-seen : There → seen (r .cache) h ≡ true
     there-seen m = seen-exactly (r .cache) h (good-after s l e .cache-places) (opens-sourced o) .1 (subst (Among (seenOf h)) (sym (cache-holds s l e)) m)
 
-    -- one that is new is entered, so its number is not 5
+    -- one of ours is 22
+    own-stopped : isLocal (r .node) (h .src) ≡ true → numberOf (step r (Hear pdu fwd msg) .answer) ≡ 22
+    own-stopped t = ap (λ (x : hear.Outcome). numberOf (leftHeard x .answer)) (heard-own (record { opened = o; own = t }))
+
+    -- one of another node that is new is entered, so its number is not 5 either
     new-passes : seen (r .cache) h ≡ false → numberOf (step r (Hear pdu fwd msg) .answer) ≡ 5 → ⊥
     new-passes f five =
-        let x = heard-entered (record { opened = o; new = f }) in
+        by-test (isLocal (r .node) (h .src)) (λ t. let own = own-stopped t in omega arith)
+        (λ t.
+        let x = heard-entered (record { opened = o; other = t; new = f }) in
         let passes = entered-passes (hear.hearing r pdu fwd msg .heard .answer) (λ n t. x .refused-late n t .is-late) in
-        true≢false (sym (ap stopped five) ∙ passes)
+        true≢false (sym (ap stopped five) ∙ passes))
 
     five-there : numberOf (step r (Hear pdu fwd msg) .answer) ≡ 5 → There
     five-there five = seen-there (by-test (seen (r .cache) h) (λ t. t) (λ f. absurd (new-passes f five)))
 
+    -- what the cache holds is another node's
+    seen-other : seen (r .cache) h ≡ true → isLocal (r .node) (h .src) ≡ false
+    seen-other t =
+        let p = seen-place (r .cache) h (good-after s l e .cache-places) t in
+        sym (ap (λ (x : Seen). isLocal (r .node) (x .src)) (p .2)) ∙ never-listed s l e .cache-others (p .0)
+
     there-five : There → numberOf (step r (Hear pdu fwd msg) .answer) ≡ 5
-    there-five m = ap (λ (x : hear.Outcome). numberOf (leftHeard x .answer)) (heard-again o (there-seen m))
+    there-five m = ap (λ (x : hear.Outcome). numberOf (leftHeard x .answer)) (heard-again o (seen-other (there-seen m)) (there-seen m))
 
 pub cached-exactly : CachedExactly
 cached-exactly s l pdu fwd msg trials h e o = (five-there s l e pdu fwd msg trials h o, there-five s l e pdu fwd msg trials h o)

@@ -46,19 +46,19 @@ pub record Ends (r : Receiver) (may : ℕ → Bool) (pdu message : List ℕ) (o 
   pub message-stays : isRefused (o .answer) ≡ true → o .message ≡ message
 
 -- ---- the numbers
-early-heard : (n : ℕ) → eqb n 16 || leb n 5 ≡ true → ofHearing n ≡ true
+early-heard : (n : ℕ) → eqb n 16 || (eqb n 22 || leb n 5) ≡ true → ofHearing n ≡ true
 early-heard n e =
     by-test (eqb n 16) (λ t. rw t refl)
-    (λ t.
-    let low : leb n 5 ≡ true = rw t at e in
+    (λ t. by-test (eqb n 22) (λ u. rw (t, u) refl)
+    (λ u.
+    let low : leb n 5 ≡ true = rw (t, u) at e in
     let most = leb-true n 5 low in
-    rw t (le-leb n _ (omega arith)))
+    rw (t, u) (le-leb n _ (omega arith))))
 
 late-heard : (n : ℕ) → leb 6 n && leb n 13 ≡ true → ofHearing n ≡ true
 late-heard n e =
     let most = leb-true n 13 (and-second (leb 6 n) (leb n 13) e) in
-    let other : n ≡ 16 → ⊥ = λ s. omega arith in
-    rw (ne-eqb n 16 other) (le-leb n _ (omega arith))
+    rw (ne-eqb n 16 (λ s. omega arith), ne-eqb n 22 (λ s. omega arith)) (le-leb n _ (omega arith))
 
 checked-said : (n : ℕ) → leb 14 n && leb n 16 ≡ true → ofSending n ≡ true
 checked-said n e =

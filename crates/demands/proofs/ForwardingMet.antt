@@ -15,12 +15,12 @@ use Rattle.keys.specs.declared.NetworkKeys.{NetworkKeys}
 use Rattle.keys.proofs.Widths.{nid-low}
 use Rattle.network.specs.declared.header.Header.{Header}
 use Rattle.network.specs.declared.opening.Answer.the-variants.{Opened}
-use Rattle.network.specs.Address.{kindOf, isReserved, destinationKind}
+use Rattle.network.specs.Address.{kindOf, isReserved, destinationKind, isUnicast}
 use Rattle.network.specs.Candidates.{keyAt, candidates}
 use Rattle.network.specs.Opening.{opening}
 use Rattle.network.specs.Pdu.{pduOctets}
 use Rattle.network.specs.Sealing.{sealable, forwards}
-use Rattle.network.proofs.AddressLaws.{unicast-range, addresses-allowed}
+use Rattle.network.proofs.AddressLaws.{unicast-some, unicast-range, addresses-allowed}
 use Rattle.network.proofs.PduOctets.{octets-pdu}
 use Rattle.network.proofs.Sealed.{sealable-where}
 use Rattle.network.proofs.SealOpen.{open-seal}
@@ -40,7 +40,7 @@ use Rattle.receiver.proofs.Laws.Fresh.{fresh-unseen}
 use Rattle.receiver.proofs.Laws.Heard.{caching, Leaves, heard-elsewhere}
 use Rattle.demands.specs.CacheHolds.{entered}
 use Rattle.demands.specs.Call.{after}
-use Rattle.demands.specs.Instance.{shed, passingUnder, pduUnder, passing, MetTo, ForwardingMet, ReservedMet, heardBefore, IndexMet}
+use Rattle.demands.specs.Instance.{shed, passingFrom, pduFrom, passingUnder, pduUnder, passing, MetTo, ForwardingMet, ReservedMet, OwnMet, heardBefore, IndexMet}
 use Rattle.demands.specs.Interleaved.{start}
 use Rattle.demands.proofs.Forwarding.{octet-keys}
 use Rattle.demands.proofs.Instance.{ready, node, holds}
@@ -60,26 +60,38 @@ unfolding candidates picked
 one-trial = refl
 
 -- a DST that refusal 4 lets pass, under the shed's IV Index or the one before
-module _ (iv dst : ℕ) (near : (iv ≡ 0x12345678) ⊎ (iv + 1 ≡ 0x12345678)) (fits : dst ≤ 0xFFFF) (may : destinationKind true (kindOf dst) ≡ true) where
-  can : sealable key (passingUnder iv dst) ≡ true
+module _ (src iv dst : ℕ) (from : isUnicast src ≡ true) (near : (iv ≡ 0x12345678) ⊎ (iv + 1 ≡ 0x12345678)) (fits : dst ≤ 0xFFFF) (may : destinationKind true (kindOf dst) ≡ true) where
+  can : sealable key (passingFrom src iv dst) ≡ true
   can =
-      let allowed = addresses-allowed true 0x0002 dst (unicast-range 0x0002 (omega arith) (omega arith)) may in
-      sealable-where key (passingUnder iv dst) nid-fits (omega arith) (omega arith) allowed (omega arith) (omega arith)
+      let allowed = addresses-allowed true src dst from may in
+      sealable-where key (passingFrom src iv dst) nid-fits (omega arith) (omega arith) allowed (omega arith) (omega arith)
 
-  opens : opening (node .materials) (node .networks) (node .iv) (pduUnder iv dst) ≡ record { answer = Opened; trials = 1; header = passingUnder iv dst }
+  opens : opening (node .materials) (node .networks) (node .iv) (pduFrom src iv dst) ≡ record { answer = Opened; trials = 1; header = passingFrom src iv dst }
   opens =
       let n = holds .one-network in
       let i = holds .index in
-      open-seal (node .materials) (node .networks) (node .iv) (passingUnder iv dst) can (record { dst-fits = omega arith; zeros-behind = refl })
+      open-seal (node .materials) (node .networks) (node .iv) (passingFrom src iv dst) can (record { dst-fits = omega arith; zeros-behind = refl })
       (record { held = omega arith; near = ⊎-elim (λ e. inl (e ∙ sym i)) (λ e. inr (e ∙ sym i)) near; none-before = λ j h. absurd (omega arith) })
-      ∙ ap (λ (t : ℕ). record { answer = Opened; trials = t; header = passingUnder iv dst }) one-trial
+      ∙ ap (λ (t : ℕ). record { answer = Opened; trials = t; header = passingFrom src iv dst }) one-trial
 
   -- the shed's node hears it, whatever else the receiver holds
-  opens-in : (r : Receiver) → r .node ≡ node → Opens r (pduUnder iv dst) (replicate pduOctets 0) (replicate messageOctets 0) 1 (passingUnder iv dst)
+  opens-in : (r : Receiver) → r .node ≡ node → Opens r (pduFrom src iv dst) (replicate pduOctets 0) (replicate messageOctets 0) 1 (passingFrom src iv dst)
   opens-in r e = record { wide = omega arith; big = omega arith; opens = rw e opens }
 
-  unseen : seen (start shed .cache) (passingUnder iv dst) ≡ false
-  unseen = fresh-unseen shed (passingUnder iv dst) (λ e. omega arith)
+  unseen : seen (start shed .cache) (passingFrom src iv dst) ≡ false
+  unseen = fresh-unseen shed (passingFrom src iv dst) (unicast-some src from)
+
+two-unicast : isUnicast 0x0002 ≡ true
+two-unicast = unicast-range 0x0002 (omega arith) (omega arith)
+
+-- which addresses are the shed's
+record Elements : Type 0 where
+  two-other : isLocal node 0x0002 ≡ false
+  one-own : isLocal node 0x0001 ≡ true
+
+elements : Elements
+unfolding settingUp making valid keysValid boundWithin elementsValid nextWithin groupsValid indexValid first kindOf nodeOf isLocal
+elements = record { two-other = refl; one-own = refl }
 
 module _ (dst : ℕ) (fits : dst ≤ 0xFFFF) (may : destinationKind true (kindOf dst) ≡ true) where
   met-to : forwards (node .relay) (isLocal node dst) (passing dst) ≡ true → MetTo dst
@@ -87,7 +99,11 @@ module _ (dst : ℕ) (fits : dst ≤ 0xFFFF) (may : destinationKind true (kindOf
       let n = holds .one-network in (
         good-fresh shed ready,
         octets-pdu key (octet-keys node made 0 (omega arith)) (passing dst) nid-fits (octets-tested (0x03 ∷ 0x4b ∷ 0x50 ∷ 0x05 ∷ []) tt),
-        record { opened = opens-in 0x12345678 dst (inl refl) fits may (start shed) refl; new = unseen 0x12345678 dst (inl refl) fits may },
+        record {
+          opened = opens-in 0x0002 0x12345678 dst two-unicast (inl refl) fits may (start shed) refl;
+          other = elements .two-other;
+          new = unseen 0x0002 0x12345678 dst two-unicast (inl refl) fits may;
+        },
         goes-on,
       )
 
@@ -100,7 +116,7 @@ pub reserved-met : ReservedMet
 unfolding settingUp making valid keysValid boundWithin elementsValid nextWithin groupsValid indexValid first kindOf isReserved nodeOf forwards isLocal
 reserved-met = ((met-to 0xFF00 (omega arith) refl refl, refl), (met-to 0xFFFB (omega arith) refl refl, refl))
 
--- ---- the cache
+-- ---- to another box
 -- it is not for the shed
 elsewhere : forNode node 0x0003 ≡ false
 unfolding settingUp making valid keysValid boundWithin elementsValid nextWithin groupsValid indexValid first kindOf isReserved nodeOf groupAt answersTo forNode isLocal listens
@@ -110,17 +126,24 @@ may-three : destinationKind true (kindOf 0x0003) ≡ true
 unfolding kindOf
 may-three = refl
 
+-- ---- our own voice
+pub own-met : OwnMet
+own-met =
+    let from = unicast-range 0x0001 (omega arith) (omega arith) in
+    record { opened = opens-in 0x0001 0x12345678 0x0003 from (inl refl) (omega arith) may-three (start shed) refl; own = elements .one-own }
+
+-- ---- the cache
 abbrev before : Header
 before = passingUnder 0x12345677 0x0003
 
 opens-before : Opens (start shed) (pduUnder 0x12345677 0x0003) (replicate pduOctets 0) (replicate messageOctets 0) 1 before
-opens-before = opens-in 0x12345677 0x0003 (inr refl) (omega arith) may-three (start shed) refl
+opens-before = opens-in 0x0002 0x12345677 0x0003 two-unicast (inr refl) (omega arith) may-three (start shed) refl
 
 -- heard first, it is refused 6 and entered
 heard : Leaves (start shed) (pduUnder 0x12345677 0x0003) (replicate pduOctets 0) (replicate messageOctets 0) 1
     (lent (refusedAt (caching (start shed) before) NotForNode 0) (replicate messageOctets 0))
 heard =
-    heard-elsewhere (record { opened = opens-before; new = unseen 0x12345677 0x0003 (inr refl) (omega arith) may-three }) elsewhere
+    heard-elsewhere (record { opened = opens-before; other = elements .two-other; new = unseen 0x0002 0x12345677 0x0003 two-unicast (inr refl) (omega arith) may-three }) elsewhere
 
 one-entered : entered shed heardBefore ≡ seenOf before ∷ []
 one-entered = rw (heard .answers, opens-before .opens) refl
@@ -134,8 +157,8 @@ index-met =
     record {
       ready = ready;
       one-entered = one-entered;
-      opens-now = opens-in 0x12345678 0x0003 (inl refl) (omega arith) may-three (after (start shed) heardBefore) same-node;
+      opens-now = opens-in 0x0002 0x12345678 0x0003 two-unicast (inl refl) (omega arith) may-three (after (start shed) heardBefore) same-node;
       none-now = rw one-entered ((λ _ i. omega arith), tt {0});
-      opens-again = opens-in 0x12345677 0x0003 (inr refl) (omega arith) may-three (after (start shed) heardBefore) same-node;
+      opens-again = opens-in 0x0002 0x12345677 0x0003 two-unicast (inr refl) (omega arith) may-three (after (start shed) heardBefore) same-node;
       one-again = rw one-entered (inl refl);
     }

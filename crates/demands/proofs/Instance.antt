@@ -103,6 +103,12 @@ speaks-temperature =
       words-read = (record { some = omega arith; enough = omega arith }, record { not-zero = omega arith; opcode-fits = omega arith });
     }
 
+others : (k : ℕ) → k < 2 → isLocal node (speechAt boxes k .src) ≡ false
+unfolding settingUp making valid keysValid boundWithin elementsValid nextWithin groupsValid indexValid first kindOf nodeOf isLocal
+others zero h = refl
+others (suc zero) h = refl
+others (suc (suc k)) h = absurd (omega arith)
+
 speaks : (k : ℕ) → k < 2 → Speakable node (speechAt boxes k)
 speaks zero h = speaks-humidity
 speaks (suc zero) h = speaks-temperature
@@ -180,6 +186,7 @@ scene-met = (
     eight-at-most = omega arith;
     speakable = speaks;
     sources-differ = differ;
+    others = others;
     spent = spent;
     arrives = (
       arrives (Segment 0 1 0x000101 5) (sent-as 0 1 0x000101 5 (omega arith) (omega arith) refl (within-time 0x100 0x101 (omega arith) (omega arith)) (omega arith) (omega arith)),

@@ -135,7 +135,7 @@ module _ (setup : Setup) (speeches : List Speech) where
     seen : Scenery node speeches (c .spent) (behind setup speeches l) (λ k. come k l)
     seen =
         seen-behind node well speeches (c .eight-at-most) (c .speakable) (c .sources-differ) (c .spent) (start setup) (λ _. 0)
-        (begins setup (c .ready) speeches (c .spent) (c .speakable)) l (c .arrives)
+        (begins setup (c .ready) speeches (c .spent) (c .speakable) (c .others)) l (c .arrives)
 
     -- a source is a speaker, or it has no entry
     listed-in : (src : ℕ) → (src ≡ 0 → ⊥) → ((m : ℕ) × (m < length speeches) × (src ≡ speakerOf speeches m)) ⊎ (lookUp (behind setup speeches l .replay) src ≡ noEntry)
@@ -148,7 +148,7 @@ module _ (setup : Setup) (speeches : List Speech) where
       one-message : messages (speakerOf speeches k) (run (start setup) (calls node speeches l)) ≡ handUp (speechAt speeches k) ∷ []
       one-message =
           let m = messages-are node well speeches (c .eight-at-most) (c .speakable) (c .sources-differ) (c .spent) k hk (start setup) (λ _. 0)
-          (begins setup (c .ready) speeches (c .spent) (c .speakable)) l (c .arrives) in
+          (begins setup (c .ready) speeches (c .spent) (c .speakable) (c .others)) l (c .arrives) in
           m ∙ once-due node speeches k (c .spent) hk (c .speakable) 0 (none-all (lastOf node (speechAt speeches k))) l (c .arrives) (ended .filled-all)
 
 -- the buffers of an event are its call's
@@ -179,6 +179,7 @@ with-arrivals c m e =
       eight-at-most = c .eight-at-most;
       speakable = c .speakable;
       sources-differ = c .sources-differ;
+      others = c .others;
       spent = c .spent;
       arrives = e;
     }

@@ -55,6 +55,7 @@ module _ (node : Node) (speeches : List Speech) (spent : Spent) where
         good = g;
         setup-same = k .setup-stays ∙ s .setup-same;
         index-same = k .index-stays ∙ s .index-same;
+        others = s .others;
         stages = λ j h. rw (k .replay-stays, k .sessions-stay) (s .stages j h);
         sessions-owned = rw (k .sessions-stay) (s .sessions-owned);
         entries-listed = rw (k .replay-stays) (s .entries-listed);
@@ -67,6 +68,7 @@ module _ (node : Node) (speeches : List Speech) (spent : Spent) where
         good = s .good;
         setup-same = s .setup-same;
         index-same = s .index-same;
+        others = s .others;
         stages = λ k h. rw (e k) (s .stages k h);
         sessions-owned = s .sessions-owned;
         entries-listed = s .entries-listed;

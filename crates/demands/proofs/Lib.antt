@@ -41,6 +41,7 @@ pub mod Instance
 pub mod SendingsMet
 pub mod Forwarding
 pub mod Reserved
+pub mod OwnVoice
 pub mod CacheHolds
 pub mod ForwardingMet
 pub mod AcknowledgedMet

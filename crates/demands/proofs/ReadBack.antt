@@ -93,8 +93,8 @@ module _ (sender : Receiver) (setup : Setup) (q : Request) (words : Words) (buf 
     read-these heard e =
         let fits = ttl-fits sender (b .good) node (b .shared) q words a in
         let laws = laws-begun sender (b .good) node (b .shared) q words a buf g l in
-        let each = each-read setup (b .ready) s speaks w ttl fits ps laws heard e in
-        let inside = each-within setup (b .ready) s speaks w ttl fits ps laws heard e in
+        let each = each-read setup (b .ready) s speaks (b .other-node) w ttl fits ps laws heard e in
+        let inside = each-within setup (b .ready) s speaks (b .other-node) w ttl fits ps laws heard e in
         record { each = each; once = read-once node s ps (lastOf node s) (last-low node s speaks) heard _ inside each }
 
     read-segments : ReadAs (leftSaid said)
@@ -130,6 +130,7 @@ module _ (sender : Receiver) (setup : Setup) (q : Request) (words : Words) (buf 
           formed = λ t. formed setup (b .ready) s t [] [] ctl octet body short (b .dst-fits);
           receives = λ t none.
               record { held = held sender node (b .shared) q words a; near = near sender node (b .shared) q (b .good .node-made); none-before = none };
+          other = b .other-node;
           here = b .for-here;
           hands-up = hands-up;
         }

@@ -26,16 +26,17 @@ pub everything-stays : EverythingStays
 everything-stays r c = ends r c .everything
 
 -- ---- behind the cache
--- 6 to 13 are none of 16 and 1 to 5
-early-late : (n : ℕ) → eqb n 16 || leb n 5 ≡ true → leb 6 n && leb n 13 ≡ true → ⊥
+-- 6 to 13 are none of 16, 22 and 1 to 5
+early-late : (n : ℕ) → eqb n 16 || (eqb n 22 || leb n 5) ≡ true → leb 6 n && leb n 13 ≡ true → ⊥
 early-late n e l =
     let least = leb-true 6 n (and-first (leb 6 n) (leb n 13) l) in
     let most = leb-true n 13 (and-second (leb 6 n) (leb n 13) l) in
     by-test (eqb n 16) (λ t. let b = eqb-true n 16 t in omega arith)
-    (λ t.
-    let low : leb n 5 ≡ true = rw t at e in
+    (λ t. by-test (eqb n 22) (λ u. let b = eqb-true n 22 u in omega arith)
+    (λ u.
+    let low : leb n 5 ≡ true = rw (t, u) at e in
     let b = leb-true n 5 low in
-    omega arith)
+    omega arith))
 
 pub late-leaves : LateLeaves
 late-leaves r pdu fwd msg l =

@@ -25,6 +25,7 @@ use Rattle.memory.proofs.ReplayMap.{lookUp-none, Listed, listed-none, room-left
 use Rattle.memory.proofs.SessionSlots.{place-none, SessionsOwned, owned-none, session-free}
 use Rattle.node.specs.declared.addresses.Node.{Node}
 use Rattle.node.specs.declared.setup.Setup.{Setup}
+use Rattle.node.specs.Addresses.{isLocal}
 use Rattle.node.specs.Index.{SameFixed, SameIndex}
 use Rattle.node.proofs.IndexLaws.{same-node}
 use Rattle.receiver.specs.declared.fresh.Answer.the-variants.{Ready}
@@ -52,6 +53,8 @@ pub record Scenery (node : Node) (speeches : List Speech) (spent : Spent) (r : R
   pub good : Good r
   pub setup-same : SameFixed (r .node) node
   pub index-same : SameIndex (r .node) node
+  -- who speaks is another node
+  pub others : (k : ℕ) → k < length speeches → isLocal node (speakerOf speeches k) ≡ false
   pub stages : (k : ℕ) → k < length speeches → Stage node (speechAt speeches k) (r .replay) (r .sessions) (filled k)
   pub sessions-owned : SessionsOwned (length speeches) (speakerKey speeches) (r .sessions)
   pub entries-listed : Listed (length speeches) (speakerOf speeches) (r .replay)
@@ -63,7 +66,8 @@ same-scene {node} s = same-node _ node (s .setup-same) (s .index-same)
 
 -- ---- a fresh receiver
 module _ (setup : Setup) (ready : settingUp setup .answer ≡ Ready) (speeches : List Speech) (spent : Spent)
-    (speak : (k : ℕ) → k < length speeches → Speakable (nodeOf setup) (speechAt speeches k)) where
+    (speak : (k : ℕ) → k < length speeches → Speakable (nodeOf setup) (speechAt speeches k))
+    (others : (k : ℕ) → k < length speeches → isLocal (nodeOf setup) (speakerOf speeches k) ≡ false) where
   speaks : (k : ℕ) → k < length speeches → speakerOf speeches k ≡ 0 → ⊥
   speaks k h = unicast-some (speakerOf speeches k) (speak k h .from-unicast)
 
@@ -73,6 +77,7 @@ module _ (setup : Setup) (ready : settingUp setup .answer ≡ Ready) (speeches :
         good = good-fresh setup ready;
         setup-same = refl;
         index-same = refl;
+        others = others;
         stages = λ k h.
             let none : lookUp (start setup .replay) (speakerOf speeches k) ≡ noEntry = rw (fresh-is setup) (lookUp-none (speakerOf speeches k)) in
             Silent refl (rw (fresh-is setup) (place-none (speakerKey speeches k) (ne-eqb (speakerOf speeches k) 0 (speaks k h))))

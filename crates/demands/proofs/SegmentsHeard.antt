@@ -14,6 +14,7 @@ use Rattle.network.proofs.Sealed.{within}
 use Rattle.transport.specs.Segment.{messageOctets}
 use Rattle.node.specs.declared.addresses.Node.{Node}
 use Rattle.node.specs.declared.setup.Setup.{Setup}
+use Rattle.node.specs.Addresses.{isLocal}
 use Rattle.node.specs.Made.{WellMade}
 use Rattle.receiver.specs.declared.fresh.Answer.the-variants.{Ready}
 use Rattle.receiver.specs.declared.state.Receiver.{Receiver}
@@ -33,7 +34,7 @@ use Rattle.demands.proofs.RelayLaws.{relayed-sealed}
 use Rattle.demands.proofs.SceneLaws.{Scenery, begins}
 use Rattle.demands.proofs.SpeechSegment.{formed}
 
-module _ (setup : Setup) (ready : settingUp setup .answer ≡ Ready) (s : Speech) (speaks : Speakable (nodeOf setup) s) (cut : goesWhole (s .words) ≡ false)
+module _ (setup : Setup) (ready : settingUp setup .answer ≡ Ready) (s : Speech) (speaks : Speakable (nodeOf setup) s) (other : isLocal (nodeOf setup) (s .src) ≡ false) (cut : goesWhole (s .words) ≡ false)
     (ttl : ℕ) (ttl-fits : ttl ≤ 127) (ps : List Piece) (laws : Laws (nodeOf setup) s ttl (s .auth .seq) ps) where
   abbrev node : Node
   node = nodeOf setup
@@ -57,6 +58,10 @@ module _ (setup : Setup) (ready : settingUp setup .answer ≡ Ready) (s : Speech
   one-speaks : (k : ℕ) → k < 1 → Speakable node (speechAt one k)
   one-speaks zero h = speaks
   one-speaks (suc k) h = absurd (omega arith)
+
+  one-other : (k : ℕ) → k < 1 → isLocal node (speechAt one k .src) ≡ false
+  one-other zero h = other
+  one-other (suc k) h = absurd (omega arith)
 
   -- ---- the PDU at a place
   module _ (i : ℕ) (there : i < length ps) where
@@ -137,7 +142,7 @@ module _ (setup : Setup) (ready : settingUp setup .answer ≡ Ready) (s : Speech
       (x .reads, subst (λ (b : ℕ). ReadsEach node s ps last q b l) (x .more-is) (reads-from l (e .1) q (x .more) (x .scenery)))
 
   pub each-read : (l : List Hearing) → Each (Hears node s ps) l → ReadsEach node s ps last (start setup) 0 l
-  each-read l e = reads-from l e (start setup) (λ _. 0) (begins setup ready one spent one-speaks)
+  each-read l e = reads-from l e (start setup) (λ _. 0) (begins setup ready one spent one-speaks one-other)
 
   within-as : (w : Incoming) → ComesAs node s ps w → Within ps last w
   within-as (Made i) v = law i (v .place-there) .of .segment-there

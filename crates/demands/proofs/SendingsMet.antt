@@ -34,7 +34,7 @@ use Rattle.sending.specs.declared.request.Request.{Request}
 use Rattle.sending.specs.Access.{isWhole, sizeAllowed, accessAllowed}
 use Rattle.sending.specs.Control.{controlAllowed}
 use Rattle.sending.specs.Request.{requestAllowed}
-use Rattle.sending.specs.Transmission.{sendingIv, nextSeq}
+use Rattle.sending.specs.Transmission.{sendingIv, addressOf, nextSeq}
 use Rattle.sending.proofs.Laws.Allowed.{access-alone}
 use Rattle.sending.proofs.Laws.Transmitted.{used, used-own}
 use Rattle.demands.specs.Call.{Hear, step}
@@ -158,6 +158,16 @@ box-here : forNode (start bench .node) 0x0002 ≡ true
 unfolding settingUp making valid keysValid boundWithin elementsValid nextWithin groupsValid indexValid first kindOf nodeOf isReserved answersTo forNode isLocal
 box-here = refl
 
+-- each is another node to the one that hears it
+record Apart : Type 0 where
+  bench-other : isLocal node (addressOf (start bench .node) 0) ≡ false
+  updating-other : isLocal node (addressOf (start updating .node) 0) ≡ false
+  shed-other : isLocal (start bench .node) (addressOf (start shed .node) 0) ≡ false
+
+apart : Apart
+unfolding settingUp making valid keysValid boundWithin elementsValid nextWithin groupsValid indexValid first kindOf nodeOf addressOf isLocal
+apart = record { bench-other = refl; updating-other = refl; shed-other = refl }
+
 -- requests are within the rules
 record Allowed : Type 0 where
   report-allowed : accepted (start bench) toShed report ≡ true
@@ -210,16 +220,21 @@ unfolding lastOf octetsOf
 command-last sender = refl
 
 -- ---- the messages
+-- its element is none of the shed's
+abbrev OtherNode : Receiver → Type 0
+OtherNode sender = isLocal node (addressOf (sender .node) 0) ≡ false
+
 -- the premises on both nodes, for a message to the shed under its first application key, or a control message
 to-shed :
-    (sender : Receiver) (words : Words) → Good sender → Shared (sender .node) node → OwnMessageFirst node (saidBy sender toShed words) words → Between sender shed toShed words
-to-shed sender words good shared own =
-    record { good = good; ready = ready; shared = shared; for-here = holds .here; dst-fits = omega arith; own-message-first = own }
+    (sender : Receiver) (words : Words) → Good sender → Shared (sender .node) node → OtherNode sender → OwnMessageFirst node (saidBy sender toShed words) words
+    → Between sender shed toShed words
+to-shed sender words good shared other own =
+    record { good = good; ready = ready; shared = shared; other-node = other; for-here = holds .here; dst-fits = omega arith; own-message-first = own }
 
 -- a report in three segments, from any sender
-module _ (sender : Receiver) (good : Good sender) (shared : Shared (sender .node) node) (a : accepted sender toShed report ≡ true) (low : nextSeq sender 0 ≤ 1) where
+module _ (sender : Receiver) (good : Good sender) (shared : Shared (sender .node) node) (other : OtherNode sender) (a : accepted sender toShed report ≡ true) (low : nextSeq sender 0 ≤ 1) where
   report-between : Between sender shed toShed report
-  report-between = to-shed sender report good shared (λ msg j h. absurd (omega arith))
+  report-between = to-shed sender report good shared other (λ msg j h. absurd (omega arith))
 
   report-segN : segNAs (step sender (sayCall toShed report lentPdu) .answer) ≡ 2
   report-segN =
@@ -233,9 +248,9 @@ module _ (sender : Receiver) (good : Good sender) (shared : Shared (sender .node
       (λ i h. each-below (λ (k : ℕ). among k overheard ≡ true) 0 3 (refl, (refl, (refl, tt {0}))) i (omega arith) (omega arith))
 
 -- eight octets in one PDU, from any sender
-module _ (sender : Receiver) (good : Good sender) (shared : Shared (sender .node) node) (a : accepted sender toShed short ≡ true) (low : nextSeq sender 0 ≤ 1) where
+module _ (sender : Receiver) (good : Good sender) (shared : Shared (sender .node) node) (other : OtherNode sender) (a : accepted sender toShed short ≡ true) (low : nextSeq sender 0 ≤ 1) where
   short-between : Between sender shed toShed short
-  short-between = to-shed sender short good shared (λ msg j h. absurd (omega arith))
+  short-between = to-shed sender short good shared other (λ msg j h. absurd (omega arith))
 
   short-made : step sender (sayCall toShed short lentPdu) .made ≡ true
   short-made = in-full sender shed toShed short short-between a low .0
@@ -253,7 +268,7 @@ few : nextSeq (start bench) 0 ≤ 1
 few = let n = numbers .none-sent in omega arith
 
 command-between : Between (start bench) shed toShed command
-command-between = to-shed (start bench) command good-bench same-keys (tt {0})
+command-between = to-shed (start bench) command good-bench same-keys (apart .bench-other) (tt {0})
 
 command-told : Told (start bench) command heardBackwards
 command-told =
@@ -270,6 +285,7 @@ to-box =
       good = good-fresh shed ready;
       ready = bench-ready;
       shared = keys-back;
+      other-node = apart .shed-other;
       for-here = box-here;
       dst-fits = omega arith;
       own-message-first = λ msg j h. absurd (omega arith);
@@ -346,7 +362,7 @@ sent-by (Begun a w g) = absurd (true≢false (sym (ways .short-whole) ∙ w))
 
 -- a message that goes whole uses a number, and is not kept
 used-is : inUse ≡ used heard 0
-used-is = sent-by (way heard toShed short lentPdu (short-made heard good-heard heard-keys heard-allowed (let n = heard-number in omega arith)))
+used-is = sent-by (way heard toShed short lentPdu (short-made heard good-heard heard-keys (rw heard-node (apart .bench-other)) heard-allowed (let n = heard-number in omega arith)))
 
 used-node : inUse .node ≡ start bench .node
 used-node = ap (λ (r : Receiver). r .node) used-is ∙ heard-node
@@ -363,15 +379,16 @@ number-used =
 pub sendings-met : SendingsMet
 sendings-met =
     record {
-      in-segments = report-told (start bench) good-bench same-keys (allowed .report-allowed) few;
-      whole = short-told (start bench) good-bench same-keys (allowed .short-allowed) few;
+      in-segments = report-told (start bench) good-bench same-keys (apart .bench-other) (allowed .report-allowed) few;
+      whole = short-told (start bench) good-bench same-keys (apart .bench-other) (allowed .short-allowed) few;
       control = command-told;
       under-flag =
-          report-told (start updating) (good-fresh updating updating-ready) updating-keys (allowed .updating-allowed) (let n = numbers .none-updating in omega arith);
+          report-told (start updating) (good-fresh updating updating-ready) updating-keys (apart .updating-other) (allowed .updating-allowed)
+          (let n = numbers .none-updating in omega arith);
       index-before = before-index;
       in-use =
-          report-told inUse (good-step heard (sayCall toShed short lentPdu) good-heard) (subst (λ (n : Node). Shared n node) (sym used-node) same-keys) used-allowed
-          (let n = number-used in omega arith);
+          report-told inUse (good-step heard (sayCall toShed short lentPdu) good-heard) (subst (λ (n : Node). Shared n node) (sym used-node) same-keys)
+          (rw used-node (apart .bench-other)) used-allowed (let n = number-used in omega arith);
       message-heard = message-heard;
       number-used = number-used;
     }

@@ -1,7 +1,7 @@
 -- A message that went whole, heard any number of times. Before its PDU comes nothing has changed, so it is handed up as a fresh receiver does it; behind it the cache has its SRC and SEQ for
 -- good, since nothing else passes, so every further copy, whatever its TTL, is refused 5. Assumes nothing.
 --   each-whole    what each hearing hands up, stores and counts
-use mathlib.Core.Bool.{Bool, true, true≢false, false≢true}
+use mathlib.Core.Bool.{Bool, true, false, true≢false, false≢true}
 use mathlib.Core.List.{List, [], _∷_}
 use mathlib.Core.Path.{_≡_, refl, sym, ap, _∙_, subst}
 use Prim.Native.Nat.{ℕ, zero, suc, _+_, _^_, _≤_, _<_}
@@ -25,7 +25,7 @@ use Rattle.transport.specs.Segment.{messageOctets}
 use Rattle.memory.specs.Cache.{seen}
 use Rattle.node.specs.declared.addresses.Node.{Node}
 use Rattle.node.specs.declared.setup.Setup.{Setup}
-use Rattle.node.specs.Addresses.{forNode}
+use Rattle.node.specs.Addresses.{isLocal, forNode}
 use Rattle.node.proofs.IndexLaws.{same-node}
 use Rattle.receiver.specs.declared.answer.Refusal.the-variants.{Cached}
 use Rattle.receiver.specs.declared.fresh.Answer.the-variants.{Ready}
@@ -81,6 +81,7 @@ module _ (setup : Setup) (s : Speech) (ctl : Bool) (body : List ℕ) (ttl : ℕ)
     pub can : sealable key (header ttl) ≡ true
     pub formed : (t : ℕ) → Formed (header t)
     pub receives : (t : ℕ) → OwnKeyFirst node s (pduWith t) → Receives (node .materials) (node .networks) (node .iv) (header t) (pduWith t)
+    pub other : isLocal node (s .src) ≡ false
     pub here : forNode node (s .dst) ≡ true
     pub hands-up : (ready : settingUp setup .answer ≡ Ready) (t : ℕ) (fwd msg : List ℕ) → Reaches setup s (header t) fwd msg → Heard setup ready s t fwd msg (header t)
 
@@ -107,7 +108,7 @@ module _ (setup : Setup) (s : Speech) (ctl : Bool) (body : List ℕ) (ttl : ℕ)
       up =
           let o = opens-in (start setup) refl in
           m .hands-up ready t fwd msg
-          (record { passes = record { opened = o; new = fresh-unseen setup (header t) (unicast-some (s .src) (opens-clear o .unicast)) }; here = m .here })
+          (record { passes = record { opened = o; other = m .other; new = fresh-unseen setup (header t) (unicast-some (s .src) (opens-clear o .unicast)) }; here = m .here })
 
       first-reads : Reads node s 0 0 0 (step (start setup) (Hear (pduWith t) fwd msg))
       first-reads =
@@ -122,7 +123,7 @@ module _ (setup : Setup) (s : Speech) (ctl : Bool) (body : List ℕ) (ttl : ℕ)
       -- ---- it comes again
       module _ (r : Receiver) (bits : ℕ) (same : r .node ≡ node) (cached : (k : ℕ) → seen (r .cache) (header k) ≡ true) (has : hasBit bits 0 ≡ true) where
         refused : step r (Hear (pduWith t) fwd msg) ≡ leftHeard (outcome (refusedHeard r Cached (networkPlace node s)) fwd msg)
-        refused = ap leftHeard (heard-again (opens-in r same) (cached t))
+        refused = ap leftHeard (heard-again (opens-in r same) (rw same (m .other)) (cached t))
 
         again-reads : Reads node s 0 bits 0 (step r (Hear (pduWith t) fwd msg))
         again-reads =

@@ -40,8 +40,9 @@ pub record Speaker (speaker : Receiver) (node : Node) (s : Speech) : Type 0 wher
   pub networks-same : speaker .node .networks ≡ node .networks
   pub materials-same : speaker .node .materials ≡ node .materials
   pub iv-same : speaker .node .iv ≡ node .iv
-  -- one of its elements speaks
+  -- one of its elements speaks, to another node
   pub its-element : isLocal (speaker .node) (s .src) ≡ true
+  pub other-node : isLocal (speaker .node) (s .dst) ≡ false
   pub src-kept : speaker .out .src ≡ s .src
   pub dst-kept : speaker .out .terms .dst ≡ s .dst
   pub auth-kept : speaker .out .auth ≡ s .auth

@@ -1,4 +1,4 @@
--- Demand 1: every call gives one of document 01's answers ("Numbers of the refusals"). Which of them each call gives, by their numbers.
+-- Demand 1: every call gives one of document 01's answers ("Numbers of the refusals"), and document 02's 22. Which of them each call gives, by their numbers.
 --   numberOf a      the number of an answer
 --   mayAnswer c n   n is one of the numbers that call c answers
 use mathlib.Core.Bool.{Bool, true, _&&_, _||_}
@@ -21,9 +21,9 @@ numberOf (Said a) = given.numberOf (said.paper a)
 numberOf (Ended a) = given.numberOf (ended.paper a)
 
 -- ---- the numbers that are answered, 0 among them
--- hearing checks 16, 1 to 13
+-- hearing checks 16, 1 to 4, 22, 5 to 13
 abbrev pub ofHearing : ℕ → Bool
-ofHearing n = eqb n 16 || leb n 13
+ofHearing n = eqb n 16 || (eqb n 22 || leb n 13)
 
 -- sending checks 16, 14, 15
 abbrev pub ofSending : ℕ → Bool

@@ -1,7 +1,7 @@
 -- What the message cache holds (document 02, W3): an entry is SRC, SEQ and the IV Index under which the PDU was opened, and refusal 5 is given exactly for an equal one. For every receiver that
 -- setup made, whatever was called since.
---   stopped n           refused 16 or 1 to 5
---   enteredBy r c o     what call c, which found r and left o, entered in the cache: a PDU heard that was opened and not refused 4 or 5
+--   stopped n           refused 16, 1 to 5 or 22
+--   enteredBy r c o     what call c, which found r and left o, entered in the cache: a PDU heard that was opened and not refused 4, 22 or 5
 --   enteredIn r l os    what the calls of a run entered, in the order heard
 --   entered s l         SRC, SEQ and IV Index of each
 --   CacheHolds          the cache holds the last sixteen of them
@@ -27,9 +27,9 @@ use Rattle.demands.specs.Answers.{numberOf}
 use Rattle.demands.specs.Call.{Call, Hear, GiveUp, SendAccess, SendControl, SendSegment, Acknowledge, Stop, Outcome, step, run, after}
 use Rattle.demands.specs.Interleaved.{start, Each}
 
--- 16 and 1 to 3: it was not opened; 4; 5
+-- 16 and 1 to 3: it was not opened; 4; 22; 5
 abbrev pub stopped : ℕ → Bool
-stopped n = eqb n 16 || (leb 1 n && leb n 5)
+stopped n = eqb n 16 || (eqb n 22 || (leb 1 n && leb n 5))
 
 -- of a PDU that was opened: its header
 abbrev pub enteredBy : Receiver → Call → Outcome → List Header

@@ -1,5 +1,5 @@
--- Forwarding (document 01, "Forwarding"): a PDU that passes refusals 1 to 5 is forwarded exactly when relay is on, TTL is at least 2 and DST is no local unicast address; what is
--- forwarded is the PDU sealed again by the key that opened it, with TTL less 1, in as many octets.
+-- Forwarding (document 01, "Forwarding"; document 02, W5): a PDU that passes refusals 1 to 4, 22 and 5, so whose SRC is none of our elements, is forwarded exactly when relay is on, TTL
+-- is at least 2 and DST is no local unicast address; what is forwarded is the PDU sealed again by the key that opened it, with TTL less 1, in as many octets.
 use mathlib.Core.List.{List}
 use mathlib.Core.Path.{_≡_}
 use Prim.Native.Nat.{ℕ}

@@ -30,7 +30,7 @@ use Rattle.receiver.specs.declared.fresh.Answer.the-variants.{Ready}
 use Rattle.receiver.specs.declared.state.Receiver.{Receiver}
 use Rattle.receiver.specs.Fresh.{settingUp}
 use Rattle.receiver.specs.Good.{Good}
-use Rattle.receiver.specs.Passing.{Opens, Passes}
+use Rattle.receiver.specs.Passing.{Opens, Ours, Passes}
 use Rattle.sending.specs.declared.request.Request.{Request}
 use Rattle.sending.specs.declared.request.Ttl.the-variants.{Unnamed}
 use Rattle.demands.specs.Acknowledged.{Speaker, Hears}
@@ -204,23 +204,30 @@ AcknowledgementMet =
     × Hears speaking (nodeOf shed) 0 (pduMade acknowledgement) (replicate pduOctets 0) (replicate messageOctets 0)
 
 -- ---- forwarding
--- one box sends a control message of three parameters, TTL 5; the shed, whose relay is on, hears it
-abbrev pub passingUnder : (iv dst : ℕ) → Header
-passingUnder iv dst =
+-- a node sends a control message of three parameters, TTL 5; the shed, whose relay is on, hears it
+abbrev pub passingFrom : (src iv dst : ℕ) → Header
+passingFrom src iv dst =
     record {
       key = 0;
       iv = iv;
       ctl = true;
       ttl = 5;
       seq = 0x000300;
-      src = 0x0002;
+      src = src;
       dst = dst;
       len = 4;
       transport = padded 16 (0x03 ∷ 0x4b ∷ 0x50 ∷ 0x05 ∷ []);
     }
 
+abbrev pub pduFrom : (src iv dst : ℕ) → List ℕ
+pduFrom src iv dst = pduOf (keyAt (nodeOf shed .materials) 0) (passingFrom src iv dst)
+
+-- of the first box
+abbrev pub passingUnder : (iv dst : ℕ) → Header
+passingUnder iv dst = passingFrom 0x0002 iv dst
+
 abbrev pub pduUnder : (iv dst : ℕ) → List ℕ
-pduUnder iv dst = pduOf (keyAt (nodeOf shed .materials) 0) (passingUnder iv dst)
+pduUnder iv dst = pduFrom 0x0002 iv dst
 
 -- under the shed's IV Index
 abbrev pub passing : ℕ → Header
@@ -244,6 +251,12 @@ ForwardingMet = MetTo 0x0003
 -- to the first and the last reserved address
 abbrev pub ReservedMet : Type 0
 ReservedMet = (MetTo 0xFF00 × (isReserved 0xFF00 ≡ true)) × (MetTo 0xFFFB × (isReserved 0xFFFB ≡ true))
+
+-- ---- our own voice
+-- the shed's own, to another box, comes back
+abbrev pub OwnMet : Type 0
+OwnMet =
+    Ours (start shed) (pduFrom 0x0001 0x12345678 0x0003) (replicate pduOctets 0) (replicate messageOctets 0) 1 (passingFrom 0x0001 0x12345678 0x0003)
 
 -- ---- the cache
 -- the shed has heard it under the IV Index before

@@ -33,6 +33,7 @@ use Rattle.memory.specs.Replay.{noEntry, lookUp}
 use Rattle.memory.specs.Session.{noSessions}
 use Rattle.node.specs.declared.addresses.Node.{Node}
 use Rattle.node.specs.declared.setup.Setup.{Setup}
+use Rattle.node.specs.Addresses.{isLocal}
 use Rattle.receiver.specs.declared.fresh.Answer.the-variants.{Ready}
 use Rattle.receiver.specs.declared.answer.Answer as heard-answer
 use Rattle.receiver.specs.declared.answer.Answer.the-variants as answer
@@ -177,6 +178,8 @@ pub record Scene (setup : Setup) (speeches : List Speech) (l : List Arrival) : T
   pub speakable : (k : ℕ) → k < length speeches → Speakable (nodeOf setup) (speechAt speeches k)
   pub sources-differ :
       (j k : ℕ) → j < length speeches → k < length speeches → speechAt speeches j .src ≡ speechAt speeches k .src → j ≡ k
+  -- they are other nodes
+  pub others : (k : ℕ) → k < length speeches → isLocal (nodeOf setup) (speechAt speeches k .src) ≡ false
   pub spent : Spent
   pub arrives : Each (Arrives (nodeOf setup) speeches spent) l
 

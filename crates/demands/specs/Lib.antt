@@ -13,5 +13,6 @@ pub mod InOrder
 pub mod Forwarding
 pub mod Reserved
 pub mod CacheHolds
+pub mod OwnVoice
 pub mod Instance
 pub mod Invariant

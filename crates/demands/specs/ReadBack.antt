@@ -24,7 +24,7 @@ use Rattle.transport.specs.Securing.{applicationKeyAt, fitsKey, openedBy}
 use Rattle.transport.specs.Segment.{messageOctets}
 use Rattle.node.specs.declared.addresses.Node.{Node}
 use Rattle.node.specs.declared.setup.Setup.{Setup}
-use Rattle.node.specs.Addresses.{forNode}
+use Rattle.node.specs.Addresses.{isLocal, forNode}
 use Rattle.receiver.specs.declared.answer.Answer.the-variants as heard-answer
 use Rattle.receiver.specs.declared.answer.Refusal.the-variants.{Cached}
 use Rattle.receiver.specs.declared.fresh.Answer.the-variants.{Ready}
@@ -197,6 +197,8 @@ pub record Between (sender : Receiver) (setup : Setup) (q : Request) (words : Wo
   pub good : Good sender
   pub ready : settingUp setup .answer ≡ Ready
   pub shared : Shared (sender .node) (nodeOf setup)
+  -- the element that speaks is another node's
+  pub other-node : isLocal (nodeOf setup) (addressOf (sender .node) (q .element)) ≡ false
   -- DST, of 16 bits, is for the receiver
   pub for-here : forNode (nodeOf setup) (q .dst) ≡ true
   pub dst-fits : q .dst < 65536

@@ -39,7 +39,7 @@ pub record Untouched (r : Receiver) (pdu message : List ℕ) (o : Outcome) : Typ
 abbrev pub MessageStays : Type 0
 MessageStays = (r : Receiver) (c : Call) → isRefused (step r c .answer) ≡ true → step r c .message ≡ messageFor c
 
--- refusals 16, 1 to 5, 14 and 15 leave everything
+-- refusals 16, 1 to 5, 22, 14 and 15 leave everything
 abbrev pub leavesEverything : ℕ → Bool
 leavesEverything n = leb 1 n && (leb 14 n || leb n 5)
 

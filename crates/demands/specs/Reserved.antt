@@ -34,7 +34,7 @@ use Rattle.demands.specs.ReadBack.{sayCall}
 use Rattle.demands.specs.Speech.{Words}
 
 -- ---- heard
--- for every receiver, not only those that setup makes: one that passes refusals 16 and 1 to 5 is refused 6, with its count of trials
+-- for every receiver, not only those that setup makes: one that passes refusals 16, 1 to 4, 22 and 5 is refused 6, with its count of trials
 abbrev pub ForNobody : Type 0
 ForNobody =
     (r : Receiver) (pdu fwd msg : List ℕ) (trials : ℕ) (h : Header)

@@ -8,6 +8,10 @@ use Rattle.node.specs.Index.{Index, indexOf, withIndex, SameFixed, SameI
 pub same-node : (a b : Node) → SameFixed a b → SameIndex a b → a ≡ b
 same-node a b f i = ap (λ (x : Node). withIndex x (indexOf a)) f ∙ ap (λ (x : Index). withIndex b x) i
 
+pub local-fixed : (a b : Node) → SameFixed a b → (address : ℕ) → isLocal a address ≡ isLocal b address
+unfolding isLocal
+local-fixed a b f address = ap (λ (x : Node). isLocal x address) f
+
 pub for-fixed : (a b : Node) → SameFixed a b → (address : ℕ) → forNode a address ≡ forNode b address
 unfolding answersTo forNode isLocal listens
 for-fixed a b f address = ap (λ (x : Node). forNode x address) f

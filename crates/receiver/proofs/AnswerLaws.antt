@@ -3,7 +3,9 @@ use mathlib.Core.List.{List, [], _∷_, _++_}
 use mathlib.Core.Path.{_≡_, refl, sym, ap, _∙_}
 use Prim.Native.Nat.{ℕ, _-_}
 use native.Mathlib.Omega.{arith}
+use lib.Dec.{eqb}
 use lib.ListN.{getD}
+use Rattle.common.specs.Choice.{if_then_else_}
 use Rattle.common.specs.Paper.{Paper, Refusal, Given}
 use Rattle.common.proofs.PaperLaws.{told-apart}
 use Rattle.transport.specs.declared.securing.MessageKey.the-variants.{Application, Device}
@@ -32,7 +34,9 @@ late =
     refusals.NotForNode ∷ refusals.WrongForm ∷ refusals.NoSeqAuth ∷ refusals.Replayed ∷ refusals.Differs ∷ refusals.NoEntryLeft ∷ refusals.NoSlotLeft ∷ refusals.NotOpened ∷ []
 
 abbrev pub refusalOf : ℕ → refusal.Refusal
-refusalOf n = getD (early ++ late ++ refusals.OutsideRules ∷ refusals.NoSeqLeft ∷ []) (n - 1) refusals.ShortBuffer
+refusalOf n =
+    if eqb n 22 then refusals.OwnSource else
+    getD (early ++ late ++ refusals.OutsideRules ∷ refusals.NoSeqLeft ∷ []) (n - 1) refusals.ShortBuffer
 
 pub refusal-back : (n : refusal.Refusal) → refusalOf (refusalNumber n) ≡ n
 refusal-back refusals.ShortBuffer = refl
@@ -40,6 +44,7 @@ refusal-back refusals.WrongLength = refl
 refusal-back refusals.NoCandidate = refl
 refusal-back refusals.NotAuthentic = refl
 refusal-back refusals.WrongAddress = refl
+refusal-back refusals.OwnSource = refl
 refusal-back refusals.Cached = refl
 refusal-back refusals.NotForNode = refl
 refusal-back refusals.WrongForm = refl

@@ -31,7 +31,7 @@ use Rattle.receiver.specs.declared.state.Receiver.{Receiver}
 use Rattle.receiver.specs.Segmented.{segmented}
 use Rattle.receiver.specs.State.{withCache}
 use Rattle.receiver.specs.Whole.{refusedAt, wholeAccess, wholeControl, wholeAcknowledgement}
-use Rattle.receiver.specs.Hearing.{outcome, refusedHeard, relayed, takenAs, taken, passed, uncached, openedAs, hearing}
+use Rattle.receiver.specs.Hearing.{outcome, refusedHeard, relayed, takenAs, taken, passed, uncached, voiced, openedAs, hearing}
 
 -- ---- forwarding
 module _ (node : Node) (h : Header) (fwd : List ℕ) (local : Bool) (el : local ≡ isLocal node (h .dst)) (on : Bool) (eo : on ≡ forwards (node .relay) local h) where
@@ -120,6 +120,19 @@ module _ (r : Receiver) (h : Header) (trials : ℕ) (fwd msg : List ℕ) (was : 
 
 pub ruleset uncached-rules = (uncached-seen, uncached-new)
 
+-- ---- 22
+module _ (r : Receiver) (h : Header) (trials : ℕ) (fwd msg : List ℕ) (own : Bool) (e : own ≡ isLocal (r .node) (h .src)) (t : Heard) where
+  pub voiced-own : own ≡ true → t ≡ refusedHeard r refusal.OwnSource trials → outcome t fwd msg ≡ voiced r h trials fwd msg
+  unfolding voiced
+  voiced-own k et = rw (← e, k, et)
+
+  pub voiced-other :
+      own ≡ false → (fwd' msg' : List ℕ) → outcome t fwd' msg' ≡ uncached r h trials fwd msg → outcome t fwd' msg' ≡ voiced r h trials fwd msg
+  unfolding voiced
+  voiced-other k fwd' msg' et = rw (← e, k) et
+
+pub ruleset voiced-rules = (voiced-own, voiced-other)
+
 -- ---- 16, 1 to 4
 module _ (r : Receiver) (pdu fwd msg : List ℕ) (t : Heard) where
   pub hear-short-forward : length fwd < pduOctets → t ≡ refusedHeard r refusal.ShortBuffer 0 → outcome t fwd msg ≡ hearing r pdu fwd msg
@@ -149,7 +162,7 @@ module _ (r : Receiver) (pdu fwd msg : List ℕ) (t : Heard) where
       hear-address k et = rw (le-ltb (length fwd) pduOctets lf, le-ltb (length msg) messageOctets lm, ← e, k, et)
 
       pub hear-opened :
-          o .answer ≡ network.Opened → (fwd' msg' : List ℕ) → outcome t fwd' msg' ≡ uncached r (o .header) (o .trials) fwd msg
+          o .answer ≡ network.Opened → (fwd' msg' : List ℕ) → outcome t fwd' msg' ≡ voiced r (o .header) (o .trials) fwd msg
           → outcome t fwd' msg' ≡ hearing r pdu fwd msg
       unfolding hearing openedAs
       hear-opened k fwd' msg' et = rw (le-ltb (length fwd) pduOctets lf, le-ltb (length msg) messageOctets lm, ← e, k) et

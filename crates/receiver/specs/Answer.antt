@@ -8,7 +8,7 @@ use Rattle.memory.specs.declared.outgoing.Effect.{Effect}
 use Rattle.memory.specs.declared.outgoing.Effect.the-variants.{Nothing, Marked, Completed, Cancelled}
 use Rattle.transport.specs.Securing.{keyValues}
 use Rattle.receiver.specs.declared.answer.Refusal as refusal
-use Rattle.receiver.specs.declared.answer.Refusal.the-variants.{ShortBuffer, WrongLength, NoCandidate, NotAuthentic, WrongAddress, Cached, NotForNode, WrongForm}
+use Rattle.receiver.specs.declared.answer.Refusal.the-variants.{ShortBuffer, WrongLength, NoCandidate, NotAuthentic, WrongAddress, OwnSource, Cached, NotForNode, WrongForm}
 use Rattle.receiver.specs.declared.answer.Refusal.the-variants.{NoSeqAuth, Replayed, Differs, NoEntryLeft, NoSlotLeft, NotOpened, OutsideRules, NoSeqLeft}
 use Rattle.receiver.specs.declared.answer.Answer.{Answer}
 use Rattle.receiver.specs.declared.answer.Answer.the-variants.{Refused, Stored, Repeated, Access, Control, Acknowledgement}
@@ -20,6 +20,7 @@ refusalNumber WrongLength = 1
 refusalNumber NoCandidate = 2
 refusalNumber NotAuthentic = 3
 refusalNumber WrongAddress = 4
+refusalNumber OwnSource = 22
 refusalNumber Cached = 5
 refusalNumber NotForNode = 6
 refusalNumber WrongForm = 7

@@ -1,4 +1,4 @@
--- One PDU is heard: refusals 16, 1 to 13 in order, each exactly when the table says and leaving what it says (document 01, "Numbers of the refusals").
+-- One PDU is heard: refusals 16, 1 to 4, 22, 5 to 13 in order, each exactly when the table says and leaving what it says (document 01, "Numbers of the refusals"; document 02, W5).
 --   relayed node h fwd        what forwarding leaves
 --   taken r h msg             6, then by the transport form: what a PDU in the cache leaves
 --   hearing r pdu fwd msg     what a call leaves
@@ -66,7 +66,7 @@ taken r h msg =
     if forNode (r .node) (h .dst) then takenAs (formOf h) r h msg else
     lent (refusedAt r refusal.NotForNode 0) msg
 
--- what passes refusals 1 to 5 is cached, perhaps forwarded, and taken; a later refusal does not alter this
+-- what passes refusals 1 to 4, 22 and 5 is cached, perhaps forwarded, and taken; a later refusal does not alter this
 unfoldable pub passed : Receiver → Header → ℕ → List ℕ → List ℕ → Outcome
 passed r h trials fwd msg =
     let f = relayed (r .node) h fwd in
@@ -87,13 +87,19 @@ uncached r h trials fwd msg =
     if seen (r .cache) h then outcome (refusedHeard r refusal.Cached trials) fwd msg else
     passed r h trials fwd msg
 
+-- 22: SRC is one of our elements
+unfoldable pub voiced : Receiver → Header → ℕ → List ℕ → List ℕ → Outcome
+voiced r h trials fwd msg =
+    if isLocal (r .node) (h .src) then outcome (refusedHeard r refusal.OwnSource trials) fwd msg else
+    uncached r h trials fwd msg
+
 -- 1 to 4 are those of opening a Network PDU
 unfoldable pub openedAs : Answer → Receiver → Header → ℕ → List ℕ → List ℕ → Outcome
 openedAs network.WrongLength r h trials fwd msg = outcome (refusedHeard r refusal.WrongLength trials) fwd msg
 openedAs network.NoCandidate r h trials fwd msg = outcome (refusedHeard r refusal.NoCandidate trials) fwd msg
 openedAs network.NotAuthentic r h trials fwd msg = outcome (refusedHeard r refusal.NotAuthentic trials) fwd msg
 openedAs network.WrongAddress r h trials fwd msg = outcome (refusedHeard r refusal.WrongAddress trials) fwd msg
-openedAs network.Opened r h trials fwd msg = uncached r h trials fwd msg
+openedAs network.Opened r h trials fwd msg = voiced r h trials fwd msg
 
 -- 16: a buffer lent for writing is shorter than 29 (PDU) or 384 (message)
 unfoldable pub hearing : Receiver → List ℕ → List ℕ → List ℕ → Outcome

@@ -18,6 +18,8 @@ pub enum Refusal {
     NotAuthentic,
     // 4: an address is not allowed.
     WrongAddress,
+    // 22: SRC is one of our elements.
+    OwnSource,
     // 5: in the cache.
     Cached,
     // 6: not for this node.
@@ -52,6 +54,7 @@ pub fn number(refusal: Refusal) -> u32
         Refusal::NoCandidate => 2,
         Refusal::NotAuthentic => 3,
         Refusal::WrongAddress => 4,
+        Refusal::OwnSource => 22,
         Refusal::Cached => 5,
         Refusal::NotForNode => 6,
         Refusal::WrongForm => 7,

@@ -1,15 +1,17 @@
 -- A call refuses before the cache and leaves everything, or the PDU passes: the tests in front are walked once. One that opens and is in the cache leaves everything; one
 -- that passes, and is for this node, leaves what the message of its form leaves. Assumes nothing.
---   early, late      the refusals before the cache, 16 and 1 to 5, and behind it, 6 to 13
+--   early, late      the refusals before the cache, 16, 1 to 5 and 22, and behind it, 6 to 13
+--   Stops            what is known of a PDU that is refused so
 --   walk-hearing     what holds of each such refusal, and of what a PDU leaves that passes, holds of the call
 --   heard-unopened   one that does not open is refused so
 --   heard-closed     and as its opening is
---   heard-again      one that opens and is in the cache
+--   heard-own        one that opens and is ours
+--   heard-again      one that opens, is of another node, and in the cache
 --   heard-elsewhere, heard-new    one that passes: it is not for this node, or taken by its form
 --   heard-forwarded, heard-kept   what it forwards
-use mathlib.Core.Bool.{Bool, true, false, _&&_, _||_}
+use mathlib.Core.Bool.{Bool, true, false, _&&_, _||_, false≢true}
 use mathlib.Core.List.{List}
-use mathlib.Core.Path.{_≡_, refl, ap, _∙_}
+use mathlib.Core.Path.{_≡_, refl, sym, ap, _∙_}
 use Prim.Native.Nat.{ℕ, _≤_}
 use borrow.Author.Tests.{le-ltb, ltb-false}
 use lib.Dec.{eqb, leb, ltb}
@@ -34,14 +36,14 @@ use Rattle.receiver.specs.declared.answer.Refusal.the-variants as refusa
 use Rattle.receiver.specs.declared.answer.Taken.{Taken}
 use Rattle.receiver.specs.declared.state.Receiver.{Receiver}
 use Rattle.receiver.specs.Answer.{refusalNumber}
-use Rattle.receiver.specs.Hearing.{Outcome, outcome, refusedHeard, relayed, takenAs, taken, passed, uncached, openedAs, hearing}
-use Rattle.receiver.specs.Passing.{Opens, Passes}
+use Rattle.receiver.specs.Hearing.{Outcome, outcome, refusedHeard, relayed, takenAs, taken, passed, uncached, voiced, openedAs, hearing}
+use Rattle.receiver.specs.Passing.{Opens, Ours, Passes}
 use Rattle.receiver.specs.State.{withCache}
 use Rattle.receiver.specs.Whole.{refusedAt}
 
--- 16 and 1 to 5
+-- 16, 1 to 5 and 22
 abbrev pub early : Refusal → Bool
-early n = eqb (refusalNumber n) 16 || leb (refusalNumber n) 5
+early n = eqb (refusalNumber n) 16 || (eqb (refusalNumber n) 22 || leb (refusalNumber n) 5)
 
 -- 6 to 13
 abbrev pub late : Refusal → Bool
@@ -72,36 +74,48 @@ module _ (r : Receiver) (fwd msg pdu : List ℕ) where
   abbrev pub PassesSo : Type 0
   PassesSo = Passes r pdu fwd msg (o .trials) (o .header)
 
-  module _ (P : Outcome → Type 0) (refuses : (n : Refusal) (trials : ℕ) → early n ≡ true → P (outcome (refusedHeard r n trials) fwd msg)) where
+  pub record Stops (n : Refusal) : Type 0 where
+    pub is-early : early n ≡ true
+    -- 22 is for what is ours
+    pub if-own : n ≡ refusal.OwnSource → Ours r pdu fwd msg (o .trials) (o .header)
+
+  stops : (n : Refusal) → early n ≡ true → eqb (refusalNumber n) 22 ≡ false → Stops n
+  stops n e other = record { is-early = e; if-own = λ k. absurd (false≢true (sym other ∙ ap (λ (x : Refusal). eqb (refusalNumber x) 22) k)) }
+
+  module _ (P : Outcome → Type 0) (refuses : (n : Refusal) (trials : ℕ) → Stops n → P (outcome (refusedHeard r n trials) fwd msg)) where
     walk-opened :
-        (a : opening-answer.Answer) (h : Header) (trials : ℕ) → (a ≡ network.Opened → seen (r .cache) h ≡ false → P (passed r h trials fwd msg))
+        (a : opening-answer.Answer) (h : Header) (trials : ℕ)
+        → (a ≡ network.Opened → isLocal (r .node) (h .src) ≡ true → Stops refusal.OwnSource)
+        → (a ≡ network.Opened → isLocal (r .node) (h .src) ≡ false → seen (r .cache) h ≡ false → P (passed r h trials fwd msg))
         → P (openedAs a r h trials fwd msg)
-    unfolding openedAs uncached
-    walk-opened network.WrongLength h trials f = refuses refusal.WrongLength trials refl
-    walk-opened network.NoCandidate h trials f = refuses refusal.NoCandidate trials refl
-    walk-opened network.NotAuthentic h trials f = refuses refusal.NotAuthentic trials refl
-    walk-opened network.WrongAddress h trials f = refuses refusal.WrongAddress trials refl
-    walk-opened network.Opened h trials f =
-        by-choice P (seen (r .cache) h) {y = passed r h trials fwd msg} (λ _. refuses refusal.Cached trials refl) (f refl)
+    unfolding openedAs voiced uncached
+    walk-opened network.WrongLength h trials g f = refuses refusal.WrongLength trials (stops refusal.WrongLength refl refl)
+    walk-opened network.NoCandidate h trials g f = refuses refusal.NoCandidate trials (stops refusal.NoCandidate refl refl)
+    walk-opened network.NotAuthentic h trials g f = refuses refusal.NotAuthentic trials (stops refusal.NotAuthentic refl refl)
+    walk-opened network.WrongAddress h trials g f = refuses refusal.WrongAddress trials (stops refusal.WrongAddress refl refl)
+    walk-opened network.Opened h trials g f =
+        by-choice P (isLocal (r .node) (h .src)) (λ t. refuses refusal.OwnSource trials (g refl t))
+        (λ t. by-choice P (seen (r .cache) h) {y = passed r h trials fwd msg} (λ _. refuses refusal.Cached trials (stops refusal.Cached refl refl)) (f refl t))
 
     pub walk-hearing : (PassesSo → P (passed r (o .header) (o .trials) fwd msg)) → P (hearing r pdu fwd msg)
     unfolding hearing
     walk-hearing passes =
-        by-choice P (ltb (length fwd) pduOctets) (λ _. refuses refusal.ShortBuffer 0 refl)
-        (λ t. by-choice P (ltb (length msg) messageOctets) (λ _. refuses refusal.ShortBuffer 0 refl)
-        (λ u. walk-opened (o .answer) (o .header) (o .trials)
-        (λ e new.
-        let opened : Opens r pdu fwd msg (o .trials) (o .header) =
-        record {
+        by-choice P (ltb (length fwd) pduOctets) (λ _. refuses refusal.ShortBuffer 0 (stops refusal.ShortBuffer refl refl))
+        (λ t. by-choice P (ltb (length msg) messageOctets) (λ _. refuses refusal.ShortBuffer 0 (stops refusal.ShortBuffer refl refl))
+        (λ u.
+        let opened : o .answer ≡ network.Opened → Opens r pdu fwd msg (o .trials) (o .header) =
+        λ e. record {
           wide = ltb-false (length fwd) pduOctets t;
           big = ltb-false (length msg) messageOctets u;
           opens = ap (λ (a : opening-answer.Answer). record { answer = a; trials = o .trials; header = o .header }) e;
         } in
-        passes (record { opened = opened; new = new }))))
+        walk-opened (o .answer) (o .header) (o .trials)
+        (λ e own. record { is-early = refl; if-own = λ _. record { opened = opened e; own = own } })
+        (λ e other new. passes (record { opened = opened e; other = other; new = new }))))
 
   pub heard-unopened : (o .answer ≡ network.Opened → ⊥) → Early r fwd msg (hearing r pdu fwd msg)
   heard-unopened n =
-      walk-hearing (Early r fwd msg) (λ n trials e. (n, record { is-early = e; tried = trials; leaves = refl }))
+      walk-hearing (Early r fwd msg) (λ n trials s. (n, record { is-early = s .is-early; tried = trials; leaves = refl }))
       (λ p. absurd (n (ap (λ (x : Opening). x .answer) (p .opened .opens))))
 
   -- ---- one that does not open: it carries the number of its opening, with its trials
@@ -131,19 +145,25 @@ pub record Leaves (r : Receiver) (pdu fwd msg : List ℕ) (trials : ℕ) (t : Le
   pub application-is : hearing r pdu fwd msg .heard .application ≡ t .answer .trials
 
 module _ {r : Receiver} {pdu fwd msg : List ℕ} {trials : ℕ} {h : Header} where
-  heard-opened : Opens r pdu fwd msg trials h → hearing r pdu fwd msg ≡ uncached r h trials fwd msg
+  heard-opened : Opens r pdu fwd msg trials h → hearing r pdu fwd msg ≡ voiced r h trials fwd msg
   unfolding hearing openedAs
   heard-opened p = rw (le-ltb (length fwd) pduOctets (p .wide), le-ltb (length msg) messageOctets (p .big), p .opens) refl
 
-  pub heard-again : Opens r pdu fwd msg trials h → seen (r .cache) h ≡ true → hearing r pdu fwd msg ≡ outcome (refusedHeard r refusal.Cached trials) fwd msg
-  unfolding uncached
-  heard-again p e = heard-opened p ∙ rw e refl
+  pub heard-own : Ours r pdu fwd msg trials h → hearing r pdu fwd msg ≡ outcome (refusedHeard r refusal.OwnSource trials) fwd msg
+  unfolding voiced
+  heard-own p = heard-opened (p .opened) ∙ rw (p .own) refl
+
+  pub heard-again :
+      Opens r pdu fwd msg trials h → isLocal (r .node) (h .src) ≡ false → seen (r .cache) h ≡ true
+      → hearing r pdu fwd msg ≡ outcome (refusedHeard r refusal.Cached trials) fwd msg
+  unfolding voiced uncached
+  heard-again p other e = heard-opened p ∙ rw (other, e) refl
 
   -- ---- it passes
   module _ (p : Passes r pdu fwd msg trials h) where
     pub heard-passed : hearing r pdu fwd msg ≡ passed r h trials fwd msg
-    unfolding uncached
-    heard-passed = heard-opened (p .opened) ∙ rw (p .new) refl
+    unfolding voiced uncached
+    heard-passed = heard-opened (p .opened) ∙ rw (p .other, p .new) refl
 
     -- whatever becomes of its message, it is sealed again where it is to be forwarded, and else the forward buffer stays
     abbrev goesOn : Bool

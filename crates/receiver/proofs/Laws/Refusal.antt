@@ -4,7 +4,8 @@
 --   heard-either                   it is refused before the cache, or passes and is entered
 --   heard-entered                  one that passes is entered
 --   heard-refused                  each refusal is of one kind or the other
-use mathlib.Core.Bool.{true}
+--   heard-ours                     22 is for what is ours alone
+use mathlib.Core.Bool.{true, false≢true}
 use mathlib.Core.List.{List}
 use mathlib.Core.Logic.{_⊎_, inl, inr, ⊎-elim}
 use mathlib.Core.Path.{_≡_, refl, sym, ap, _∙_, subst}
@@ -17,9 +18,10 @@ use Rattle.memory.specs.Cache.{remembered}
 use Rattle.receiver.specs.declared.answer.Answer.{Answer}
 use Rattle.receiver.specs.declared.answer.Answer.the-variants.{Refused}
 use Rattle.receiver.specs.declared.answer.Refusal.{Refusal}
+use Rattle.receiver.specs.declared.answer.Refusal.the-variants.{OwnSource}
 use Rattle.receiver.specs.declared.state.Receiver.{Receiver}
 use Rattle.receiver.specs.Hearing.{Outcome, relayed, taken, passed, hearing}
-use Rattle.receiver.specs.Passing.{Passes}
+use Rattle.receiver.specs.Passing.{Ours, Passes}
 use Rattle.receiver.proofs.Laws.After.{leftBehind, After, after-taken}
 use Rattle.receiver.proofs.Laws.Fixed.{stays-taken}
 use Rattle.receiver.proofs.Laws.Heard.{late, Refuses, Early, openingOf, caching, PassesSo, walk-hearing, heard-passed}
@@ -57,7 +59,7 @@ module _ (r : Receiver) (pdu fwd msg : List ℕ) where
 
   pub heard-either : Either (hearing r pdu fwd msg)
   heard-either =
-      walk-hearing r fwd msg pdu Either (λ n trials e. inl (n, record { is-early = e; tried = trials; leaves = refl }))
+      walk-hearing r fwd msg pdu Either (λ n trials s. inl (n, record { is-early = s .is-early; tried = trials; leaves = refl }))
       (λ p. inr (p, passed-enters r fwd msg (openingOf r pdu .header) (p .opened .big) _))
 
   pub heard-refused :
@@ -70,6 +72,13 @@ module _ (r : Receiver) (pdu fwd msg : List ℕ) where
       let same : y .0 ≡ n = cc in
       inl (subst (λ (k : Refusal). Refuses r fwd msg k o) same (y .1)))
       (λ x. inr (x .1 .refused-late n e)) heard-either
+
+  -- what is refused 22 is ours
+  pub heard-ours : hearing r pdu fwd msg .heard .answer ≡ Refused OwnSource → Ours r pdu fwd msg (openingOf r pdu .trials) (openingOf r pdu .header)
+  heard-ours =
+      walk-hearing r fwd msg pdu (λ (x : Outcome). x .heard .answer ≡ Refused OwnSource → Ours r pdu fwd msg (openingOf r pdu .trials) (openingOf r pdu .header))
+      (λ n trials s e. let same : n ≡ OwnSource = cc in s .if-own same)
+      (λ p e. absurd (false≢true (passed-enters r fwd msg (openingOf r pdu .header) (p .opened .big) _ .refused-late OwnSource e .is-late)))
 
 -- ---- a PDU that passes
 pub heard-entered : {r : Receiver} {pdu fwd msg : List ℕ} {trials : ℕ} {h : Header} → Passes r pdu fwd msg trials h → Enters r fwd msg h (hearing r pdu fwd msg)
