@@ -174,6 +174,12 @@ class Story:
             self.known[key] = Message(said["src"], f"{auth} under {said['iv']}" if again else auth)
         return self.known[key]
 
+    def another(self, said, auth):
+        """A message in the place of one that had its source and SeqAuth before and came to no end: given up, or refused 13 when it was complete."""
+        message = Message(said["src"], self.message(said, auth).auth)
+        self.known[said["src"], said["iv"], auth] = message
+        return message
+
     def named(self, message):
         """A message in words: whose it is, and its SeqAuth."""
         return f"{self.whose(message.src)}, message {message.auth}"
@@ -187,9 +193,9 @@ class Story:
     def stored(self, line, _, said):
         """A segment found its place."""
         message, bits = self.message(said, said["auth"]), int(said["bits"], 16)
-        # a message that was refused 13 when it was complete begins again
         goes_on = self.open.get(message.src) is message and message.bits & bits == message.bits != bits
         before = message.bits if goes_on else 0
+        message = message if goes_on else self.another(said, said["auth"])
         message.bits, self.open[message.src] = bits, message
         self.doubt.discard(message.src)
         self.add(line, f"stored from {self.named(message)}: segment {(bits ^ before).bit_length() - 1}", "stored", message, bits ^ before)
@@ -213,11 +219,12 @@ class Story:
         if before >> before.bit_count() + 1:
             # more is missing than one segment: it was refused 13 before, and this is a message of one PDU
             before = 0
-        message.count = before.bit_count() + 1
-        message.bits = (1 << message.count) - 1
         if self.open.get(message.src) is message:
             del self.open[message.src]
             self.doubt.discard(message.src)
+        message = message if before else self.another(said, said["seq"])
+        message.count = before.bit_count() + 1
+        message.bits = (1 << message.count) - 1
         octets = answer.split(" message ")[1].split()[0]
         size = 0 if octets == "-" else len(octets) // 2
         self.senders[octets] = message.src

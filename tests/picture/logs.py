@@ -104,6 +104,15 @@ def freed():
     return said(line.encode() for line in lines)
 
 
+def given_up():
+    """A message of three segments is given up, and another begins with its SEQ: in one PDU, and in two segments."""
+    first = f'{STATION}box one 0201 "one" start 000a10'
+    begun = make.told(f"{first} {RECORDS}\nhear one segment 2 => stored 00000004\ndrop 201 => given up")[0]
+    whole = make.told(f"{first}\nhear one status 5 1 => access")[0][-1:]
+    parts = make.told(f"{first} long 0076 humidity 48.00 48.20 48.55\nhear one segment 0 => stored\nhear one segment 1 => access")[0][-2:]
+    return said(line.encode() for line in [*begun, *whole, *begun, *parts])
+
+
 def story():
     """The story's script."""
     return said((program.ROOT / "crates" / "console" / "stdin").read_bytes().splitlines())
@@ -112,7 +121,7 @@ def story():
 LOGS = {
     "no line": lambda: said([]), "no source": lambda: told(f"# No source\n{STATION}properties\n"), "one source": lambda: told(ONE),
     "one segment": lambda: told(SHORT), "nine sources": crowd, "wide words": lambda: told(WIDE), "comments": lambda: told(COMMENTS),
-    "hard readings": hard, "what is not told": freed, "the story": story,
+    "hard readings": hard, "what is not told": freed, "given up": given_up, "the story": story,
     **{f"untitled {at}": lambda text=text: told(text) for at, text in enumerate(UNTITLED)},
     **{f"seed {seed}": lambda seed=seed: script.made(seed) for seed in SEEDS},
 }
