@@ -1,4 +1,4 @@
-"""Compares the console with the independent model of document 01, and of document 02's Sensor Status, reserved groups and cache, line by line.
+"""Compares the console with the independent model of document 01, and of document 02's Sensor Status, reserved groups, cache and own voice, line by line.
 
   python3 tests/independent/compare.py [--seeds A..B] [--console COMMAND]
 

@@ -1,7 +1,7 @@
 """Which kinds of answer the fixed seeds must reach: every refusal of the documents by its reasons, from every operation, and every other answer."""
 import textwrap
 
-from model import AGAIN
+from model import AGAIN, BESIDE_OURS, OURS
 from network import ABOUT_RESERVED, RESERVED
 from sensor import EDGES
 
@@ -12,6 +12,7 @@ HEAR_KEPT = {
     2: ("no candidate key", "no IV Index"),
     3: ("none authenticates",),
     4: ("SRC unassigned", "SRC virtual", "SRC group", "SRC reserved", "DST unassigned", "DST virtual"),
+    22: tuple(whose + under for whose in ("an own message", "an own acknowledgement", "another's PDU") for under in ("", " under the IV Index before")),
     5: ("in the cache",),
     13: ("the device key does not open it",),
 }
@@ -70,6 +71,12 @@ MET = {"for this node": BESIDE, "not for this node": ABOUT, "not for this node u
 # round, not for this node either way; and, with both in the cache, a copy of one of them.
 TWICE = {AGAIN: tuple(case + behind for case in ("heard", "stored", "not for this node", "replayed") for behind in ("", ", forwarded"))
          + ("a copy of either is in the cache",)}
+# A PDU whose SRC is an element of the receiver: which one, opened by which key, how it comes, and what 22 keeps it from; 4, which comes before 22; and the
+# addresses beside those of the elements, which are others'. 22 before 5 is not met: nothing that is 22 goes into the cache, and no line can put it there,
+# so only a forged state has such an entry.
+VOICE = {OURS: ("the first element of several", "the last element of several", "a later network key opens it", "as it was sent", "as a relay hands it on",
+                "not forwarded", "not taken", "4 before 22, DST unassigned", "4 before 22, DST virtual"),
+         BESIDE_OURS: ("the last below the first element", "the first above the last element")}
 # The cases of Sensor Status: what a record is, what a list is as a whole, the counts about the ends of the ranges, and what needs no receiver.
 SENSED = {
     "a record": ("format A", "format A, at its longest", "format B", "format B, at its longest", "humidity above zero", "humidity of zero",
@@ -95,7 +102,7 @@ def required():
     for word, table in ASKED.items():
         kinds += _refusals(table, word)
     kinds += list(DONE) + [f"unread: {why}" for why in UNREAD] + list(CASES)
-    return kinds + [f"{what}: {case}" for table in (MET, TWICE, SENSED) for what, cases in table.items() for case in cases]
+    return kinds + [f"{what}: {case}" for table in (MET, TWICE, VOICE, SENSED) for what, cases in table.items() for case in cases]
 
 
 def _groups(kinds):

@@ -25,6 +25,9 @@ Heard = namedtuple("Heard", "answer trials forward")
 # What the cache keeps of a PDU: document 02 has, beside SRC and SEQ, the IV Index under which it was opened.
 Seen = namedtuple("Seen", "src seq iv_index")
 AGAIN = "same SRC and SEQ under the other index"
+# What the receiver has sent: document 01 keeps no such list. It is for the words alone, which tell an own PDU that comes back from another's.
+Sent = namedtuple("Sent", "net iv_index opened")
+OURS, BESIDE_OURS = "SRC is ours", "SRC is beside ours"
 
 
 class Refusal(Exception):
@@ -106,6 +109,7 @@ class Receiver:
         self.replay = []
         self.sessions = [None] * SESSIONS
         self.out = None
+        self.sent = []
         self.notes = []
 
     def note(self, met, words):
@@ -163,7 +167,12 @@ class Receiver:
         if kind(opened.src) != "unicast":
             raise Refusal(4, "SRC " + kind(opened.src))
         if opened.dst == 0 or opened.ctl and kind(opened.dst) == "virtual":
+            self.note(self.is_local(opened.src), f"{OURS}: 4 before 22, DST {kind(opened.dst)}")
             raise Refusal(4, "DST " + kind(opened.dst))
+        if self.is_local(opened.src):
+            raise Refusal(22, self._own(iv_index, opened, trials[0]))
+        self.note(opened.src + 1 == self.setup.first, f"{BESIDE_OURS}: the last below the first element")
+        self.note(opened.src == self.setup.first + len(self.seqs), f"{BESIDE_OURS}: the first above the last element")
         seen = Seen(opened.src, opened.seq, iv_index)
         if seen in self.cache:
             self.note(sum(other[:2] == seen[:2] for other in self.cache) > 1, f"{AGAIN}: a copy of either is in the cache")
@@ -180,6 +189,20 @@ class Receiver:
         if not ours:
             raise Refusal(6, "DST " + kind(opened.dst))
         return self._taken(net, iv_index, opened, trials)
+
+    def _own(self, iv_index, opened, place):
+        """Whose PDU it is that bears an address of ours, in words; and notes which element's, how it comes, and what 22 keeps it from."""
+        same = [each.opened.ttl for each in self.sent if each.iv_index == iv_index and each.opened._replace(ttl=opened.ttl) == opened]
+        several = len(self.seqs) > 1
+        self.note(several and opened.src == self.setup.first, f"{OURS}: the first element of several")
+        self.note(several and not self.is_local(opened.src + 1), f"{OURS}: the last element of several")
+        self.note(place > 1, f"{OURS}: a later network key opens it")
+        self.note(opened.ttl in same, f"{OURS}: as it was sent")
+        self.note(opened.ttl + 1 in same, f"{OURS}: as a relay hands it on")
+        self.note(self.setup.relay and opened.ttl >= 2 and not self.is_local(opened.dst), f"{OURS}: not forwarded")
+        self.note(self.is_for_us(opened.dst), f"{OURS}: not taken")
+        whose = "another's PDU" if not same else "an own acknowledgement" if opened.ctl and opened.transport[0] == 0 else "an own message"
+        return whose + ("" if iv_index == self.setup.iv_index else " under the IV Index before")
 
     def _opened(self, pdu, trials):
         """The number of the key that opens it, the IV Index and what the PDU says: refusals 1 to 3."""

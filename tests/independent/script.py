@@ -58,7 +58,7 @@ class Stage:
         hears = [(traffic.talk, 3)] * self.dice.randint(1, 12) + [(actor, self.dice.choice((0, 0, 1, 1, 3, 8))) for actor in traffic.ACTORS]
         asks = [(actor, self.dice.choice((0, 1, 1, 3, 8))) for actor in orders.ACTORS]
         self.actors = [(actor(self.world), weight, script.hear) for actor, weight in hears]
-        self.actors += [(actor(self.world), weight, self.ask) for actor, weight in asks]
+        self.actors += [(actor(self.world), weight, script.say) for actor, weight in asks]
 
     def set_up(self):
         """Sets up with odd lines between, which may spoil it, so until it is ready."""
@@ -70,12 +70,6 @@ class Stage:
                 if self.dice.random() < 0.02:
                     self.script.sense()
                 answers = self.script.say(line)
-
-    def ask(self, line):
-        """A request; the PDU that it sends may be heard later."""
-        answers = self.script.say(line)
-        if answers[0].startswith(("sent", "started")):
-            self.world.own = self.world.own[-7:] + [bytes.fromhex(answers[0].split()[1])]
 
     def turn(self):
         actor, _, use = self.dice.choices(self.actors, [weight for _, weight, _ in self.actors])[0]
@@ -127,6 +121,22 @@ def begin_again(script, dice, count=60):
     script.say("show")
 
 
+def own_voice(script, dice, count=60):
+    """A receiver that sends, acknowledges what others begin, and hears PDUs of its own elements; its dice are its own."""
+    script.set_up(replace(setup_of(dice), relay=1), dice)
+    world = World(dice, script.console)
+    own, others = traffic.own_voice(world), traffic.openers(world)
+    asked = [actor(world) for actor in (orders.access, orders.control, orders.acknowledge)]
+    for _ in range(count):
+        if dice.random() < 0.3:
+            script.say(next(dice.choice(asked)))
+        else:
+            script.hear(next(others if dice.random() < 0.2 else own))
+        if dice.random() < 0.05:
+            script.say("show")
+    script.say("show")
+
+
 def made(seed, worlds=3, count=530):
     """The script of a seed."""
     script = Script(seed)
@@ -142,4 +152,5 @@ def made(seed, worlds=3, count=530):
     if seed % FLOODS == 0:
         stage.flood(STARTS[seed // FLOODS % len(STARTS)])
     begin_again(script, random.Random(f"begin again {seed}"))
+    own_voice(script, random.Random(f"own voice {seed}"))
     return script.steps

@@ -6,7 +6,7 @@ from dataclasses import dataclass
 
 import network
 import transport
-from model import Refusal
+from model import Refusal, Sent
 from network import kind
 
 UNNAMED_TTL = 4
@@ -59,7 +59,9 @@ def _transmit(receiver, element, net, ctl, ttl, dst, octets):
     seq, iv_index = _next(receiver, element)
     receiver.seqs[element] = seq + 1
     receiver.note(dst in network.ABOUT_RESERVED, f"sent to: {dst:04x} with CTL {ctl}")
-    return network.seal(receiver.networks[net], iv_index, ctl, ttl, seq, receiver.setup.first + element, dst, octets)
+    opened = network.Opened(ctl, ttl, seq, receiver.setup.first + element, dst, octets)
+    receiver.sent.append(Sent(net, iv_index, opened))
+    return network.seal(receiver.networks[net], iv_index, *opened)
 
 
 def _start(receiver, element, net, ctl, ttl, dst, segments):

@@ -5,6 +5,7 @@ what it makes comes from the world's nodes.
 """
 from itertools import chain, zip_longest
 
+import network
 import transport
 from ciphers import k2, k4
 from model import Terms
@@ -119,9 +120,9 @@ def late(world):
             node.seq = max(node.seq, first + ahead + 1)
 
 
-def one_short(world, ctl):
+def one_short(world, ctl, src=None):
     """A message of one PDU that is accepted, if its source is."""
-    dice, node = world.dice, world.node()
+    dice, node = world.dice, world.node(src)
     if ctl:
         return node.say(1, world.ttl(), world.destination(), bytes([5]) + dice.randbytes(4))
     dst, seq = world.local(), node.take()
@@ -194,12 +195,18 @@ def changed(world, terms, change):
     return Terms(*terms)
 
 
+def echo(world, sent, lower=0):
+    """What the receiver sent itself, as it was or with a lower TTL."""
+    opened = sent.opened._replace(ttl=max(sent.opened.ttl - lower, 0))
+    return network.seal(world.receiver.networks[sent.net], sent.iv_index, *opened)
+
+
 def again(world):
     """PDUs that were heard: the same, under another TTL, under a new SEQ, under the other IV Index, to another DST; and the receiver's own."""
     dice = world.dice
     while True:
-        if world.own and dice.random() < 0.2:
-            yield dice.choice(world.own)
+        if world.receiver.sent and dice.random() < 0.2:
+            yield echo(world, dice.choice(world.receiver.sent[-8:]))
             continue
         if not world.said:
             yield one_short(world, 0)
@@ -341,6 +348,26 @@ def begun_again(world):
             yield pdu
             if dice.random() < 0.3:
                 yield dice.choice(pdus[max(at - 3, 0):at + 1])
+
+
+def own_voice(world):
+    """PDUs whose SRC is one of the receiver's elements: its own, as they were and as relays hand them on; others', also with a DST that is not allowed.
+
+    And messages of the addresses beside its elements.
+    """
+    dice = world.dice
+    while True:
+        sent, how = world.receiver.sent, dice.randrange(8)
+        beside = [src for src in (world.setup.first - 1, world.setup.first + len(world.setup.seqs)) if kind(src) == "unicast"]
+        if how < 4 and sent:
+            yield echo(world, dice.choice(sent[-8:]), dice.choice((0, 1, 1, 2)))
+        elif how == 4:
+            ctl = dice.randint(0, 1)
+            yield world.node(world.local()).say(ctl, world.ttl(), dice.choice((0, 0x8000, 0xBFFF)) if ctl else 0, dice.randbytes(12))
+        elif how == 5 and beside:
+            yield one_short(world, dice.randint(0, 1), dice.choice(beside))
+        else:
+            yield one_short(world, dice.randint(0, 1), world.local())
 
 
 ACTORS = (late, crowd, openers, joined, again, lasts, longest, noise, addresses, forms, answers)

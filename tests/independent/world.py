@@ -98,16 +98,12 @@ class Node:
 
 
 class World:
-    """What lies around the receiver that a console has just set up.
-
-    `said` holds the latest PDUs with what they were sealed from, `own` the latest that the receiver sent itself.
-    """
+    """What lies around the receiver that a console has just set up. `said` holds the latest PDUs of others with what they were sealed from."""
 
     def __init__(self, dice, console):
         self.dice, self.console = dice, console
         self.nodes = {}
         self.said = []
-        self.own = []
         self.strange_net = dice.choice((dice.randbytes(16), alike(dice, nid, 1, nid(self.setup.net_keys[0]))[0]))
         held = [k4(key) for _, key in self.setup.app_keys]
         self.strange_app = alike(dice, k4, 1, dice.choice(held))[0] if held and dice.random() < 0.7 else dice.randbytes(16)
