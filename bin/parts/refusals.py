@@ -6,5 +6,5 @@ WORDS = {
     9: "it is old: replayed, or a newer message is coming", 10: "it does not fit the message that it would join", 11: "no replay entry is free",
     12: "no session is free", 13: "no key opens the message, or it is too short", 14: "the request is outside the rules",
     15: "the element has no sequence number left", 16: "a buffer is too short", 20: "the list ends inside a header or a value",
-    21: "a named property has another length than two octets",
+    21: "a named property has another length than two octets", 22: "its SRC is an address of this node",
 }

@@ -2,7 +2,7 @@
 from collections import namedtuple
 
 import transport
-from boxes import APPLICATION_KEY, IV_INDEX, NETWORK_KEY
+from boxes import APPLICATION_KEY, IV_INDEX, NETWORK_KEY, STATION
 from sealed import BOX, DEVICE_KEY, GROUP, OTHER_KEY, READING, READINGS, SECOND_KEY, akf_aid, changed, hear, secured, segment, whole
 
 # Lines that the log has and the page leaves out.
@@ -134,8 +134,21 @@ def misfit():
     return ["property 76 humidity", "# a humidity of one octet", "readings 52c00e30", "# a humidity of three", "readings 52c40ec01200"]
 
 
+def own_source():
+    """SRC is one of the station's elements. A relay brings back what the station itself has sent, or another node bears its address. It is asked before the
+    cache and leaves everything: no entry, no session, nothing forwarded."""
+    back = transport.acknowledgement(0, 0x100, 1)
+    return ["# the station says something to the box, with TTL 4", f"access 0 {BOX:x} - 0 0 4 {READING.hex()}",
+            "# a relay has heard it and hands it on: TTL 3", whole(0x40, src=STATION, dst=BOX, ttl=3),
+            "# the box sends a segment, the station acknowledges it", segment(0, 0x100), f"ack 0 {BOX:x}",
+            "# and the acknowledgement comes back in the same way", hear(0x41, back, src=STATION, dst=BOX, ctl=1, ttl=3),
+            "# a box that was given the station's address by mistake", whole(0x200, src=STATION, dst=GROUP),
+            "# the station knows of the box alone", "show"]
+
+
 # Each example by its number.
 MADE = {
     1: wrong_length, 2: no_candidate, 3: not_authentic, 4: wrong_address, 5: cached, 6: not_for_node, 7: wrong_form, 8: no_seq_auth, 9: replayed,
     10: differs, 11: no_entry_left, 12: no_slot_left, 13: not_opened, 14: outside_rules, 15: no_seq_left, 16: short_buffer, 20: cut, 21: misfit,
+    22: own_source,
 }
