@@ -10,7 +10,7 @@ import make
 
 # A box behind the last that story.txt makes, and what it does at the story's end.
 BOX = 'box lamp 0401 "lamp" start 000700 long 0075 temperature 31.25 unknown -4.50 0076 humidity 12.00'
-ACT = ("hear lamp segment 1 => stored 0401 00000002 1 0", "ack 0 401 => sent", "hear lamp segment 1 resent => repeat 0401 00000002 1 0",
+ACT = ("hear lamp segment 1 => stored 0401 00000002 1 0", "ack 0 401 => sent", "hear lamp echo => refused 22 1 0", "hear lamp segment 1 resent => repeat 0401 00000002 1 0",
        "hear lamp segment 0 => access 0401 0001 000700 1 1", "readings lamp => readings 4 0075 31.25 0075 unknown 0075 -4.50 0076 12.00")
 # What the picture shows of it.
 DRAWN = (
@@ -56,6 +56,9 @@ WRONG = {
     f"{START} before 0075 temperature 1.00 2.00 3.00 now 0075 temperature 1.00": "13 octets is longer than 11",
     "hear lamp segment 0": "hear needs the name of a box",
     f"{START}\nhear lamp segment 0": "lamp cannot send: segment 0",
+    f"{START}\nhear lamp echo twice": "lamp cannot send: echo twice",
+    f"{START}\naccess 0 401 0 0 0 4 52\nhear lamp echo": "lamp cannot send: echo, of a PDU with TTL 0",
+    f"{START}\nnetkey {'00' * 16}\nelements 1 0\nsetup\ncontrol 0 401 - 0 1 -\nhear lamp echo": "lamp cannot send: echo, before the station has sent",
     'box lamp 0401 "lamp" start ffffff\nhear lamp status 5 1\nhear lamp status 5 1': "lamp cannot send: its numbers end with ffffff",
     'box lamp 0401 "lamp" start fffffe long 0075 temperature 1.00 2.00 3.00 4.00 5.00 6.00': "its message needs more",
 }

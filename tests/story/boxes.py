@@ -14,7 +14,8 @@ are what a Sensor Status message says, written as the console reads them, any nu
   PROPERTY raw OCTETS             1 to 127 octets, as they are sent
 
 What a box sends, story.txt names behind `hear NAME`: `segment N` with nothing, resent, relayed or forged behind it; `status TTL DST`, the wind's
-force; `first before` and `first now`, with nothing or relayed behind it; `recorded`, the first PDU that it sent, once more.
+force; `first before` and `first now`, with nothing or relayed behind it; `recorded`, the first PDU that it sent, once more; `echo`, the last PDU that
+the station sent, which the box hands on as a relay.
 """
 import re
 
@@ -162,6 +163,15 @@ class Box:
         if not self.said:
             raise Unknown("recorded, before it has sent anything")
         return self.said[0]
+
+    def echo(self, last):
+        """The last PDU that the station sent, as a relay hands it on: opened, and sealed again with its TTL one lower."""
+        opened = network.unseal(k2(NETWORK_KEY), IV_INDEX, last) if last else None
+        if not opened:
+            raise Unknown("echo, before the station has sent anything that it can open")
+        if opened.ttl < 2:
+            raise Unknown(f"echo, of a PDU with TTL {opened.ttl}: a relay hands on those with 2 and more")
+        return network.seal(k2(NETWORK_KEY), IV_INDEX, *opened._replace(ttl=opened.ttl - 1))
 
 
 def said(text, most):

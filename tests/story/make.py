@@ -39,8 +39,8 @@ def number(text, most):
     return int(text, 16)
 
 
-def sent(box, words):
-    """The PDU that these words name."""
+def sent(box, words, last):
+    """The PDU that these words name; `last` is the last one that the station sent."""
     match words:
         case ["segment", place, *how]:
             return box.segment(number(place, 31), " ".join(how))
@@ -50,6 +50,8 @@ def sent(box, words):
             return box.first(when, " ".join(how))
         case ["recorded"]:
             return box.recorded()
+        case ["echo"]:
+            return box.echo(last)
     raise Unknown(" ".join(words))
 
 
@@ -76,7 +78,7 @@ def read(words, shed, messages):
     return f"readings {changed(messages[words[0]], words[1:]).hex() or '-'}"
 
 
-def spoken(line, shed, messages):
+def spoken(line, shed, messages, last):
     """The console's line for a command of story.txt."""
     words = line.split()
     if words[0] == "readings":
@@ -86,7 +88,7 @@ def spoken(line, shed, messages):
     if len(words) < 2 or words[1] not in shed:
         raise Wrong("hear needs the name of a box, and a line before it that makes the box")
     try:
-        return "hear " + sent(shed[words[1]], words[2:]).hex()
+        return "hear " + sent(shed[words[1]], words[2:], last).hex()
     except Unknown as unknown:
         raise Wrong(f"{words[1]} cannot send: {unknown}") from None
 
@@ -108,18 +110,20 @@ def fits(wanted, answer):
 
 
 def told(text):
-    """The script and the answers, as lines; `messages` holds what was handed up last from each box."""
-    shed, console, script, answers, messages = {}, Console(), [], [], {}
+    """The script and the answers, as lines; `messages` holds what was handed up last from each box, `last` the last PDU that the station sent."""
+    shed, console, script, answers, messages, last = {}, Console(), [], [], {}, b""
     for at, line in enumerate(text.splitlines(), 1):
         try:
             command, arrow, wanted = line.partition(" => ")
             if line.split()[:1] == ["box"]:
                 line = boxed(line, shed)
             elif line and not line.startswith("#"):
-                line = spoken(command, shed, messages)
+                line = spoken(command, shed, messages, last)
             answer = console.answer(line.encode())
             if command.startswith("hear ") and " message " in answer[0]:
                 messages[command.split()[1]] = bytes.fromhex(answer[0].split(" message ")[1].split()[0])
+            if answer and answer[0].startswith(("sent ", "started ")):
+                last = bytes.fromhex(answer[0].split()[1])
             if answer == ["unread"] or arrow and not fits(wanted.split(), answer[0]):
                 raise Wrong(f"the answer is: {answer[0]}")
         except Wrong as wrong:
