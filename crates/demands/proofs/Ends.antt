@@ -1,5 +1,5 @@
 -- How a call ends: with one of its answers, and a refusal leaves what it may. Hearing: a refusal is of one of two kinds, by the receiver's laws, which walk the definition of
--- `hearing` once. Before the cache it is 16 or 1 to 5 and hands back what it got; behind it, it is 6 to 13 and hands back the message buffer. Sending: follow a call down its
+-- `hearing` once. Before the cache it is 16, 1 to 5 or 22 and hands back what it got; behind it, it is 6 to 13 and hands back the message buffer. Sending: follow a call down its
 -- chain of tests; each refusal is 16, 14 or 15 and hands back receiver and buffer, also those of the transmission, which does not begin without an SEQ and writes nothing where
 -- sealing refuses. Giving up zeroes what is there or, where nothing is, answers 14 and hands the receiver back. Assumes nothing.
 --   Ends            how a call ends

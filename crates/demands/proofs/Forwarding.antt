@@ -1,4 +1,4 @@
--- `Forwards`. What passes refusals 1 to 5 is cached, perhaps forwarded, and taken. Where it is to be forwarded, the key
+-- `Forwards`. What passes refusals 1 to 5 and 22 is cached, perhaps forwarded, and taken. Where it is to be forwarded, the key
 -- that opened it seals it again: the receiver was set up, so its keys are derived by k2, which gives octets whatever it
 -- is given; the octets that were heard and those of the cipher make a header within all limits of sealing, and its
 -- length is the one that was heard (`Resealed`). So forwarding never meets a refusal, and its octets are as many as

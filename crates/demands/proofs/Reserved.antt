@@ -1,4 +1,4 @@
--- A reserved address is for no node, so what passes refusals 1 to 5 is refused 6; it is no element's, whose addresses are unicast, so forwarding asks for relay and TTL alone. Setup lets
+-- A reserved address is for no node, so what passes refusals 1 to 5 and 22 is refused 6; it is no element's, whose addresses are unicast, so forwarding asks for relay and TTL alone. Setup lets
 -- only groups in, and a request names a unicast address or a group. A segment goes where its message was begun to, and an acknowledgement to a source that has a session or
 -- a message handed up: only a PDU gives it either, and its SRC is unicast. Assumes nothing.
 use mathlib.Core.Bool.{Bool, true, false, true≢false, false≢true, _&&_}

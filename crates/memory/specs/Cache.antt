@@ -1,4 +1,4 @@
--- The message cache holds the last sixteen PDUs that passed refusals 1 to 5 (document 01, "What the receiver holds"), by SRC, SEQ and IV Index (document 02, W3).
+-- The message cache holds the last sixteen PDUs that passed refusals 1 to 5 (document 01, "What the receiver holds") and 22 (document 02, W5), by SRC, SEQ and IV Index (W3).
 --   seen c h         5: in the cache
 --   remembered c h   the cache with one entry more
 --   oldestFirst c    its places, that of the oldest entry first
