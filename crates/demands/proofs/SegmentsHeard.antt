@@ -34,8 +34,8 @@ use Rattle.demands.proofs.RelayLaws.{relayed-sealed}
 use Rattle.demands.proofs.SceneLaws.{Scenery, begins}
 use Rattle.demands.proofs.SpeechSegment.{formed}
 
-module _ (setup : Setup) (ready : settingUp setup .answer ≡ Ready) (s : Speech) (speaks : Speakable (nodeOf setup) s) (other : isLocal (nodeOf setup) (s .src) ≡ false) (cut : goesWhole (s .words) ≡ false)
-    (ttl : ℕ) (ttl-fits : ttl ≤ 127) (ps : List Piece) (laws : Laws (nodeOf setup) s ttl (s .auth .seq) ps) where
+module _ (setup : Setup) (ready : settingUp setup .answer ≡ Ready) (s : Speech) (speaks : Speakable (nodeOf setup) s) (other : isLocal (nodeOf setup) (s .src) ≡ false)
+    (cut : goesWhole (s .words) ≡ false) (ttl : ℕ) (ttl-fits : ttl ≤ 127) (ps : List Piece) (laws : Laws (nodeOf setup) s ttl (s .auth .seq) ps) where
   abbrev node : Node
   node = nodeOf setup
 

@@ -107,31 +107,22 @@ pub passed-is :
 unfolding passed
 passed-is r h trials fwd msg ec eq ef et = rw (← ec, ← eq, ← ef, ← et)
 
--- ---- 5
-module _ (r : Receiver) (h : Header) (trials : ℕ) (fwd msg : List ℕ) (was : Bool) (e : was ≡ seen (r .cache) h) (t : Heard) where
-  pub uncached-seen : was ≡ true → t ≡ refusedHeard r refusal.Cached trials → outcome t fwd msg ≡ uncached r h trials fwd msg
-  unfolding uncached
-  uncached-seen k et = rw (← e, k, et)
-
-  pub uncached-new :
-      was ≡ false → (fwd' msg' : List ℕ) → outcome t fwd' msg' ≡ passed r h trials fwd msg → outcome t fwd' msg' ≡ uncached r h trials fwd msg
-  unfolding uncached
-  uncached-new k fwd' msg' et = rw (← e, k) et
-
-pub ruleset uncached-rules = (uncached-seen, uncached-new)
-
--- ---- 22
-module _ (r : Receiver) (h : Header) (trials : ℕ) (fwd msg : List ℕ) (own : Bool) (e : own ≡ isLocal (r .node) (h .src)) (t : Heard) where
+-- ---- 22, 5
+module _ (r : Receiver) (h : Header) (trials : ℕ) (fwd msg : List ℕ) (t : Heard) (own : Bool) (e : own ≡ isLocal (r .node) (h .src)) where
   pub voiced-own : own ≡ true → t ≡ refusedHeard r refusal.OwnSource trials → outcome t fwd msg ≡ voiced r h trials fwd msg
   unfolding voiced
   voiced-own k et = rw (← e, k, et)
 
-  pub voiced-other :
-      own ≡ false → (fwd' msg' : List ℕ) → outcome t fwd' msg' ≡ uncached r h trials fwd msg → outcome t fwd' msg' ≡ voiced r h trials fwd msg
-  unfolding voiced
-  voiced-other k fwd' msg' et = rw (← e, k) et
+  module _ (other : own ≡ false) (was : Bool) (f : was ≡ seen (r .cache) h) where
+    pub voiced-seen : was ≡ true → t ≡ refusedHeard r refusal.Cached trials → outcome t fwd msg ≡ voiced r h trials fwd msg
+    unfolding voiced uncached
+    voiced-seen k et = rw (← e, other, ← f, k, et)
 
-pub ruleset voiced-rules = (voiced-own, voiced-other)
+    pub voiced-new : was ≡ false → (fwd' msg' : List ℕ) → outcome t fwd' msg' ≡ passed r h trials fwd msg → outcome t fwd' msg' ≡ voiced r h trials fwd msg
+    unfolding voiced uncached
+    voiced-new k fwd' msg' et = rw (← e, other, ← f, k) et
+
+pub ruleset voiced-rules = (voiced-own, voiced-seen, voiced-new)
 
 -- ---- 16, 1 to 4
 module _ (r : Receiver) (pdu fwd msg : List ℕ) (t : Heard) where

@@ -15,7 +15,7 @@ ghost use lib.ListN.{length};
 ghost use Rattle.common.specs.Lent.{lent};
 ghost use Rattle.transport.specs.Form.{formOf};
 ghost use Rattle.transport.specs.Segment.{messageOctets};
-ghost use Rattle.receiver.specs.Hearing.{refusedHeard, relayed, takenAs, taken, outcome, passed, uncached, voiced, hearing};
+ghost use Rattle.receiver.specs.Hearing.{refusedHeard, relayed, takenAs, taken, outcome, passed, voiced, hearing};
 
 // A refusal that leaves everything.
 fn refuse(r: Receiver, refusal: Refusal, trials: usize) -> Heard
@@ -108,26 +108,8 @@ fn pass(r: Receiver, h: Header, trials: usize, forward: &mut [u8], message: &mut
     }
 }
 
-// A PDU of another node: 5 where it is in the cache.
+// An opened PDU: 22 where its SRC is one of our elements, 5 where it is in the cache.
 fn pass_new(r: Receiver, h: Header, trials: usize, forward: &mut [u8], message: &mut [u8]) -> Heard
-    requires { ⌜ messageOctets ≤ length (now message) ⌝ }
-    ensures { λ t. ⌜ outcome t (now (forward .exit)) (now (message .exit)) ≡ uncached r h trials (now (forward .entry)) (now (message .entry)) ⌝ }
-{
-    let cache = r.cache;
-    if memory::cache::is_seen(cache, h) {
-        return refuse(r, Refusal::Cached, trials);
-    }
-    pass(r, h, trials, forward, message)
-}
-
-// An opened PDU: 22 where its SRC is one of our elements.
-fn pass_other(
-    r: Receiver,
-    h: Header,
-    trials: usize,
-    forward: &mut [u8],
-    message: &mut [u8],
-) -> Heard
     requires { ⌜ messageOctets ≤ length (now message) ⌝ }
     ensures { λ t. ⌜ outcome t (now (forward .exit)) (now (message .exit)) ≡ voiced r h trials (now (forward .entry)) (now (message .entry)) ⌝ }
 {
@@ -135,7 +117,11 @@ fn pass_other(
     if node::addresses::is_local(node, h.src) {
         return refuse(r, Refusal::OwnSource, trials);
     }
-    pass_new(r, h, trials, forward, message)
+    let cache = r.cache;
+    if memory::cache::is_seen(cache, h) {
+        return refuse(r, Refusal::Cached, trials);
+    }
+    pass(r, h, trials, forward, message)
 }
 
 // Hears one PDU. A PDU that is forwarded fills the first octets of forward, a message handed up the first of message.
@@ -159,6 +145,6 @@ pub fn hear(r: Receiver, pdu: &[u8], forward: &mut [u8], message: &mut [u8]) -> 
         Network::NoCandidate => refuse(r, Refusal::NoCandidate, trials),
         Network::NotAuthentic => refuse(r, Refusal::NotAuthentic, trials),
         Network::WrongAddress => refuse(r, Refusal::WrongAddress, trials),
-        Network::Opened => pass_other(r, header, trials, forward, message),
+        Network::Opened => pass_new(r, header, trials, forward, message),
     }
 }
