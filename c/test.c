@@ -1,6 +1,7 @@
-/* Tests the archive from C: the refusals' names, MP's Network PDUs, some to reserved groups and some of one SRC and SEQ under two IV Indexes both
- * ways, edge lengths and TTLs, every refusal with the buffer untouched, and random PDUs, whole and damaged. Prints what it counted; exits 1 at the
- * first thing that is not as it should be. */
+/* Tests the archive from C: the refusals' names, MP's Network PDUs, some to reserved groups, some of one SRC and SEQ under two IV Indexes and random
+ * ones of OpenSSL both ways, edge lengths and TTLs, every refusal with the buffer untouched, and random PDUs, whole and damaged, 10000 or as many as
+ * the argument says. Prints what it counted, and a sum of the random credentials and PDUs, by which two archives are compared; exits 1 at the first
+ * thing that is not as it should be. */
 #include "gorephan.h"
 #include "names.h" /* made by tests/c/make_names.py */
 #include "pdus.h"  /* made by tests/c/make_pdus.py */
@@ -48,6 +49,15 @@ static void random_octets(uint8_t *out, size_t len)
 {
     for (size_t i = 0; i < len; i++)
         out[i] = (uint8_t)dice();
+}
+
+/* FNV-1a over octets that the archive has written. */
+static uint64_t sum = 0xCBF29CE484222325;
+
+static void add(const uint8_t *octets, size_t len)
+{
+    for (size_t i = 0; i < len; i++)
+        sum = (sum ^ octets[i]) * 0x100000001B3;
 }
 
 /* One header, sealed; out has 40 octets. */
@@ -160,6 +170,17 @@ static void under_both_indexes(void)
     }
 }
 
+/* Random network keys and PDUs of OpenSSL. */
+static void of_openssl(void)
+{
+    for (size_t i = 0; i < sizeof openssl_pdus / sizeof openssl_pdus[0]; i++) {
+        const struct mp_pdu *m = &openssl_pdus[i];
+        uint8_t credential[33];
+        check(gorephan_credentials(openssl_keys[i], 16, credential, 33) == 0 && memcmp(credential, m->credential, 33) == 0, m->name);
+        both_ways(m);
+    }
+}
+
 static void edges(const uint8_t *credential)
 {
     struct header h = {7, 0, 5, 0x010203, 0x0001, 0xC000, 1, {9}};
@@ -262,9 +283,9 @@ static void every_refusal(const uint8_t *credential)
     check(seal(credential, &x, pdu) >> 16 == n, "DST virtual with CTL 0 is sealed");
 }
 
-static void at_random(void)
+static void at_random(unsigned turns)
 {
-    for (unsigned turn = 0; turn < 10000; turn++) {
+    for (unsigned turn = 0; turn < turns; turn++) {
         uint8_t key[16], credential[33], pdu[40];
         random_octets(key, 16);
         check(gorephan_credentials(key, 16, credential, 33) == 0, "a credential");
@@ -274,6 +295,8 @@ static void at_random(void)
         random_octets(h.transport, h.len);
         uint32_t n = seal(credential, &h, pdu) >> 16;
         check(n == 9 + h.len + (h.ctl ? 8 : 4), "the sealed length");
+        add(credential, 33);
+        add(pdu, n);
         opens(credential, 33, &h, pdu, n, 1, 0);
         uint32_t bit = dice() % (8 * n);
         pdu[bit / 8] ^= (uint8_t)(1 << bit % 8);
@@ -291,19 +314,22 @@ static void refusals_by_name(void)
         check(names[i].is == names[i].should_be, names[i].name);
 }
 
-int main(void)
+int main(int count, char **words)
 {
     static const uint8_t credential[33] = MP_CREDENTIAL;
+    const unsigned turns = count > 1 ? (unsigned)strtoul(words[1], NULL, 10) : 10000;
     refusals_by_name();
     samples();
     reserved_groups();
     under_both_indexes();
+    of_openssl();
     edges(credential);
     read_from_one_buffer(credential);
     every_refusal(credential);
-    at_random();
-    printf("%zu refusals by name, %zu samples of MP, %zu PDUs to reserved groups, %zu under two IV Indexes, 10000 random PDUs, %u checks\n",
+    at_random(turns);
+    printf("%zu refusals by name, %zu samples of MP, %zu PDUs to reserved groups, %zu under two IV Indexes, %zu of OpenSSL, %u random PDUs,"
+           " %u checks, sum %016llx\n",
            sizeof names / sizeof names[0], sizeof mp_pdus / sizeof mp_pdus[0], sizeof reserved_pdus / sizeof reserved_pdus[0],
-           sizeof twice_pdus / sizeof twice_pdus[0], checks);
+           sizeof twice_pdus / sizeof twice_pdus[0], sizeof openssl_pdus / sizeof openssl_pdus[0], turns, checks, (unsigned long long)sum);
     return 0;
 }

@@ -1,19 +1,26 @@
 """Writes pdus.h for c/test.c: every Network PDU of vectors/mp_samples.json with its parts, PDUs to reserved groups, PDUs with one SRC and SEQ
-under two IV Indexes, and PDUs with addresses that are not allowed.
+under two IV Indexes, random PDUs under the credentials of random network keys, and PDUs with addresses that are not allowed.
 
   python3 tests/c/make_pdus.py > pdus.h
 
 MP has no sample to a reserved group and none of the two IV Indexes, and no function of ours seals an address that is not allowed, so those PDUs
-are sealed here, by OpenSSL (python3-cryptography), from MP 3.4.
+are sealed here, by OpenSSL (python3-cryptography), from MP 3.4, and so are the random ones; their credentials are derived by OpenSSL, too.
 """
 import json
+import random
+import sys
 from pathlib import Path
 
 from cryptography.hazmat.primitives.ciphers import Cipher, algorithms, modes
 from cryptography.hazmat.primitives.ciphers.aead import AESCCM
 
-SAMPLES = json.loads((Path(__file__).resolve().parents[2] / "vectors" / "mp_samples.json").read_text())
+ROOT = Path(__file__).resolve().parents[2]
+sys.path.insert(0, str(ROOT / "tests" / "ciphers"))
+from compare import k2  # noqa: E402
+
+SAMPLES = json.loads((ROOT / "vectors" / "mp_samples.json").read_text())
 FIRST = SAMPLES["messages"][0]
+RANDOM = 200
 
 
 def array(octets):
@@ -63,6 +70,16 @@ def main():
         for iv_index in (0x12345677, 0x12345678):
             said = credential(FIRST), iv_index, ctl, 5, 0, 0x0001, 0x1201, b"\x01\x02\x03"
             print(row(f"SEQ 000000 under IV Index {iv_index:08x} with CTL {ctl}", *said, sealed(*said)))
+    print("};")
+    dice = random.Random(6)
+    keys = [dice.randbytes(16) for _ in range(RANDOM)]
+    print("static const uint8_t openssl_keys[][16] = {", *(f"    {array(key)}," for key in keys), "};", sep="\n")
+    print("static const struct mp_pdu openssl_pdus[] = {")
+    for number, key in enumerate(keys):
+        ctl = dice.randrange(2)
+        said = (bytes.fromhex(k2(key)), dice.randrange(1 << 32), ctl, dice.randrange(128), dice.randrange(1 << 24), dice.randrange(1, 0x8000),
+                dice.choice([dice.randrange(1, 0x8000), dice.randrange(0xC000, 0x10000)]), dice.randbytes(dice.randint(1, 12 if ctl else 16)))
+        print(row(f"PDU {number} of OpenSSL", *said, sealed(*said)))
     print("};")
     print("static const struct { const char *name; uint32_t iv_index; size_t pdu_len; uint8_t pdu[29]; } unallowed[] = {")
     for name, ctl, src, dst in (("SRC unassigned", 0, 0x0000, 0x0001), ("SRC virtual", 0, 0x8000, 0x0001), ("SRC a group", 1, 0xC000, 0x0001),
