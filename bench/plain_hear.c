@@ -1,6 +1,6 @@
-// The receiver's `hear` in plain C, as for a small device: the state is changed in place, and nothing is allocated. Its answers are those of
-// crates/receiver on every receiver that setup makes (bench/same), and its size is what that of the proved code is compared with. A function that can
-// refuse gives the number of the refusal (docs/ANSWERS.md), or 0.
+// The receiver's `hear` in plain C, as for a small device: the state is changed in place, and nothing is allocated. The size of the proved code is
+// compared with that of this; bench/same holds its answers, and what it remembers, to those of the proved console. A function that can refuse gives the
+// number of the refusal (docs/ANSWERS.md), or 0.
 #include "plain_hear.h"
 #include "plain_network.h"
 
@@ -17,7 +17,7 @@ enum {
 	OWN_SOURCE = 22,
 };
 
-// A PDU that was opened; its octets in clear are kept by plain_hear.
+// A PDU that was opened.
 struct header {
 	struct pair pair;
 	uint16_t src, dst;
@@ -41,6 +41,17 @@ static bool newer(struct pair a, struct pair b)
 static uint32_t all_bits(unsigned n)
 {
 	return 0xFFFFFFFF >> (31 - n);
+}
+
+// Of a segment, its place and the last place.
+static unsigned seg_o(const uint8_t *transport)
+{
+	return word(transport + 2) >> 5 & 31;
+}
+
+static unsigned seg_n(const uint8_t *transport)
+{
+	return transport[3] & 31;
 }
 
 static bool is_local(const struct node *n, unsigned address)
@@ -264,7 +275,7 @@ static uint8_t report(struct answer *a, enum kind kind, uint32_t bits)
 static uint8_t take_segment(struct receiver *r, const struct header *h, uint8_t *message, struct answer *a)
 {
 	const uint8_t *t = h->transport;
-	unsigned sego = word(t + 2) >> 5 & 31, segn = t[3] & 31;
+	unsigned sego = seg_o(t), segn = seg_n(t);
 	bool szmic = !h->ctl && t[1] & 0x80;
 	// how many numbers ago the message was begun
 	uint32_t back = (h->pair.seq - (word(t + 1) >> 2)) & 0x1fff;
@@ -309,8 +320,7 @@ static bool is_formed(const struct header *h)
 		return false;
 	if (!(t[0] & 0x80))
 		return h->ctl || 6 <= h->len;
-	unsigned sego = word(t + 2) >> 5 & 31, segn = t[3] & 31;
-	return 5 <= h->len && (sego == segn || (sego < segn && h->len == (h->ctl ? 12 : 16)));
+	return 5 <= h->len && (seg_o(t) == seg_n(t) || (seg_o(t) < seg_n(t) && h->len == (h->ctl ? 12 : 16)));
 }
 
 // A PDU that is in the cache now.

@@ -1,13 +1,14 @@
 """Holds plain_hear.c to the proved console: what each answers to every `hear` line, and what each remembers behind it.
 
-  bench/same_hear.py LIBRARY [A..B]      LIBRARY is plain_hear.c, plain_setup.c and plain_radio.c as a shared object; the console must have been built
+  python3 bench/same_hear.py LIBRARY [A..B]      LIBRARY is plain_hear.c, plain_setup.c and plain_radio.c as a shared object; the console must be built
 
-The lines are those of the recorded sessions, of the story, the class and the examples of docs/ANSWERS.md, and of the scripts that
-tests/independent makes of the seeds A to B (1..24), in which other nodes speak and the receiver is asked to send. Behind each line that can change
-what hearing rests on a `show` is put in, so that cache, replay list, sessions and the message being sent are compared too. The plain C only hears:
-what setup, giving up and sending do to the state is read off the console's answers. Prints how often each kind of answer was compared; the status is 1
-at a difference, and where a kind did not occur.
+The lines are those of the recorded sessions, of the story, the class and the examples of docs/ANSWERS.md, and of the scripts that tests/independent
+makes of the seeds A to B, or of the fixed ones, in which other nodes speak and the receiver is asked to send. Behind each line that can change what
+hearing rests on a `show` is put in, so that cache, replay list, sessions and the message being sent are compared too. The plain C only hears: what
+setup, giving up and sending do to the state is read off the console's answers. Prints how often each kind of answer was compared; the status is 1 at a
+difference, and without seeds also where a kind did not occur.
 """
+import argparse
 import ctypes
 import sys
 from collections import Counter
@@ -24,9 +25,11 @@ import script
 
 CONSOLE = [str(ROOT / "bin" / "program"), "console"]
 LOGS = ("crates/console/stdin", "class/*.log", "tests/answers/*.log", "tests/console/*.in")
-FIXED = "1..24"
+FIXED = range(1, 25)
 CHANGING = (b"hear", b"setup", b"access", b"control", b"stop", b"drop")
 ROOM, DEVICE_KEY = 384, 0xFF
+# The words for the numbers of plain_hear.h.
+WORDS = ("refused", "stored", "repeat", "access", "control", "acknowledgement")
 EFFECTS = ("nothing", "marked", "complete", "cancelled")
 # Every kind of answer to `hear`: refusals that leave everything, and what can come with and without forwarding; an access message under the
 # device key and an acknowledgement that fits are for an element, so they are never forwarded.
@@ -79,16 +82,21 @@ def node_of(given):
 
 def said(answer, message):
     """The answer as one of the model's, and the words for its kind."""
-    kinds = {
-        0: lambda: (model.Refused(answer.refusal, ""), f"refused {answer.refusal}"),
-        1: lambda: (model.Stored(answer.src, pair_of(answer.pair), answer.bits), "stored"),
-        2: lambda: (model.Repeat(answer.src, pair_of(answer.pair), answer.bits), "repeat"),
-        3: lambda: (model.Access(answer.src, answer.dst, answer.network, None if answer.key == DEVICE_KEY else answer.key, pair_of(answer.pair), message),
-                    "access by " + ("the device key" if answer.key == DEVICE_KEY else "an application key")),
-        4: lambda: (model.Control(answer.src, answer.dst, answer.network, answer.opcode, pair_of(answer.pair), message), "control"),
-        5: lambda: (model.Acknowledged(answer.src, answer.bits, EFFECTS[answer.effect]), f"acknowledgement {EFFECTS[answer.effect]}"),
-    }
-    return kinds[answer.kind]()
+    pair, key, effect = pair_of(answer.pair), None if answer.key == DEVICE_KEY else answer.key, EFFECTS[answer.effect]
+    match WORDS[answer.kind]:
+        case "refused":
+            return model.Refused(answer.refusal, ""), f"refused {answer.refusal}"
+        case "stored":
+            return model.Stored(answer.src, pair, answer.bits), "stored"
+        case "repeat":
+            return model.Repeat(answer.src, pair, answer.bits), "repeat"
+        case "access":
+            return (model.Access(answer.src, answer.dst, answer.network, key, pair, message),
+                    "access by the device key" if key is None else "access by an application key")
+        case "control":
+            return model.Control(answer.src, answer.dst, answer.network, answer.opcode, pair, message), "control"
+        case "acknowledgement":
+            return model.Acknowledged(answer.src, answer.bits, effect), f"acknowledgement {effect}"
 
 
 def written(buffer, before, count):
@@ -120,7 +128,7 @@ class Plain:
         answer = Answer()
         self.library.plain_hear(ctypes.byref(self.receiver), pdu, ctypes.c_size_t(len(pdu)), forward, ctypes.c_size_t(self.room[0]), message,
                                 ctypes.c_size_t(self.room[1]), ctypes.byref(answer))
-        handed_up = written(message, before, answer.len if answer.kind in (3, 4) else 0)
+        handed_up = written(message, before, answer.len if WORDS[answer.kind] in ("access", "control") else 0)
         forwarded = written(forward, before, answer.forwarded)
         result, kind = said(answer, handed_up)
         self.counts[kind + (", forwarded" if forwarded else "")] += 1
@@ -224,16 +232,18 @@ def logs():
 
 
 def main():
-    if not 2 <= len(sys.argv) <= 3:
-        sys.exit(__doc__)
-    library, seeds, counts = ctypes.CDLL(sys.argv[1]), program.seeds(sys.argv[2] if len(sys.argv) == 3 else FIXED), Counter()
-    sessions = [*logs(), *((f"seed {seed}", [step.line for step in script.made(seed)]) for seed in seeds)]
+    parser = argparse.ArgumentParser(description="Holds plain_hear.c to the proved console.")
+    parser.add_argument("library", help="plain_hear.c, plain_setup.c and plain_radio.c as a shared object")
+    parser.add_argument("seeds", nargs="?", type=program.seeds, help="one seed, or A..B; without it the fixed ones")
+    asked = parser.parse_args()
+    library, counts = ctypes.CDLL(asked.library), Counter()
+    sessions = [*logs(), *((f"seed {seed}", [step.line for step in script.made(seed)]) for seed in asked.seeds or FIXED)]
     for name, lines in sessions:
         compare(name, lines, library, counts)
     for kind, count in sorted(counts.items()):
         print(f"{count:8} {kind}")
     missing = sorted(KINDS - counts.keys())
-    if missing:
+    if missing and not asked.seeds:
         sys.exit("same_hear: did not occur: " + "; ".join(missing))
     print(f"same_hear: {counts.total()} `hear` lines of {len(sessions)} sessions: the plain C answers and remembers what the console does")
 

@@ -32,7 +32,7 @@ static void random_octets(uint8_t *out, size_t n)
 		out[i] = (uint8_t)dice();
 }
 
-// Answers and buffers of a call; both buffers begin with the same octets.
+// The buffers that are lent for a call; both begin with the same octets.
 static struct {
 	uint8_t ours[OUT_SIZE], plain[OUT_SIZE];
 } out;
@@ -45,9 +45,11 @@ static void lend(void)
 
 static void expect_same(unsigned function, uint32_t ours, uint32_t plain)
 {
-	if (ours != plain || memcmp(out.ours, out.plain, OUT_SIZE)) {
+	bool equal = !memcmp(out.ours, out.plain, OUT_SIZE);
+
+	if (ours != plain || !equal) {
 		printf("same_radio: %s: ours answers %08x, plain C %08x, and the buffers are %s\n", functions[function], ours, plain,
-		       memcmp(out.ours, out.plain, OUT_SIZE) ? "different" : "equal");
+		       equal ? "equal" : "different");
 		exit(1);
 	}
 	answered[function][GOREPHAN_REFUSAL(ours)]++;
