@@ -1,5 +1,5 @@
 // AES-128 (FIPS 197), CMAC (RFC 4493) and the blocks of CCM (RFC 3610) in plain C over octets, with the same 256-entry S-box as the proved code.
-// Included by plain.c, which is timed, and by plain_radio.c, plain_setup.c and plain_hear.c, whose sizes are compared.
+// Included by plain.c, which is timed, and by the plain C that is there for its size.
 #ifndef PLAIN_CIPHERS_H
 #define PLAIN_CIPHERS_H
 
