@@ -1,52 +1,29 @@
-// Runs the longest calls of the C functions on a stack of their own, which is filled with a pattern before, and prints how deep each writes into it, the
-// return address included: at most what bench/sizes counts from the instructions.
-#include <ucontext.h>
+// Runs the longest calls of the C functions on a stack that is filled with a pattern, and prints how deep each writes into it, the return address
+// included: at most what bench/sizes counts from the instructions.
 #include "longest.h"
-
-static _Alignas(16) uint8_t area[64 * 1024];
-static ucontext_t back, there;
-static uint8_t *top;
-
-// Stand in for the functions, and say where the stack ends at their call: the frame's address is below the return address and one register.
+#include "painted.h"
 
 static uint32_t top_of_credentials(const uint8_t *key, size_t key_len, uint8_t *to, size_t to_len)
 {
+	MARK_TOP();
 	(void)key, (void)key_len, (void)to, (void)to_len;
-	top = (uint8_t *)__builtin_frame_address(0) + 16;
 	return 0;
 }
 
 static uint32_t top_of_open(const uint8_t *list, size_t list_len, uint32_t iv_index, const uint8_t *pdu, size_t pdu_len, uint8_t *to, size_t to_len)
 {
+	MARK_TOP();
 	(void)list, (void)list_len, (void)iv_index, (void)pdu, (void)pdu_len, (void)to, (void)to_len;
-	top = (uint8_t *)__builtin_frame_address(0) + 16;
 	return 0;
 }
 
 static uint32_t top_of_seal(const uint8_t *credential, size_t credential_len, uint32_t iv_index, uint8_t ctl, uint8_t ttl, uint32_t seq, uint16_t src,
 			    uint16_t dst, const uint8_t *from, size_t from_len, uint8_t *to, size_t to_len)
 {
+	MARK_TOP();
 	(void)credential, (void)credential_len, (void)iv_index, (void)ctl, (void)ttl, (void)seq, (void)src, (void)dst, (void)from, (void)from_len;
 	(void)to, (void)to_len;
-	top = (uint8_t *)__builtin_frame_address(0) + 16;
 	return 0;
-}
-
-// Runs a call on the area, filled with the pattern; the lowest octet that is another then.
-static uint8_t *lowest(void (*run)(void), uint8_t pattern)
-{
-	uint8_t *at = area;
-
-	memset(area, pattern, sizeof area);
-	getcontext(&there);
-	there.uc_stack.ss_sp = area;
-	there.uc_stack.ss_size = sizeof area;
-	there.uc_link = &back;
-	makecontext(&there, run, 0);
-	swapcontext(&back, &there);
-	while (at < area + sizeof area && *at == pattern)
-		at++;
-	return at;
 }
 
 // With two patterns, so that no octet that is written can be missed.

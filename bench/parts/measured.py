@@ -7,6 +7,7 @@ stack of what is called. Whatever cannot be followed is an error in words, so th
 import pathlib
 import re
 from collections import Counter, deque, namedtuple
+from functools import cached_property
 
 from objects import FUNCTION, MERGED, OBJECT, RELATIVE, THROUGH_GOT, Object, Place, members
 
@@ -21,7 +22,6 @@ EQUAL = "flags"  # held: the depth that the stack pointer was just compared with
 MANY = 1000  # depths at one place: more are a loop that pushes
 
 Frame = namedtuple("Frame", "own calls outside")
-Copies = namedtuple("Copies", "calls octets unknown")
 
 
 class Unmeasured(Exception):
@@ -115,6 +115,7 @@ class Archive:
         """Whether it is a call or a jump."""
         return instruction.name.startswith(("j", "call")) or instruction.name.startswith("loop")
 
+    @cached_property
     def constants_read(self):
         """The places of constants that any instruction refers to, by section, in order; sized objects count from their first octet."""
         places = {}
@@ -138,18 +139,17 @@ class Archive:
                 return place._replace(offset=symbol.offset), symbol.size
         return None
 
-    def extent(self, place, read):
+    def extent(self, place):
         """The constant at a place: its first octet and how many there are, up to the next one that is referred to."""
         found = self.sized(place)
         if found:
             return found
         place = self.clamped(place)
-        ends = [offset for offset in read[place[:2]] if place.offset < offset] + [self.section(place).size]
+        ends = [offset for offset in self.constants_read.get(place[:2], []) if place.offset < offset] + [self.section(place).size]
         return place, ends[0] - place.offset
 
     def reached(self, names):
         """The functions and the constants that the named functions reach, themselves included; of a constant its place with its size."""
-        read = self.constants_read()
         functions, constants, todo = [], {}, deque(self.named(name) for name in names)
         while todo:
             function = todo.popleft()
@@ -158,10 +158,10 @@ class Archive:
             functions.append(function)
             for instruction in self.code(function):
                 for target in self.targets(instruction):
-                    todo.extend(self.followed(target, constants, read))
+                    todo.extend(self.followed(target, constants))
         return functions, constants
 
-    def followed(self, target, constants, read):
+    def followed(self, target, constants):
         """The functions that a place leads to: its own, or those that the constant there refers to."""
         if isinstance(target, str):
             return []
@@ -171,12 +171,12 @@ class Archive:
             return [function] if function else []
         if not section.is_constant:
             return []
-        place, size = self.extent(target, read)
+        place, size = self.extent(target)
         if place in constants:
             return []
         constants[place] = size
         inside = [self.target(place.object, found, found.offset) for at, found in section.relocations.items() if place.offset <= at < place.offset + size]
-        return [function for one in inside for function in self.followed(one, constants, read)]
+        return [function for one in inside for function in self.followed(one, constants)]
 
     # The stack
 
@@ -202,7 +202,8 @@ class Archive:
     def below(self, function, without, above):
         """The deepest that a function comes, calls included but those that lead to `without` first."""
         frame = self.frame(function)
-        return max([frame.own] + [8 + depth for depth in frame.outside.values()] + [depth + self.rest(callee, without, (*above, function)) for callee, depth in frame.calls.items() if callee is not without])
+        called = [depth + self.rest(callee, without, (*above, function)) for callee, depth in frame.calls.items() if callee is not without]
+        return max([frame.own] + [8 + depth for depth in frame.outside.values()] + called)
 
     def rest(self, callee, without, above):
         """The stack of a called function, as it is where `without` may not be entered again."""
@@ -286,7 +287,14 @@ class Walk:
             if len(states) > MANY:
                 raise self.error(instruction, "the stack grows in a loop")
             todo.extend(self.step(instruction, depth, held))
+        self.missed()
         return Frame(self.own, self.calls, self.outside)
+
+    def missed(self):
+        """An error where a place that a table of the function names was not come to: then a jump was taken to go by another table."""
+        for instruction in self.archive.code(self.function):
+            if instruction.place in self.seen and any(place not in self.seen for place in self.tabled(instruction, self.function)):
+                raise self.error(instruction, "no jump goes by this table")
 
     def step(self, instruction, depth, held):
         """Where the walk goes on: places with depth and held registers."""
@@ -345,19 +353,23 @@ class Walk:
         return [target for target in targets if not isinstance(target, str)]
 
     def table(self, instruction):
-        """Where a jump by a table may lead: all that the tables which this function refers to name in it. Entries relative to their table count from its start."""
+        """Where a jump by a table may lead: what the table names that the jump refers to, or the nearest instruction before it that refers to one."""
         home = self.archive.function_at(instruction.place)
-        places = set()
-        for other in self.archive.code(home):
-            for target in self.archive.targets(other):
-                if isinstance(target, Place) and self.archive.section(target).is_constant:
-                    places.update(self.entries(target, home))
-        return sorted(places, key=lambda place: place.offset)
+        for other in reversed(self.archive.code(home)):
+            if other.place.offset <= instruction.place.offset and (found := self.tabled(other, home)):
+                return found
+        return []
+
+    def tabled(self, instruction, home):
+        """The places in a function that a table names which an instruction refers to."""
+        targets = [target for target in self.archive.targets(instruction) if isinstance(target, Place) and self.archive.section(target).is_constant]
+        return [place for target in targets for place in self.entries(target, home)]
 
     def entries(self, start, home):
         """The places in a function that the table at a place names, entry by entry."""
         section, at, found = self.archive.section(start), start.offset, []
-        while relocation := section.relocations.get(at):
+        _, size = self.archive.extent(start)
+        while at < start.offset + size and (relocation := section.relocations.get(at)):
             place = self.archive.target(start.object, relocation, relocation.offset)
             if isinstance(place, str):
                 break

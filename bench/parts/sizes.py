@@ -7,7 +7,7 @@ import subprocess
 import sys
 from collections import namedtuple
 
-from measured import LIBRARY, Archive, Unmeasured
+from measured import Archive, Unmeasured
 from spent import spent
 
 ROOT = pathlib.Path(__file__).resolve().parents[2]
@@ -21,9 +21,12 @@ THREE = ("credentials", "open", "seal")
 HEAR = "receiver::hear::hear"
 # The crates that the radio archive is made of.
 CRATES = ("common", "aes", "modes", "keys", "network", "radio")
+TABLE = 256  # octets of the S-box
 WIDTH = 160
+COPIES = """Counted in a run (bench/copies.c). A copy of 176 octets is one of a key schedule, which is handed on by value. Copies by single instructions are not
+seen."""
 
-# One line of the page's table: what it is of, the figures, and the stack that a run wrote to, where there is one.
+# One line of the page's table: what it is of, the figures, and the stack that a run wrote to.
 Row = namedtuple("Row", "what figures seen")
 
 
@@ -39,72 +42,93 @@ def compiled(source, level):
     return made
 
 
-def ran(program, archive, prefix, *options):
-    """What bench/stack.c or bench/copies.c prints, linked with an archive whose functions have that prefix: for each call its words."""
-    made = OUT / f"{program}_{archive.parent.name}_{archive.stem}"
-    names = [f"-Dgorephan_{name}={prefix}_{name}" for name in THREE] if prefix != "gorephan" else []
-    run(GCC, "-std=gnu11", "-Wall", "-Wextra", "-O2", "-static", *names, *options, ROOT / "bench" / f"{program}.c", archive, "-o", made)
+def ran(program, linked, *options):
+    """What a program of bench/ prints, linked with an archive or object and compiled with these options: the words of each line."""
+    made = OUT / f"{program}_{linked.parent.name}_{linked.stem}"
+    run(GCC, "-std=gnu11", "-Wall", "-Wextra", "-O2", "-static", *options, ROOT / "bench" / f"{program}.c", linked, "-o", made)
     return [line.split() for line in run(UNDER, made).splitlines()]
 
 
-def painted(archive, prefix, measured):
-    """The deepest that a run of the longest calls writes; an error where one is deeper than what was counted of its function."""
-    deepest = 0
-    for name, depth, *what in ran("stack", archive, prefix):
-        counted = measured.stack(measured.named(f"{prefix}_{name}"))
-        if int(depth) > counted:
-            raise Unmeasured(f"{prefix}_{name} ({' '.join(what)}) wrote {depth} octets deep, and only {counted} were counted")
-        deepest = max(deepest, int(depth))
-    return deepest
+def held(name, depth, counted):
+    """A depth that a run wrote to; an error where it is more than what was counted."""
+    if depth > counted:
+        raise Unmeasured(f"{name} wrote {depth} octets deep in a run, and only {counted} were counted")
+    return depth
 
 
-def radio_row(what, path, prefix, depths=None):
+def radio_row(what, path, prefix, depths):
+    """The three functions, by what stands before their names. Of an archive all counts, of an object what they reach."""
     archive = Archive(path, OBJDUMP, depths)
     names = [f"{prefix}_{name}" for name in THREE]
-    return Row(what, archive.figures(() if prefix == "gorephan" else names), painted(path, prefix, archive))
+    renamed = [f"-Dgorephan_{name}={prefix}_{name}" for name in THREE if prefix != "gorephan"]
+    seen = max(held(name, int(depth), archive.stack(archive.named(f"{prefix}_{name}"))) for name, depth, *_ in ran("stack", path, *renamed))
+    return Row(what, archive.figures(() if path.suffix == ".a" else names), seen)
 
 
-def rows():
-    yield radio_row("the radio archive, as `bin/built --archive radio` builds it", RADIO, "gorephan")
-    yield radio_row("the radio archive for a handheld, as `bin/handheld` builds it", HANDHELD, "gorephan", {"to_the": 9})
+def our_hear(depths):
+    """`hear` is called by speed_hear_row: what a run of that wrote, less the depth at which it calls `hear`."""
+    archive = Archive(SPEED, OBJDUMP, depths)
+    hear = archive.named(HEAR)
+    (_, depth, *_), = ran("stack_hear", SPEED)
+    seen = int(depth) - archive.frame(archive.named("speed_hear_row")).calls[hear]
+    return Row("`hear` of crates/receiver, with all that it calls", archive.figures([HEAR]), held(HEAR, seen, archive.stack(hear)))
+
+
+def plain_hear(level, depths):
+    path = compiled("plain_hear", level)
+    archive = Archive(path, OBJDUMP, depths)
+    (_, depth, *_), = ran("stack_hear", path, "-DPLAIN", ROOT / "bench" / "plain_setup.c", ROOT / "bench" / "plain_radio.c")
+    figures = archive.figures(["plain_hear"])
+    return Row(f"the same in plain C (bench/plain_hear.c), gcc {level}", figures, held("plain_hear", int(depth), figures["stack"]))
+
+
+def rows(depths):
+    yield radio_row("the radio archive, as `bin/built --archive radio` builds it", RADIO, "gorephan", depths)
+    yield radio_row("the radio archive for a handheld, as `bin/handheld` builds it", HANDHELD, "gorephan", depths)
     for level in ("-O2", "-Os"):
-        yield radio_row(f"the same three functions in plain C (bench/plain_radio.c), gcc {level}", compiled("plain_radio", level), "plain")
-    yield Row("`hear` of crates/receiver, with all that it calls", Archive(SPEED, OBJDUMP).figures([HEAR]), None)
+        yield radio_row(f"the same three functions in plain C (bench/plain_radio.c), gcc {level}", compiled("plain_radio", level), "plain", depths)
+    yield our_hear(depths)
     for level in ("-O2", "-Os"):
-        yield Row(f"the same in plain C (bench/plain_hear.c), gcc {level}", Archive(compiled("plain_hear", level), OBJDUMP).figures(["plain_hear"]), None)
+        yield plain_hear(level, depths)
 
 
 def table(heads, lines):
     return "\n".join(f"| {' | '.join(str(cell) for cell in cells)} |" for cells in (heads, ["---"] * len(heads), *lines))
 
 
-def figures_table():
+def figures_table(depths):
     lines = []
-    for row in rows():
+    for row in rows(depths):
+        if row.figures["variables"]:
+            raise Unmeasured(f"{row.what}: it has variables, {row.figures['variables']} octets, and the page says that there are none")
         code, constants, stack = (row.figures[name] for name in ("code", "constants", "stack"))
-        lines.append([row.what] + [f"{n:,}" for n in (code, constants, code + constants, stack)] + [f"{row.seen:,}" if row.seen else "not run"])
+        lines.append([row.what] + [f"{n:,}" for n in (code, constants, code + constants, stack, row.seen)])
     return table(["octets, x86-64", "code", "constants", "code and constants", "stack, counted", "stack, seen in a run"], lines)
 
 
 def functions_table(archive):
     lines = []
     for function in sorted(archive.functions.values(), key=lambda one: -one.size):
-        found = spent(archive, function)
-        copies = f"{found.copies}, {found.copied:,}" + (f" and {found.unknown} of a length that varies" if found.unknown else "") if found.copies else "none"
-        lines.append([f"`{function.name}`", f"{function.size:,}", found.loops, f"{found.vectors}, {found.vector_octets:,}", copies, f"{found.laid:,}", f"{archive.frame(function).own:,}", f"{archive.stack(function):,}"])
-    return table(["function", "code", "loops", "vector instructions, their octets", "calls that copy or fill, octets", "constants laid on the stack", "its frame", "stack, with what it calls"], lines)
+        found, frame = spent(archive, function), archive.frame(function).own
+        varied = f", {found.unknown} of any length" if found.unknown else ""
+        copies = f"{found.copies}: {found.copied:,} octets{varied}" if found.copies else "none"
+        numbers = [f"{n:,}" for n in (found.laid, frame, archive.stack(function))]
+        lines.append([f"`{function.name}`", f"{function.size:,}", found.loops, f"{found.vectors}, {found.vector_octets:,} octets", copies, *numbers])
+    spent_on = ["loops", "vector instructions", "calls that copy or fill", "constants laid on the stack"]
+    return table(["function", "code", *spent_on, "its frame", "stack with what it calls"], lines)
 
 
 def written_functions():
     """How many functions the sources of the archive's crates have."""
-    return sum(len(re.findall(r'^(?:pub(?:\(crate\))? )?(?:extern "C" )?fn \w+', file.read_text(), re.M)) for name in CRATES for file in (ROOT / "crates" / name / "src").glob("*.rt"))
+    files = [file for name in CRATES for file in (ROOT / "crates" / name / "src").glob("*.rt")]
+    return sum(len(re.findall(r'^(?:pub(?:\(crate\))? )?(?:extern "C" )?fn \w+', file.read_text(), re.M)) for file in files)
 
 
 def copies_table():
     lines = []
-    for name, copies, copied, schedules, fills, filled, *what in ran("copies", RADIO, "gorephan", "-Wl,--wrap=memcpy", "-Wl,--wrap=memset"):
-        lines.append([f"`gorephan_{name}`: {' '.join(what)}", f"{int(copies):,}", f"{int(copied):,}", f"{int(schedules):,}", f"{int(fills):,}", f"{int(filled):,}"])
-    return table(["one call", "calls of memcpy", "octets copied", "of them key schedules (176 octets)", "calls of memset", "octets filled"], lines)
+    for name, *numbers in ran("copies", RADIO, "-Wl,--wrap=memcpy", "-Wl,--wrap=memset"):
+        lines.append([f"`gorephan_{name}`: {' '.join(numbers[5:])}"] + [f"{int(n):,}" for n in numbers[:5]])
+    return table(["one call", "calls of memcpy", "octets copied", "of these calls, of 176 octets", "calls of memset", "octets filled"], lines)
 
 
 def wrapped(text):
@@ -117,24 +141,51 @@ def wrapped(text):
     return "\n".join(lines)
 
 
-def page():
-    archive = Archive(RADIO, OBJDUMP)
-    functions = list(archive.functions.values())
-    merged, constants = archive.merged(), archive.figures()["constants"]
-    compiler, version = run(GCC, "--version").splitlines()[0], run("rt", "version").strip()
+def opening(compiler, version):
+    return f"""What the C functions and the hearing of a PDU take of a machine, beside the same in plain C. `bench/sizes --write` measures it and writes this
+    page; here with {compiler} and {version}."""
+
+
+def measuring(archive):
+    constants, merged, outside = archive.figures()["constants"], archive.merged(), " and ".join(archive.left_out(archive.functions.values()))
+    return f"""Code is what stands in sections for code, constants in those for reading only; there are no variables. A linker puts equal constants of sixteen
+    octets together: of the first line's {constants:,} that leaves {merged:,}. The stack is counted from the instructions, along the deepest chain of calls,
+    with return addresses and what is written below the stack pointer; {outside}, which the archive's user gives, count 8 octets. A frame or call that cannot be
+    told is an error, so the figure is a bound. The last column is what runs wrote to a stack filled with a pattern (bench/stack.c, bench/stack_hear.c): the
+    three functions with four credentials and PDUs of 29 octets, `hear` with two segments that complete a message. The script refuses a run that is deeper
+    than what was counted. `hear` is taken from the archive of crates/speed; the states that it is given and gives stand in its caller's memory and are not
+    counted."""
+
+
+def explaining(archive):
+    functions = sorted(archive.functions.values(), key=lambda one: -one.size)
+    code = archive.figures()["code"]
+    laying = [f"`{function.name}`" for function in functions if spent(archive, function).laid == TABLE]
+    table_said = f" {' and '.join(laying)} so make a copy of the S-box ({TABLE} octets) at each call." if laying else ""
+    without = [f"`{function.name}`" for function in functions if not spent(archive, function).loops]
+    traps = archive.traps(functions)
+    bounds = "no instruction stops the program, where a failed test would lead"
+    if traps:
+        bounds = f"yet {traps} instructions stop the program or leave the archive otherwise"
+    first, three = (100 * sum(one.size for one in functions[:count]) // code for count in (1, 3))
+    return f"""The largest function has {first} in a hundred of the code, the three largest {three}. The sources of its crates have {written_functions()}
+    functions, the archive {len(functions)}: the others were put into their callers, once for each call, or are not used. Where the source has more loops
+    than the table, the compiler has unrolled them, or made copies or vector instructions of them. Without any left:
+    {', '.join(without) or 'none'}. Constants laid on the stack are loaded into vector registers and stored there.{table_said} Bounds are proved and not tested: {bounds}."""
+
+
+def page(depths):
+    archive = Archive(RADIO, OBJDUMP, depths)
     parts = [
         "# Code, constants and stack",
-        wrapped(f"What the C functions and the hearing of a PDU take of a machine, beside the same in plain C. `bench/sizes --write` measures it all and writes this page; here by {compiler} and by {version}, whose back end is LLVM at its level 3."),
-        figures_table(),
-        wrapped(f"""Code is what stands in the functions' sections, constants in those for reading only; there are no variables. Equal constants of sixteen octets are put together when a program is linked: of the {constants:,} octets of the first line {merged:,} are left then.
-        The stack is counted from the instructions along the deepest chain of calls, return addresses and what is written below the stack pointer included; {' and '.join(archive.left_out(functions))}, which the user of the archive gives, count 8 octets. So it is a bound.
-        The last column is what the longest calls wrote to a stack filled with a pattern (bench/stack.c): four credentials, PDUs of 29 octets. It cannot be more than what is counted, and the script holds it to that.
-        Of the plain C only what the named functions reach is counted, as of `hear`, which is taken from the archive of crates/speed; its receiver stands in the caller's memory and is not counted."""),
+        wrapped(opening(run(GCC, "--version").splitlines()[0], run("rt", "version").strip())),
+        figures_table(depths),
+        wrapped(measuring(archive)),
         "## The radio archive by function",
         functions_table(archive),
-        wrapped(f"""The sources of the crates that it is made of have {written_functions()} functions, the archive {len(functions)}: the others were put into their callers, each place a copy, or are not used. A loop that the source has and the table has not was unrolled.
-        Bounds are proved and not tested: {archive.traps(functions) or 'no'} instruction stops the program, and nothing but {' and '.join(sorted(LIBRARY & set(archive.left_out(functions))))} is called outside the archive. Constants laid on the stack are loaded into vector registers and stored: 256 are a copy of the S-box, made at each call."""),
-        "## What is copied in a call",
+        wrapped(explaining(archive)),
+        "## What a call copies",
+        wrapped(COPIES),
         copies_table(),
     ]
     return "\n\n".join(parts) + "\n"
@@ -156,33 +207,35 @@ def depth(text):
     return name, int(count)
 
 
-def figures(asked):
+def figures(asked, depths):
     """One archive's figures in a line; variables only where there are any."""
-    found = Archive(pathlib.Path(os.environ.get("CALLED_FROM", ".")) / asked.archive, OBJDUMP, dict(map(depth, asked.depth))).figures(asked.names)
+    found = Archive(pathlib.Path(os.environ.get("CALLED_FROM", ".")) / asked.archive, OBJDUMP, depths).figures(asked.names)
     return " ".join(f"{name} {count}" for name, count in found.items() if count or name != "variables")
+
+
+def built_page(depths):
+    """The page, after building what it is of."""
+    OUT.mkdir(parents=True, exist_ok=True)
+    for name in ("radio", "speed"):
+        subprocess.run(["bin/built", "--archive", name], cwd=ROOT, check=True)
+    if not HANDHELD.is_file():
+        sys.exit(f"bench/sizes: {HANDHELD.relative_to(ROOT)} is not there: bin/handheld builds it")
+    return page(depths)
 
 
 def main():
     asked = arguments()
+    depths = dict(map(depth, asked.depth))
     try:
-        if asked.archive:
-            print(figures(asked))
-            return 0
-        OUT.mkdir(parents=True, exist_ok=True)
-        for name in ("radio", "speed"):
-            subprocess.run(["bin/built", "--archive", name], cwd=ROOT, check=True)
-        if not HANDHELD.is_file():
-            sys.exit(f"bench/sizes: {HANDHELD.relative_to(ROOT)} is not there: bin/handheld builds it")
-        text = page()
+        text = figures(asked, depths) + "\n" if asked.archive else built_page(depths)
     except (Unmeasured, ValueError, OSError) as why:
         sys.exit(f"bench/sizes: {why}")
     except subprocess.CalledProcessError as why:
-        sys.exit(f"bench/sizes: {' '.join(why.cmd)} ended with status {why.returncode}")
-    if asked.write:
+        sys.exit(f"bench/sizes: {' '.join(why.cmd)} ended with status {why.returncode}\n{why.stdout or ''}")
+    if asked.write and not asked.archive:
         PAGE.write_text(text)
     else:
-        print(text, end="")
-    return 0
+        sys.stdout.write(text)
 
 
-sys.exit(main())
+main()

@@ -2,6 +2,7 @@
 import re
 from collections import namedtuple
 
+from measured import ENDS, Walk
 from objects import Place
 
 # copies and fills: calls of memcpy, memmove and memset and repeated string instructions; copied: their octets where these are a constant beside them.
@@ -12,9 +13,40 @@ STRING = {"rep movsb": 1, "rep movsw": 2, "rep movsl": 4, "rep movsq": 8, "rep s
 COPYING = {"memcpy", "memmove", "memset"}
 
 
-def jumps(archive, code):
-    """The places that a function's own jumps lead to, each with the place of the jump."""
-    return [(target, one.place) for one in code if archive.leaves(one) and not one.name.startswith("call") for target in archive.targets(one) if isinstance(target, Place)]
+def ways(archive, function, code):
+    """Of each instruction's place the places in the function that it may lead to."""
+    led = {}
+    for one in code:
+        following = one.place._replace(offset=one.place.offset + one.size)
+        jumps = archive.leaves(one) and not one.name.startswith("call")
+        to = [] if one.name in ENDS or one.name.startswith("jmp") else [following]
+        if jumps and one.operands[0].startswith("*"):
+            to += Walk(archive, function).table(one)
+        elif jumps:
+            to += [target for target in archive.targets(one) if isinstance(target, Place)]
+        led[one.place] = [place for place in to if function.holds(place)]
+    return led
+
+
+def reached(start, led, without=None):
+    """The places that can be come to from a start, but through one that is left out."""
+    seen, todo = set(), [start]
+    while todo:
+        place = todo.pop()
+        if place not in seen and place != without and place in led:
+            seen.add(place)
+            todo += led[place]
+    return seen
+
+
+def loops(function, led):
+    """How many loops there are: places that every way to some jump back to them passes."""
+    before = {}
+    for place in reached(function.place, led):
+        for following in led[place]:
+            before.setdefault(following, set()).add(place)
+    joined = [place for place, sources in before.items() if len(sources) > 1 or place == function.place]
+    return sum(bool(before[place] - reached(function.place, led, place)) for place in joined)
 
 
 def constant_before(archive, code, at, registers, entered):
@@ -31,8 +63,8 @@ def constant_before(archive, code, at, registers, entered):
 
 def spent(archive, function):
     code = archive.code(function)
-    led = jumps(archive, code)
-    entered = {target for target, _ in led}
+    led = ways(archive, function, code)
+    entered = {place for one in code if archive.leaves(one) for place in led[one.place]}
     sizes = []
     for at, one in enumerate(code):
         if one.name in STRING:
@@ -42,8 +74,7 @@ def spent(archive, function):
             sizes.append(constant_before(archive, code, at, ("%edx", "%rdx"), entered))
     vectors = [one for one in code if any(VECTOR.search(operand) for operand in one.operands)]
     known = [size for size in sizes if size is not None]
-    loops = len({target for target, source in led if function.holds(target) and target.offset <= source.offset})
-    return Spent(loops, len(vectors), sum(one.size for one in vectors), len(sizes), sum(known), len(sizes) - len(known), laid(archive, vectors))
+    return Spent(loops(function, led), len(vectors), sum(one.size for one in vectors), len(sizes), sum(known), len(sizes) - len(known), laid(archive, vectors))
 
 
 def laid(archive, vectors):

@@ -18,6 +18,7 @@ KNOWN = [
     ("recursive", ("recursive", "chain_second", "framed"), 0, 328, "--depth", "recursive=5"),
     ("one_of_two", ("one_of_two", "other_of_two"), 0, 144, "--depth", "one_of_two=3"),
     ("by_table", ("by_table", "framed"), 8, 136),
+    ("by_two_tables", None, 16, 520),
     ("calls_library", None, 0, 24),
     ("reads_sized", None, 300, 8),
     ("reads_unsized", None, 40, 8),

@@ -137,6 +137,31 @@
 places:
 	.long	1b - places, 2b - places
 
+# by two tables behind each other, each of whose entries count from its own start; the deepest place is behind the second: 8 + 8 + 504 = 520
+	begin	by_two_tables
+	lea	first_places(%rip), %rax
+	movslq	(%rax,%rdi,4), %rdi
+	add	%rax, %rdi
+	jmp	*%rdi
+1:	ret
+2:	push	%rbx
+	lea	second_places(%rip), %rax
+	movslq	(%rax,%rsi,4), %rsi
+	add	%rax, %rsi
+	jmp	*%rsi
+3:	pop	%rbx
+	ret
+4:	sub	$504, %rsp
+	add	$504, %rsp
+	pop	%rbx
+	ret
+	end	by_two_tables
+	.section .rodata.two,"a",@progbits
+first_places:
+	.long	1b - first_places, 2b - first_places
+second_places:
+	.long	3b - second_places, 4b - second_places
+
 # what the archive has not: 8 + 8, and 8 for the call = 24
 	begin	calls_library
 	sub	$8, %rsp
