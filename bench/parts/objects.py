@@ -6,15 +6,15 @@ import tempfile
 from collections import namedtuple
 from functools import cached_property
 
-# A place in an object: the number of a section and an offset in it. A section number of None is a name that another object has to give.
+# A place in an object: the number of a section and an offset in it. A symbol whose section is None is for another object to give.
 Place = namedtuple("Place", "object section offset")
 Symbol = namedtuple("Symbol", "name kind section offset size is_global")
 Relocation = namedtuple("Relocation", "offset kind symbol addend")
 Instruction = namedtuple("Instruction", "place size name operands relocations")
 
 WRITE, ALLOCATED, EXECUTED, MERGED = 1, 2, 4, 16  # flags of a section
-PROGBITS, SYMTAB, RELA, NOBITS = 1, 2, 4, 8  # types of a section
-OBJECT, FUNCTION, SECTION = 1, 2, 3  # types of a symbol
+SYMTAB, RELA, NOBITS = 2, 4, 8  # types of a section
+OBJECT, FUNCTION = 1, 2  # types of a symbol
 # Relocations that count from the field on: PC32, PLT32, GOTPCREL, PC64, GOTPCRELX, REX_GOTPCRELX. Those of the GOT lead to the symbol itself.
 RELATIVE = {2, 4, 9, 24, 41, 42}
 THROUGH_GOT = {9, 41, 42}

@@ -171,7 +171,8 @@ def explaining(archive):
     return f"""The largest function has {first} in a hundred of the code, the three largest {three}. The sources of its crates have {written_functions()}
     functions, the archive {len(functions)}: the others were put into their callers, once for each call, or are not used. Where the source has more loops
     than the table, the compiler has unrolled them, or made copies or vector instructions of them. Without any left:
-    {', '.join(without) or 'none'}. Constants laid on the stack are loaded into vector registers and stored there.{table_said} Bounds are proved and not tested: {bounds}."""
+    {', '.join(without) or 'none'}. Constants laid on the stack are loaded into vector registers and stored there.{table_said} Bounds are proved and not
+    tested: {bounds}."""
 
 
 def page(depths):
