@@ -1,9 +1,10 @@
--- A credential from the code's steps: sixteen octets copied onto zeros, a piece read at its place in the list, a list whose pieces all
--- have another NID (`all-foreign`, `piece-fits`), and the rules by which `gorephan_credentials` answers: `bad-key`, `no-room`, `credential-written`.
+-- A credential from the code's steps: sixteen octets copied onto zeros, a piece read at its place in the list, the pieces read from a copy
+-- (`pieces-copied`), a list whose pieces all have another NID (`all-foreign`, `piece-fits`), and the rules by which `gorephan_credentials` answers:
+-- `bad-key`, `no-room`, `credential-written`.
 -- Assumes nothing.
 use mathlib.Core.Bool.{Bool, true, false}
 use mathlib.Core.List.{List}
-use mathlib.Core.Path.{_≡_, sym, ap, _∙_}
+use mathlib.Core.Path.{_≡_, refl, sym, ap, _∙_}
 use Prim.Native.Nat.{ℕ, _+_, _-_, _*_, _≤_, _<_, min}
 use native.Mathlib.Nat.{add-zero}
 use native.Mathlib.Omega.{arith}
@@ -26,13 +27,13 @@ use Rattle.radio.specs.Credential.{credentialOf, keysOf, pieceAt, pieces
 padded-taken : (n : ℕ) (l : List ℕ) → padded n (take n l) ≡ padded n l
 padded-taken n l = tab-ext (λ i. getD (take n l) i 0) (λ i. getD l i 0) n (λ k h. getD-take n l k 0 h)
 
+-- a list copied onto n zeros
+copied : (n : ℕ) (l : List ℕ) → onto (take n l) (replicate n 0) ≡ padded n l
+copied n l = onto-zeros n (take n l) (simp length-take (omega arith)) ∙ padded-taken n l
+
 pub sixteen-copied :
     (s : List ℕ) (at : ℕ) {r : List ℕ} → r ≡ onto (take 16 (take (length s - at) (drop at s))) (replicate 16 0) → r ≡ padded 16 (drop at s)
-sixteen-copied s at e =
-    e
-    ∙ ap (λ (l : List ℕ). onto (take 16 l) (replicate 16 0)) (rest-all at s)
-    ∙ onto-zeros 16 (take 16 (drop at s)) (simp length-take (omega arith))
-    ∙ padded-taken 16 (drop at s)
+sixteen-copied s at e = e ∙ ap (λ (l : List ℕ). onto (take 16 l) (replicate 16 0)) (rest-all at s) ∙ copied 16 (drop at s)
 
 pub sixteen-past : (s : List ℕ) (at : ℕ) → length s ≤ at → replicate 16 0 ≡ padded 16 (drop at s)
 sixteen-past s at h =
@@ -72,6 +73,27 @@ piece-read cs i ea ee ep =
 pub piece-whole : (credential : List ℕ) → length credential ≡ 33 → pieceAt credential 0 ≡ keysOf credential
 unfolding pieceAt
 piece-whole credential h = ap keysOf (take-all 33 credential (omega arith))
+
+-- ---- the pieces of a copy
+-- within its n octets a padded list has the octets of the list, and zeros behind its end
+module _ (n : ℕ) (cs : List ℕ) where
+  sixteen-padded : (at : ℕ) → at + 16 ≤ n → padded 16 (drop at (padded n cs)) ≡ padded 16 (drop at cs)
+  sixteen-padded at h =
+      tab-ext (λ i. getD (drop at (padded n cs)) i 0) (λ i. getD (drop at cs) i 0) 16
+      (λ k l. getD-drop at (padded n cs) k 0 ∙ getD-tab (λ i. getD cs i 0) n (at + k) 0 (omega arith) ∙ sym (getD-drop at cs k 0))
+
+  piece-padded : (i : ℕ) → 33 * i + 33 ≤ n → pieceAt (padded n cs) i ≡ pieceAt cs i
+  piece-padded i h =
+      sym (piece-read (padded n cs) i refl refl refl)
+      ∙ piece-read cs i (getD-tab (λ j. getD cs j 0) n (33 * i) 0 (omega arith))
+      (sixteen-padded (33 * i + 1) (omega arith)) (sixteen-padded (33 * i + 17) (omega arith))
+
+-- four pieces are 132 octets
+pub pieces-copied : (cs : List ℕ) {b : List ℕ} → b ≡ onto (take 132 cs) (replicate 132 0) → pieces b ≡ pieces cs
+unfolding pieces
+pieces-copied cs e =
+    ap pieces (e ∙ copied 132 cs)
+    ∙ tab-ext (pieceAt (padded 132 cs)) (pieceAt cs) 4 (λ i h. piece-padded 132 cs i (omega arith))
 
 -- ---- the NIDs alone
 nid-of-piece : (cs : List ℕ) (i : ℕ) → i < 4 → keyAt (pieces cs) i .nid ≡ getD cs (33 * i) 0

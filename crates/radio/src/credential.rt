@@ -86,7 +86,10 @@ pub(crate) fn piece(cs: &[u8], i: usize) -> NetworkKeys
 pub(crate) fn pieces(cs: &[u8]) -> [NetworkKeys; network::opening::KEYS]
     ensures { λ r. ⌜ r ≡ pieces (now (cs .entry)) ⌝ }
 {
-    [piece(cs, 0), piece(cs, 1), piece(cs, 2), piece(cs, 3)]
+    // The list is copied once, filled up with zeros, so that each piece is read where its octets stand: eight bounded copies would be compiled otherwise.
+    let mut b = [0u8; 33 * network::opening::KEYS];
+    common::copy(cs, &mut b);
+    [piece(&b, 0), piece(&b, 1), piece(&b, 2), piece(&b, 3)]
 }
 
 // How many of them are there whole.
