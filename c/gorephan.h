@@ -11,7 +11,8 @@
  * costs no cipher work.
  *
  * Link target/staticlib/libradio.a (bin/built --archive radio), x86-64; c/example.c has the compile lines. It needs memcpy and memset. C++ may include
- * this header. Measured, not proved: the deepest call uses some 5 KiB of stack. */
+ * this header. bin/handheld builds the same without the S-box's table, 500 octets smaller and some 90 times slower. Counted from the instructions, not
+ * proved: the deepest call takes some 2 KiB of stack (docs/SIZES.md). */
 #ifndef GOREPHAN_H
 #define GOREPHAN_H
 

@@ -25,6 +25,7 @@ TABLE = 256  # octets of the S-box
 # How many calls of a recursive function may be open at once: the exponent 254 is halved until it is 0, nine in all.
 DEPTHS = {"aes::worked_out::to_the": 9}
 WIDTH = 160
+BEFORE = 13_095  # octets of the radio archive's code and constants before its shapes were looked at (docs/changes/W6.md)
 COPIES = """Counted in a run (bench/copies.c). A copy of 176 octets is one of a key schedule, which is handed on by value. Copies by single instructions are not
 seen."""
 
@@ -86,7 +87,7 @@ def plain_hear(level, depths):
 
 def rows(depths):
     yield radio_row("the radio archive, as `bin/built --archive radio` builds it", RADIO, "gorephan", depths)
-    yield radio_row("the radio archive for a handheld, as `bin/handheld` builds it", HANDHELD, "gorephan", depths)
+    yield radio_row("the radio archive of the handheld set, as `bin/handheld` builds it", HANDHELD, "gorephan", depths)
     for level in ("-O2", "-Os"):
         yield radio_row(f"the same three functions in plain C (bench/plain_radio.c), gcc {level}", compiled("plain_radio", level), "plain", depths)
     yield our_hear(depths)
@@ -177,6 +178,13 @@ def explaining(archive):
     tested: {bounds}."""
 
 
+def brought_down(archive):
+    now = archive.figures()["code"] + archive.figures()["constants"]
+    return f"""Before document 02's W6 the archive had {BEFORE:,} octets of code and constants, {BEFORE - now:,} more than now: docs/changes/W6.md has what each
+    change of shape took away, and docs/DECISIONS.md, "Speed", what they cost. What is left beside plain C is that values are handed on by copy, which makes
+    every contract an equation between values, and that the compiler writes out loops over sixteen octets; plain C changes a buffer in place."""
+
+
 def page(depths):
     archive = Archive(RADIO, OBJDUMP, depths)
     parts = [
@@ -187,6 +195,7 @@ def page(depths):
         "## The radio archive by function",
         functions_table(archive),
         wrapped(explaining(archive)),
+        wrapped(brought_down(archive)),
         "## What a call copies",
         wrapped(COPIES),
         copies_table(),
