@@ -17,11 +17,12 @@ PROGRAM = "bin/capture"
 SOURCES = {
     "nordic_ble": "by the nRF sniffer of Bluetooth LE", "btle_rf": "by a sniffer of Bluetooth LE, with channels", "btle": "by a sniffer of Bluetooth LE",
     "hci_mon": "a host's log, as btmon writes it", "bthci_evt": "a host's log of HCI", "bthci_cmd": "a host's log of HCI"}
+AS_A_NODE, IS_IGNORED = "--as-a-node", "a node ignores a mesh message in a connectable or scannable advertisement (MP 3.3.1)"
 NAMES = {MESSAGE: "a mesh message", BEACON: "a mesh beacon", PROVISIONING: "PB-ADV"}
 # What is counted, in the order in which it is said.
-HEARD, IGNORED, SENT, BEACONS, PROVISIONED, WRONG_CRC, SHORT, PARTS, DAMAGED, PACKETS = KINDS = (
-    "mesh messages heard", "mesh messages in other kinds of advertisement", "sent by this host", "mesh beacons", "PB-ADV",
-    "advertisements with a wrong CRC", "packets kept in part", "parts of longer advertisements", "damaged advertisements", "packets in all")
+HEARD, MARKED, IGNORED, SENT, BEACONS, PROVISIONED, WRONG_CRC, SHORT, PARTS, DAMAGED, PACKETS = KINDS = (
+    "mesh messages heard", "of these in advertisements where a node ignores them", "mesh messages that a node ignores", "sent by this host", "mesh beacons",
+    "PB-ADV", "advertisements with a wrong CRC", "packets kept in part", "parts of longer advertisements", "damaged advertisements", "packets in all")
 COUNTED = {BEACON: BEACONS, PROVISIONING: PROVISIONED}
 SETTING_UP = ("netkey", "appkey", "devkey", "elements", "group", "ivindex", "relay", "setup", "property", "properties", "room")
 LACKING = (
@@ -50,9 +51,13 @@ def setting_up(name):
 
 
 class Log:
-    """The lines of a log, and how often each thing was met; `first` is the time of the first packet, `source` what the capture is."""
+    """The lines of a log, and how often each thing was met; `first` is the time of the first packet, `source` what the capture is.
 
-    def __init__(self):
+    `as_a_node`: what a node ignores is not heard.
+    """
+
+    def __init__(self, as_a_node):
+        self.as_a_node = as_a_node
         self.lines, self.counts, self.first, self.source, self.protocols = [], Counter(), None, "", ""
         self.advertised = Advertised()
 
@@ -104,12 +109,13 @@ class Log:
         elif found.type in NAMES and each.sent:
             self.counts[SENT] += 1
             self.lines.append(f"{head}: sent by this host, {NAMES[found.type]}: {octets}")
-        elif found.type == MESSAGE and each.is_ignored:
+        elif found.type == MESSAGE and each.is_ignored and self.as_a_node:
             self.counts[IGNORED] += 1
-            self.lines.append(f"{head}: a mesh message, not heard, for a node ignores it there (MP 3.3.1): {octets}")
+            self.lines.append(f"{head}: not heard, for {IS_IGNORED}: {octets}")
         elif found.type == MESSAGE:
             self.counts[HEARD] += 1
-            self.lines += [head, f"hear {octets}"]
+            self.counts[MARKED] += each.is_ignored
+            self.lines += [f"{head}: {IS_IGNORED}" if each.is_ignored else head, f"hear {octets}"]
         elif found.type in NAMES:
             self.counts[COUNTED[found.type]] += 1
             self.lines.append(f"{head}: {NAMES[found.type]}: {octets}")
@@ -158,8 +164,9 @@ def ended(capture, log):
 
 
 def main():
-    name, *keys = sys.argv[1:]
-    capture, log = Capture(name), Log()
+    as_a_node = sys.argv[1] == AS_A_NODE
+    name, *keys = sys.argv[1 + as_a_node:]
+    capture, log = Capture(name), Log(as_a_node)
     try:
         setup = setting_up(keys[0]) if keys else LACKING
     except Unusable as wrong:

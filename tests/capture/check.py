@@ -9,12 +9,15 @@ import tempfile
 from concurrent.futures import ThreadPoolExecutor
 from pathlib import Path
 
+from packets import ADV_IND
 from scene import BEGAN, KEYS, ROOT, STEP, captures, scene  # it finds the model for all files here
 from unfit import cut, unfit
 
 import program
 
-WHERE = re.compile(r"# packet (\d+), (\d+\.\d{6}) s(?:, channel (\d+))?(?:, (-?\d+) dBm)?, from ((?:[0-9a-f]{2}:){5}[0-9a-f]{2})")
+IGNORED = "a node ignores a mesh message in a connectable or scannable advertisement (MP 3.3.1)"
+WHERE = re.compile(r"# packet (\d+), (\d+\.\d{6}) s(?:, channel (\d+))?(?:, (-?\d+) dBm)?, from ((?:[0-9a-f]{2}:){5}[0-9a-f]{2})"
+                   rf"(?:, in (ADV_IND): {re.escape(IGNORED)})?")
 
 
 def captured(*arguments):
@@ -23,19 +26,23 @@ def captured(*arguments):
     return run.stdout.decode("utf-8", "replace").splitlines(), run.stderr.decode("utf-8", "replace"), run.returncode
 
 
-def _expected(adverts, channels, signals):
+def _expected(adverts, channels, signals, as_a_node):
     """Each `hear` line with what stands in the comment before it; and the words of all other comments, with their packets."""
     heard, said = [], []
     for at, each in enumerate(adverts):
-        place = (str(at + 1), f"{at * STEP / 1000000:.6f}", str(each.channel) if channels else None, str(each.rssi) if signals else None, each.address.hex(":"))
-        heard += [(f"hear {pdu.hex() or '-'}", place) for pdu in each.heard]
+        place = (str(at + 1), f"{at * STEP / 1000000:.6f}", str(each.channel) if channels else None, str(each.rssi) if signals else None, each.address.hex(":"),
+                 "ADV_IND" if each.kind == ADV_IND else None)
+        if as_a_node and each.kind == ADV_IND:
+            said += [(at + 1, f", in ADV_IND: not heard, for {IGNORED}: {pdu.hex()}") for pdu in each.heard]
+        else:
+            heard += [(f"hear {pdu.hex() or '-'}", place) for pdu in each.heard]
         said += [(at + 1, each.said)] if each.said else []
     return heard, said
 
 
-def _of_log(lines, adverts, channels, signals):
+def _of_log(lines, adverts, channels, signals, as_a_node):
     """What is wrong with the lines of a log."""
-    heard, said = _expected(adverts, channels, signals)
+    heard, said = _expected(adverts, channels, signals, as_a_node)
     found = [(line, WHERE.fullmatch(before)) for before, line in zip(lines, lines[1:]) if line.startswith("hear")]
     if [(line, place and place.groups()) for line, place in found] != heard:
         yield f"the lines to be heard are {found}, not {heard}"
@@ -50,23 +57,31 @@ def _of_log(lines, adverts, channels, signals):
         yield f"the head is {lines[:2 + len(KEYS)]}"
 
 
-def _of_answers(words, lines):
-    """What is wrong with the console's answers to a log: the message in segments is handed up at the last line, and each line is read."""
+def _of_answers(words, lines, as_a_node):
+    """What is wrong with the console's answers to a log: each line is read, the message in segments is handed up at the last, and of the wind box's two the
+    one that came in ADV_IND only where all is heard.
+    """
     answers = program.answers(words, program.text_of([line.encode() for line in lines]))
     _, message = scene()
     if "unread" in answers or not answers[-1].startswith("access src 0201 ") or not answers[-1].endswith(f" message {message.hex()}"):
         yield f"the console answers {answers}"
+    if sum(answer.startswith("access src 0101 ") for answer in answers) != (1 if as_a_node else 2):
+        yield f"of the wind box the console answers {answers}"
 
 
 def of_capture(folder, words, case):
-    """What is wrong with the log of one capture."""
+    """What is wrong with the log of one capture: with all that it holds, and with what a node hears."""
     name, octets, adverts, channels, signals = case
     (folder / name).write_bytes(octets)
-    lines, said, status = captured(folder / name, folder / "keys")
-    if status or said:
-        return [f"{name}: status {status}: {said}"]
-    title = [] if lines[0].startswith(f"# Capture {name}, ") else [f"{name}: the title is {lines[0]}"]
-    return title + [f"{name}: {wrong}" for wrong in (*_of_log(lines, adverts, channels, signals), *_of_answers(words, lines))]
+    for option in ((), ("--as-a-node",)):
+        lines, said, status = captured(*option, folder / name, folder / "keys")
+        if status or said:
+            yield f"{name} {option}: status {status}: {said}"
+            continue
+        if not lines[0].startswith(f"# Capture {name}, "):
+            yield f"{name}: the title is {lines[0]}"
+        for wrong in (*_of_log(lines, adverts, channels, signals, bool(option)), *_of_answers(words, lines, bool(option))):
+            yield f"{name} {option}: {wrong}"
 
 
 def of_cut(folder, case):
@@ -104,7 +119,8 @@ def paged(folder, words):
                              env={**os.environ, "GOREPHAN_CONSOLE": shlex.join(words)})
         found = where.fullmatch(run.stdout)
         page = Path(found[1]) if found else None
-        if run.returncode != status or not page or (message in page.read_text()) == bool(status) or bool(status) != ("cut off" in run.stderr):
+        text = page.read_text() if page else ""
+        if run.returncode != status or IGNORED not in text or (message in text) == bool(status) or bool(status) != ("cut off" in run.stderr):
             yield f"bin/class {file}: status {run.returncode}, {run.stdout!r}, {run.stderr!r}"
         for rest in (page, page and page.with_suffix(".log"), *(ROOT / "target" / "captures" / f"{file}{end}" for end in (".txt", ".log"))):
             if rest:
@@ -120,7 +136,7 @@ def main():
         folder = Path(name)
         (folder / "keys").write_text("\n".join(KEYS) + "\n")
         formats, cuts, others = list(captures()), list(cut()), list(unfit(folder))
-        wrong = [each for found in workers.map(lambda case: of_capture(folder, words, case), formats) for each in found]
+        wrong = [each for found in workers.map(lambda case: list(of_capture(folder, words, case)), formats) for each in found]
         wrong += [each for found in workers.map(lambda case: of_cut(folder, case), cuts) for each in found]
         wrong += [each for found in workers.map(lambda case: of_unfit(folder, case), others) for each in found]
         wrong += paged(folder, words)

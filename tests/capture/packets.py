@@ -2,7 +2,7 @@
 import struct
 
 MESSAGE, BEACON, PROVISIONING = 0x2A, 0x2B, 0x29
-ADV_IND, ADV_NONCONN_IND, ADV_EXTENDED = 0, 2, 7
+ADV_IND, ADV_NONCONN_IND, ADV_SCAN_IND, ADV_EXTENDED = 0, 2, 6, 7
 ACCESS_ADDRESS = 0x8E89BED6
 # The CRC of an advertisement begins with these bits; its polynomial, the lowest power first.
 CRC_START, CRC_TAPS = 0x555555, 0xDA6000
@@ -64,7 +64,7 @@ def _event(kind, octets):
 
 
 def report(address, data, rssi, kind=3):
-    """An LE Advertising Report of one advertisement: kind 3 is ADV_NONCONN_IND, 0 ADV_IND."""
+    """An LE Advertising Report of one advertisement: kind 3 is ADV_NONCONN_IND, 0 ADV_IND, 4 SCAN_RSP."""
     return reports([(address, data, rssi)], kind)
 
 

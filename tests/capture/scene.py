@@ -40,7 +40,7 @@ def scene():
     for line in ('box humidity 0201 "humidity box" start 000a10 long 0076 humidity 48.00 48.20 48.55 48.90 49.10', 'box wind 0101 "wind box" start 000100'):
         name, box = from_line(line, shed)
         shed[name] = box
-    parts, short = [shed["humidity"].segment(place) for place in range(3)], shed["wind"].status(5, STATION)
+    parts, short, gust = [shed["humidity"].segment(place) for place in range(3)], shed["wind"].status(5, STATION), shed["wind"].status(5, STATION)
     resent = shed["humidity"].segment(1, "resent")
     beacon, link, odd = bytes.fromhex("0100" + 20 * "5a"), bytes.fromhex("0102030400") + bytes(9), b"\x01\x02"
     found = [
@@ -53,8 +53,7 @@ def scene():
         Advert(OTHER, b""),
         Advert(HUMIDITY, structure(MESSAGE, parts[1]), good=False, said="a wrong CRC: not heard"),
         Advert(HUMIDITY, structure(MESSAGE, parts[2]) + bytes(3), (parts[2],)),
-        Advert(WIND, structure(MESSAGE, short), kind=ADV_IND,
-               said=f", in ADV_IND: a mesh message, not heard, for a node ignores it there (MP 3.3.1): {short.hex()}"),
+        Advert(WIND, structure(MESSAGE, gust), (gust,), kind=ADV_IND),
         Advert(HUMIDITY, structure(MESSAGE, parts[1])[:-1], said=f"damaged from here on, and not heard: {structure(MESSAGE, parts[1])[:-1].hex()}"),
         Advert(OTHER, structure(MESSAGE, b"") + b"\0" + structure(MESSAGE, odd), (b"",), said="damaged from here on, and not heard: 00032a0102"),
         Advert(OTHER, structure(MESSAGE, short), said=f"sent by this host, a mesh message: {short.hex()}", sent=True),

@@ -3,7 +3,7 @@ import struct
 
 import files
 import packets
-from packets import ADV_NONCONN_IND, EVENT, LOST, MESSAGE, MORE, structure
+from packets import ADV_NONCONN_IND, ADV_SCAN_IND, EVENT, LOST, MESSAGE, MORE, structure
 from scene import BEGIN, FLAGS, KEYS, OTHER, captures
 
 PDU = bytes(range(0x10, 0x22))
@@ -11,6 +11,9 @@ GOOD = packets.on_air(OTHER, structure(MESSAGE, PDU))
 HEAR = "hear " + PDU.hex()
 # The comment where neither channel nor RSSI is known.
 UNSURE = f"# packet 1, 0.000000 s, from {OTHER.hex(':')}"
+# What is said of a mesh message that a node ignores: where it is heard, and where it is not.
+MARKED = "a node ignores a mesh message in a connectable or scannable advertisement (MP 3.3.1)"
+LEFT = f": not heard, for {MARKED}: {PDU.hex()}"
 # How long the head of a file is, and that of a packet.
 HEADS = {"251.pcap": (24, 16), "256.pcapng": (48, 28), "h4-reports.btsnoop": (16, 24)}
 
@@ -56,11 +59,18 @@ def _parts():
 
 
 def _extended():
-    """Extended advertisements: one without data, one that is whole, and those that are connectable, go on, or have no sender's address."""
+    """Extended advertisements: one without data, one that is whole, and those that go on, or have no sender's address."""
     data = structure(MESSAGE, PDU)
-    found = (packets.extended(b"", b"", goes_on=True), packets.extended(OTHER, data), packets.extended(OTHER, data, connectable=True),
-             packets.extended(OTHER, data, goes_on=True), packets.extended(b"", data))
+    found = (packets.extended(b"", b"", goes_on=True), packets.extended(OTHER, data), packets.extended(OTHER, data, goes_on=True), packets.extended(b"", data))
     return files.pcap(files.LINK_LAYER_RADIO, [(BEGIN, packets.with_radio(packet, 37, -50)) for packet in found])
+
+
+def _ignored():
+    """Captures of one mesh message each, in an advertisement where a node ignores it: its name, its octets and what the advertisement is called."""
+    data = structure(MESSAGE, PDU)
+    yield "connectable.pcap", _sniffed(packets.extended(OTHER, data, connectable=True)), "an extended advertisement that is connectable or scannable"
+    yield "scannable.pcap", _sniffed(packets.on_air(OTHER, data, ADV_SCAN_IND)), "ADV_SCAN_IND"
+    yield "response.btsnoop", files.btsnoop(files.H4, [(BEGIN, EVENT, packets.report(OTHER, data, -50, kind=4))]), "SCAN_RSP"
 
 
 def _several():
@@ -91,8 +101,7 @@ def _made():
     yield "misfit.pcap", files.pcap(files.LINK_LAYER_RADIO, [(BEGIN, _misfitting()), (BEGIN, packets.with_radio(GOOD, 37, -50))]), 0, "", \
         ": 20 octets of data where its length says 19: not heard"
     yield "parts.btsnoop", _parts(), 0, "", "parts of longer advertisements: 4;"
-    yield "extended.pcap", _extended(), 0, "", \
-        "mesh messages heard: 1; mesh messages in other kinds of advertisement: 1; parts of longer advertisements: 2; packets in all: 5"
+    yield "extended.pcap", _extended(), 0, "", "mesh messages heard: 1; parts of longer advertisements: 2; packets in all: 4"
     yield "unsure.pcap", files.pcap(files.LINK_LAYER_RADIO, [(BEGIN, packets.with_radio(GOOD, 37, -50, sure=False))]), 0, "", UNSURE
     yield "unsure.btsnoop", files.btsnoop(files.H4, [(BEGIN, EVENT, packets.report(OTHER, structure(MESSAGE, PDU), 127))]), 0, "", UNSURE
     yield "several.btsnoop", _several(), 0, "", "# packet 2, 0.000000 s: tshark finds this packet malformed"
@@ -115,10 +124,16 @@ def unfit(folder):
     for name, octets, *rest in _made():
         (folder / name).write_bytes(octets)
         yield name, [(name,)], *rest
+    for name, octets, kind in _ignored():
+        (folder / name).write_bytes(octets)
+        yield name, [(name,)], 0, "", f", in {kind}: {MARKED}"
+        yield f"{name}, counted", [(name,)], 0, "", "mesh messages heard: 1; of these in advertisements where a node ignores them: 1; packets in all: 1"
+        yield f"{name}, as a node", ["--as-a-node", (name,)], 2, "no mesh message to be heard. mesh messages that a node ignores: 1;", f", in {kind}{LEFT}"
     for name, octets, status, words in _keys():
         (folder / name).write_bytes(octets)
         yield name, [("good.pcap",), (name,)], status, words, None if status else KEYS[-1]
     for name, arguments, words in (
-            ("no argument", [], "use: "), ("three arguments", ["1", "2", "3"], "use: "), ("no file", [("none",)], "there is no file"),
-            ("a folder", [("",)], "there is no file"), ("no file of keys", [("good.pcap",), ("none",)], "there is no file")):
+            ("no argument", [], "use: "), ("an option alone", ["--as-a-node"], "use: "), ("three arguments", ["1", "2", "3"], "use: "),
+            ("no file", [("none",)], "there is no file"), ("a folder", [("",)], "there is no file"),
+            ("no file of keys", [("good.pcap",), ("none",)], "there is no file")):
         yield name, arguments, 2, words, None
