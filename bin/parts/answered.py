@@ -2,10 +2,11 @@
 import os
 import shlex
 import subprocess
+import sys
 from dataclasses import dataclass
 from pathlib import Path
 
-from early import early, is_wanted
+from early import compared, early, is_wanted
 from exchange import Unfit, exchanged, lines_of
 from readings_in import is_put, put_in
 
@@ -19,11 +20,16 @@ class Failed(Exception):
 
 @dataclass
 class Answered:
-    """The lines and their answers, the number of each line in the file, and what was taken off the file."""
+    """The lines and their answers, the number of each line in the file, what was taken off the file, and words where that is not all of it."""
     log: list
     answers: list
     numbers: list
     taken: list
+    part: str = ""
+
+    def own(self):
+        """The answers to the lines of the file, each line's together."""
+        return [said for at, _, said in exchanged(self.log, self.answers) if not is_put(self.numbers, at)]
 
 
 def plain(octets):
@@ -39,10 +45,13 @@ def plain(octets):
 
 
 def consoles():
-    """The command that answers first, which builds the console and explains unread lines, and the one that answers again."""
+    """The command that answers first and explains unread lines, and the one that answers again; where no console is named, ours is built."""
     if named := os.environ.get("GOREPHAN_CONSOLE"):
         return shlex.split(named), shlex.split(named)
-    return [str(ROOT / "bin" / "console")], [str(ROOT / "bin" / "program"), "console"]
+    if subprocess.run([str(ROOT / "bin" / "built"), "console"], check=False).returncode:
+        raise Failed("the console is not built")
+    console = [str(ROOT / "bin" / "program"), "console"]
+    return [sys.executable, "-B", str(ROOT / "bin" / "parts" / "answering.py"), *console], console
 
 
 def octets_of(lines):
@@ -70,11 +79,10 @@ def answered(path):
     lines, numbers = put_in(log, answers)
     if len(lines) == len(log):
         return Answered(log, answers, numbers, taken)
-    with_readings = ask(again, lines)
-    kept = [said for at, _, said in exchanged(lines, with_readings) if not is_put(numbers, at)]
-    if kept != [said for _, _, said in exchanged(log, answers)]:
+    found = Answered(lines, ask(again, lines), numbers, taken)
+    if found.own() != [said for _, _, said in exchanged(log, answers)]:
         raise Unfit("the console answered the same lines in another way the second time")
-    return Answered(lines, with_readings, numbers, taken)
+    return found
 
 
 def before(path):
@@ -87,4 +95,11 @@ def before(path):
         return octets_of(lines)
 
     found = None if os.environ.get("GOREPHAN_CONSOLE") or not is_wanted() else early(octets, with_readings)
-    return found and Answered(lines_of(found[0]), lines_of(found[1]), numbers, taken)
+    return found and Answered(lines_of(found[0]), lines_of(found[1]), numbers, taken, found[2])
+
+
+def judged(first, proved):
+    """Whether the proved answers are those shown before, and words for it. Of a part only the file's own lines count: readings may be asked behind it."""
+    if not first.part:
+        return compared(first.answers, proved.answers)
+    return compared(*([answer for said in one.own() for answer in said] for one in (first, proved)), True)

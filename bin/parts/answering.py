@@ -10,16 +10,18 @@ import subprocess
 import sys
 import threading
 from collections import deque
+from itertools import chain
 
 from exchange import ends, is_silent
 from explained import Explained, at_once
 
+TYPE = "Type lines of the console: help shows them, Ctrl-D ends."
 BLOCK = 1 << 16
 # Of a line that goes on and on so much is kept: the console reads none so long.
 KEPT = 1 << 13
 
 
-def _said(text):
+def said(text):
     """One line on standard error, where there is one."""
     if sys.stderr:
         print(text, file=sys.stderr, flush=True)
@@ -31,7 +33,7 @@ def _blocks(source):
         while block := os.read(source, BLOCK):
             yield block
     except OSError as fault:
-        _said(f"bin/console: the input cannot be read: {fault.strerror}")
+        said(f"bin/console: the input cannot be read: {fault.strerror}")
 
 
 def _lines(blocks):
@@ -55,11 +57,11 @@ class Asked:
     def __init__(self):
         self.waiting = deque()
 
-    def feed(self, target):
-        """Gives standard input to the console; a line is kept before the console can answer it."""
+    def feed(self, target, before):
+        """Gives the console what came before, and then standard input; a line is kept before the console can answer it."""
         number = 0
         try:
-            for block, lines in _lines(_blocks(0)):
+            for block, lines in _lines(chain([before], _blocks(0))):
                 for number, line in enumerate(lines, number + 1):
                     if not is_silent(line):
                         self.waiting.append((number, line))
@@ -75,34 +77,34 @@ class Asked:
         return self.waiting.popleft() if ends(self.waiting[0][1], answer) else None
 
 
-def _follow(source, asked):
-    """Passes on what the console writes, and gathers which lines it did not read."""
+def _follow(source, asked, lines, octets):
+    """Passes on what the console writes, and gathers which lines it did not read; of the first lines all was said, and so many octets were written."""
     explained, typed = Explained(), os.isatty(0)
-    if typed:
-        _said("Type lines of the console: help shows them, Ctrl-D ends.")
     for block, answers in _lines(_blocks(source)):
-        _put(1, block)
+        _put(1, block[octets:])
+        octets = max(octets - len(block), 0)
         for answer in answers:
             pair = asked.answered(answer) if answer else None
             found = pair and explained.take(*pair, answer)
-            if found and typed:
-                _said(at_once(found))
+            if found and typed and pair[0] > lines:
+                said(at_once(found))
     if not typed:
         for line in explained.told():
-            _said(line)
+            said(line)
 
 
-def main():
-    console = subprocess.Popen(sys.argv[1:], stdin=subprocess.PIPE, stdout=subprocess.PIPE)
+def answering(command, before=b"", lines=0, octets=0):
+    """Runs the console until its input ends, and ends with its status. Standard input goes on behind what came before, of which so many lines are answered."""
+    console = subprocess.Popen(command, stdin=subprocess.PIPE, stdout=subprocess.PIPE)
     asked, lost = Asked(), 0
-    threading.Thread(target=asked.feed, args=(os.dup(console.stdin.fileno()),), daemon=True).start()
+    threading.Thread(target=asked.feed, args=(os.dup(console.stdin.fileno()), before), daemon=True).start()
     console.stdin.close()
     try:
-        _follow(console.stdout.fileno(), asked)
+        _follow(console.stdout.fileno(), asked, lines, octets)
     except BrokenPipeError:
         pass  # nobody reads the answers
     except OSError as fault:
-        _said(f"bin/console: the answers cannot be written: {fault.strerror}")
+        said(f"bin/console: the answers cannot be written: {fault.strerror}")
         lost = 1
     except KeyboardInterrupt:
         console.terminate()
@@ -111,4 +113,7 @@ def main():
     os._exit((status if status >= 0 else 128 - status) or lost)  # the other thread may still wait for input
 
 
-main()
+if __name__ == "__main__":
+    if os.isatty(0):
+        said(TYPE)
+    answering(sys.argv[1:])

@@ -4,8 +4,7 @@ import subprocess
 import sys
 from pathlib import Path
 
-from answered import ROOT, Failed, answered, before
-from early import compared
+from answered import ROOT, Failed, answered, before, judged
 from exchange import Unfit
 from given import refused
 from one_file import page
@@ -43,7 +42,8 @@ def kept(name, given, proved):
     if not 0 < len(found["steps"]) <= MOST:
         return None
     if not proved:
-        found["title"], found["notes"] = f"Not proved yet: {found['title']}", [NOT_PROVED, *found["notes"]]
+        part = [f"Shown are {given.part}."] if given.part else []
+        found["title"], found["notes"] = f"Not proved yet: {found['title']}", [NOT_PROVED, *part, *found["notes"]]
     TARGET.mkdir(exist_ok=True)
     return written_whole(TARGET / "class.html" if name == STORY else own_name(name, TARGET / "pages", ".html"), page(found))
 
@@ -53,11 +53,11 @@ def paged(name, log):
     first = before(log)
     place = first and kept(name, first, False)
     if place:
-        print(f"The page of it, not proved yet: {place}", flush=True)
+        print(f"The page of {first.part or 'it'}, not proved yet: {place}", flush=True)
     given = answered(log)
     place = kept(name, given, True)
     if place and first:
-        print(f"bin/class: {compared(first.answers, given.answers)[1]}")
+        print(f"bin/class: {judged(first, given)[1]}")
     if place:
         print(f"The page of it: {place}")
     return bool(place)

@@ -3,9 +3,9 @@ import os
 import sys
 from pathlib import Path
 
-from answered import ROOT, Failed, answered, before
+from answered import ROOT, Failed, answered, before, judged
 from drawing import picture
-from early import MARK, compared
+from early import MARK
 from exchange import Unfit
 from given import put, refused
 from own_name import own_name, written_whole
@@ -15,19 +15,19 @@ STORY, TARGET = ROOT / "crates" / "console" / "stdin", ROOT / "target"
 
 
 def story(log):
-    """Shows the log: with early answers first, if there are any, and then with the proved ones, if they are others."""
+    """Shows the log: with early answers first, if there are any, and then with the proved ones, if they are others or more."""
     first = before(log)
     if first:
-        put(shown(first.log, first.answers, first.numbers, MARK) + b"\n")
+        put((f"{MARK}{first.part}\n".encode() if first.part else b"") + shown(first.log, first.answers, first.numbers, MARK) + b"\n")
     given = answered(log)
     for words in given.taken:
         print(f"bin/story: takes off {words}", file=sys.stderr)
     TARGET.mkdir(exist_ok=True)
     drawn = picture(given.log, given.answers, given.numbers)
     place = written_whole(TARGET / "story.svg" if log == STORY else own_name(log, TARGET / "pictures", ".svg"), drawn)
-    same, words = compared(first.answers, given.answers) if first else (False, "")
+    same, words = judged(first, given) if first else (False, "")
     put(f"bin/story: {words}\n".encode() if words else b"")
-    put(b"" if same else shown(given.log, given.answers, given.numbers))
+    put(b"" if same and not first.part else shown(given.log, given.answers, given.numbers))
     put(b"\nThe picture of it: " + os.fsencode(place) + b"\n")
 
 

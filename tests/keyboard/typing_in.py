@@ -5,16 +5,17 @@ import random
 import re
 import select
 import subprocess
+import time
 from pathlib import Path
 
 from explaining import ROOT, SECONDS, run, wrapped
 from forms import FORMS, LINES
 
 
-def _until(source, words, seconds=SECONDS):
+def until(source, words, seconds=SECONDS):
     """What can be read from a file descriptor until these words have come, or the time is over."""
-    text = b""
-    while words not in text and select.select([source], [], [], seconds)[0]:
+    text, end = b"", time.monotonic() + seconds
+    while words not in text and select.select([source], [], [], max(end - time.monotonic(), 0))[0]:
         try:
             block = os.read(source, 4096)
         except OSError:
@@ -30,7 +31,7 @@ def _open_pipe(words):
     with subprocess.Popen(wrapped(words), stdin=subprocess.PIPE, stdout=subprocess.PIPE, stderr=subprocess.DEVNULL) as console:
         for line, answer in ((b"properties\n", b"ok\n"), (b"readings 00\n", b"no status\n")):
             os.write(console.stdin.fileno(), line)
-            if _until(console.stdout.fileno(), answer) != answer:
+            if until(console.stdout.fileno(), answer) != answer:
                 return "a pipe that stays open: no answer comes before its end"
     return None
 
@@ -41,11 +42,11 @@ def _terminal(words):
     with subprocess.Popen(wrapped(words), stdin=theirs, stdout=theirs, stderr=theirs) as console:
         os.close(theirs)
         os.write(ours, b"readings 5 2\n")
-        said = _until(ours, b"Probably: readings 52")
+        said = until(ours, b"Probably: readings 52")
         os.write(ours, b"help\n")
-        said += _until(ours, b"docs/ANSWERS.md")
+        said += until(ours, b"docs/ANSWERS.md")
         os.write(ours, b"properties\n\x04")
-        rest = _until(ours, b"ok\r\n")
+        rest = until(ours, b"ok\r\n")
         status = console.wait(SECONDS)
     os.close(ours)
     if b"unread\r\n    octets with spaces between them. " not in said or b" netkey KEY " not in said:
