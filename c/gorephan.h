@@ -11,7 +11,7 @@
  * costs no cipher work.
  *
  * Link target/staticlib/libradio.a (bin/built --archive radio), x86-64; c/example.c has the compile lines. It needs memcpy and memset. C++ may
- * include this header. bin/handheld builds the same without the S-box's table, some 650 octets smaller and 90 times slower. Counted from the
+ * include this header. bin/handheld builds the same without the S-box's table, some 500 octets smaller and 90 times slower. Counted from the
  * instructions, not proved: the deepest call takes some 2 KiB of stack (docs/SIZES.md). */
 #ifndef GOREPHAN_H
 #define GOREPHAN_H
