@@ -20,7 +20,7 @@ from crates import ROOT, TARGET
 
 MARK, NONE = "not proved yet: ", "no answers yet: "
 # A run that takes longer is given up: the proof itself takes some minutes. `rt try` lets a program write no more octets than these.
-SECONDS, LINES, OCTETS = 60, 2000, 1 << 20
+SECONDS, LINES, OCTETS = 60, 10000, 1 << 20
 # What `rt try` says of its interpreter where that has used up its steps, fewer than a hundred `hear` lines, and of each of three ways to compile.
 LIMIT = re.compile(r"\AFAIL: the interpreter failed.*^the run did not finish within \d+ steps", re.M | re.S)
 FAILED, WRITTEN, WAYS = re.compile("^FAIL: ", re.M), re.compile("^ok: the native program .* wrote what is expected$", re.M), 3

@@ -38,8 +38,8 @@ TOO_LONG = "no answers yet: it takes more than"
 LOG = "# a log\nproperty 76 humidity\nreadings 52c20ed711c20effff\nnetkey 0\nreadings 52c20ed7\n"
 ANSWERS = ["ok", "readings 2 0076 humidity 45.67 4046d5c28f5c28f6 0076 unknown", "unread", "refused 20"]
 # A log of which only the first lines are answered before the proof: its answers, and how many of them are shown. A property is named once.
-MOST, LONG, LONG_ANSWERS, SHOWN = 2000, LOG * 500, ANSWERS + ["refused 14", *ANSWERS[1:]] * 499, 1600
-PART, PART_SAME = "the first 2,000 of 2,500 lines", "proved now, and the first 1,600 lines of answers are those shown before"
+MOST, LONG, LONG_ANSWERS, SHOWN = 10000, LOG * 2500, ANSWERS + ["refused 14", *ANSWERS[1:]] * 2499, 8000
+PART, PART_SAME = "the first 10,000 of 12,500 lines", "proved now, and the first 8,000 lines of answers are those shown before"
 
 # More lines than the interpreter of `rt try` has steps for.
 HEARD, HEARD_SAME = READY + f"hear {PDU}\n" * 200, "proved now, and the 203 lines of answers are those shown before"
@@ -134,7 +134,7 @@ def _long(tree):
     tree.log.write_text(LONG)
     told, paged = tree.run("story", "asked"), tree.run("class", "asked")
     behind = told.stdout.partition(PART_SAME)[2]
-    yield "bin/story, of a long log", _marked(told.stdout) == [PART, *LONG_ANSWERS[:SHOWN]] and behind.count(ANSWERS[1]) == 500
+    yield "bin/story, of a long log", _marked(told.stdout) == [PART, *LONG_ANSWERS[:SHOWN]] and behind.count(ANSWERS[1]) == 2500
     yield "bin/class, of a long log", f"The page of {PART}, not proved yet: " in paged.stdout and f"{PART_SAME}\nThe page of it: " in paged.stdout
     *heard, asks, acknowledges = (ROOT / "tests" / "answers" / "station.log").read_text().splitlines()
     tree.log.write_text("\n".join([*heard, *["#"] * (MOST - len(heard)), acknowledges, asks, ""]))

@@ -83,7 +83,7 @@ def _written_otherwise(tree):
 def _too_many(tree):
     """A great many lines are answered, but the console is not run on them unproved."""
     with Session(tree, "refused") as session:
-        for _ in range(21):
+        for _ in range(101):
             os.write(session.ours, b"\n" * 100)
             until(session.ours, b"\0", 0.05)
         fits = [session.types("properties", f"{MARK}ok"), session.shows("they are too many"), session.proved(f"the 1 {SAME}{ON}")]
