@@ -5,6 +5,7 @@ pub mod Opcode
 pub mod Fields
 pub mod Form
 pub mod Segment
+pub mod Listed
 pub mod Ranges
 pub mod ReadsBack
 pub mod Examples
