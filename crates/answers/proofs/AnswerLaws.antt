@@ -6,11 +6,15 @@ use Prim.Native.Nat.{ℕ, _+_}
 use native.Mathlib.Omega.{arith}
 use lib.ListN.{length, take}
 use Rattle.common.specs.Lent.{lent}
+use Rattle.common.specs.Paper.{numberOf}
 use Rattle.memory.specs.declared.outgoing.Effect.{Effect}
 use Rattle.memory.specs.declared.outgoing.Effect.the-variants as effect
 use Rattle.memory.specs.declared.pair.Pair.{Pair}
 use Rattle.transport.specs.declared.securing.MessageKey.{MessageKey}
 use Rattle.transport.specs.declared.securing.MessageKey.the-variants.{Application, Device}
+use Rattle.transport.specs.declared.vetting.Vetted.{Vetted}
+use Rattle.transport.specs.declared.vetting.Vetted.the-variants as vetted
+use Rattle.transport.specs.Vetting as vetting
 use Rattle.receiver.specs.declared.answer.Refusal.{Refusal}
 use Rattle.receiver.specs.declared.answer.Answer.{Answer}
 use Rattle.receiver.specs.declared.answer.Answer.the-variants.{Refused, Stored, Repeated, Access, Control, Acknowledgement}
@@ -32,7 +36,7 @@ use Rattle.text.specs.Written.{putting}
 use Rattle.text.proofs.WrittenLaws.{put-then}
 use Rattle.answers.specs.declared.answer.Trials.{Trials}
 use Rattle.answers.specs.Answer.{named, trialsText, segmentsText, keyText, messageText, effectText, accessText, controlText}
-use Rattle.answers.specs.Answer.{acknowledgementText, heardText, forwardText, spokenText, givenUpText, setUpText, notedText}
+use Rattle.answers.specs.Answer.{acknowledgementText, heardText, forwardText, spokenText, givenUpText, setUpText, vettedText, notedText}
 
 module _ (out : List ℕ) (at r : ℕ) (o : List ℕ) where
   -- ---- the key of an access message
@@ -136,6 +140,29 @@ module _ (out : List ℕ) (at r : ℕ) (o : List ℕ) where
     unfolding spokenText
     spoken-refused x n k h e = rw (k, ← h) e
 
+  -- ---- PDUs that are vetted; s is what was made of the buffer
+  module _ (v : Vetted) (message : List ℕ) where
+    pub vetted-approved :
+        (len : ℕ) (s : List ℕ) → v ≡ vetted.Approved len → s ≡ take len message
+        → lent r o ≡ putting (octets "approved message " ++ (hexText s ++ octets "\n")) out at → lent r o ≡ putting (vettedText v message) out at
+    unfolding vettedText
+    vetted-approved len s k h e = rw (k, ← h) e
+
+    module _ (n : ℕ) (h : n ≡ numberOf (vetting.paper v)) where
+      pub vetted-short : v ≡ vetted.ShortBuffer → lent r o ≡ putting (refusedText n) out at → lent r o ≡ putting (vettedText v message) out at
+      unfolding vettedText
+      vetted-short k e = rw (k, ← rw k at h) e
+
+      pub vetted-fault :
+          (i : ℕ) → v ≡ vetted.Fault i → lent r o ≡ putting (refusalText n ++ (named " at " 1 i ++ octets "\n")) out at
+          → lent r o ≡ putting (vettedText v message) out at
+      unfolding vettedText
+      vetted-fault i k e = rw (k, ← rw k at h) e
+
+      pub vetted-unfinished : v ≡ vetted.Unfinished → lent r o ≡ putting (refusedText n) out at → lent r o ≡ putting (vettedText v message) out at
+      unfolding vettedText
+      vetted-unfinished k e = rw (k, ← rw k at h) e
+
   -- ---- what became of a PDU
   module _ (a : Answer) (t : Trials) (message : List ℕ) where
     pub heard-refused :
@@ -189,5 +216,7 @@ pub ruleset set-up-rules = (set-up-ready, set-up-refused)
 pub ruleset given-up-rules = (given-up-done, given-up-refused)
 
 pub ruleset spoken-rules = (spoken-sent, spoken-started, spoken-refused)
+
+pub ruleset vetted-rules = (vetted-approved, vetted-short, vetted-fault, vetted-unfinished)
 
 pub ruleset heard-rules = (heard-refused, heard-stored, heard-repeated, heard-access, heard-control, heard-acknowledgement)

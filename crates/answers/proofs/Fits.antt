@@ -24,6 +24,7 @@ use Rattle.memory.specs.Replay.{replayEntries}
 use Rattle.memory.specs.Session.{sessionSlots, isFree}
 use Rattle.transport.specs.declared.securing.MessageKey.{MessageKey}
 use Rattle.transport.specs.declared.securing.MessageKey.the-variants.{Application, Device}
+use Rattle.transport.specs.declared.vetting.Vetted.the-variants as vetted
 use Rattle.transport.specs.Segment.{messageOctets}
 use Rattle.node.specs.Addresses.{elementPlaces}
 use Rattle.receiver.specs.declared.answer.Answer.{Answer}
@@ -38,9 +39,9 @@ use Rattle.text.specs.Hex.{hexText}
 use Rattle.text.specs.Refusal.{refusalText, refusedText}
 use Rattle.answers.specs.declared.answer.Trials.{Trials}
 use Rattle.answers.specs.Answer.{named, trialsText, pairText, segmentsText, routeText, keyText, messageText, effectText, accessText}
-use Rattle.answers.specs.Answer.{controlText, acknowledgementText, heardText, forwardText, spokenText, givenUpText, setUpText, notedText}
+use Rattle.answers.specs.Answer.{controlText, acknowledgementText, heardText, forwardText, spokenText, givenUpText, setUpText, vettedText, notedText}
 use Rattle.answers.specs.Looking.{nextText, seenText, cacheText, lastText, entryText, sessionText, heardSoFar, sendingText, receiverText}
-use Rattle.answers.specs.Fits.{FitsWhole, HeardFits, SpokenFits, GivenUpFits, SetUpFits, NotedFits, ReceiverFits}
+use Rattle.answers.specs.Fits.{FitsWhole, HeardFits, SpokenFits, GivenUpFits, SetUpFits, VettedFits, NotedFits, ReceiverFits}
 use Rattle.answers.proofs.TextLengths.{AtMost, both, wider, none, placed-most, label-most, number-most, decimal-most, named-most, hex-most}
 
 -- ---- where there is room for it
@@ -127,6 +128,13 @@ pub set-up-fits : SetUpFits
 unfolding setUpText
 set-up-fits fresh.Ready = omega arith
 set-up-fits (fresh.Refused refusal) = omega (arith, refused-most (refusalNumber refusal))
+
+pub vetted-fits : VettedFits
+unfolding vettedText
+vetted-fits (vetted.Approved len) message h = omega (arith, both (label-most "approved message ") (both (buffer-most len message h) (label-most "\n")))
+vetted-fits vetted.ShortBuffer message h = omega (arith, refused-most 16)
+vetted-fits (vetted.Fault k) message h = omega (arith, both (refusal-most 26) (both (named-most " at " 1 k) (label-most "\n")))
+vetted-fits vetted.Unfinished message h = omega (arith, refused-most 27)
 
 pub noted-fits : NotedFits
 unfolding notedText

@@ -4,16 +4,21 @@
 --   spokenText a pdu        a request to send
 --   givenUpText a           a request to give up
 --   setUpText a             a setup
+--   vettedText v message    PDUs that are vetted
 --   notedText r             a line that needs no receiver
 use mathlib.Core.List.{List, [], _∷_, _++_}
 use Prim.Native.Nat.{ℕ, _+_}
 use Prim.Native.String.{String}
 use lib.ListN.{take}
+use Rattle.common.specs.Paper.{numberOf}
 use Rattle.memory.specs.declared.outgoing.Effect.{Effect}
 use Rattle.memory.specs.declared.outgoing.Effect.the-variants as effect
 use Rattle.memory.specs.declared.pair.Pair.{Pair}
 use Rattle.transport.specs.declared.securing.MessageKey.{MessageKey}
 use Rattle.transport.specs.declared.securing.MessageKey.the-variants.{Application, Device}
+use Rattle.transport.specs.declared.vetting.Vetted.{Vetted}
+use Rattle.transport.specs.declared.vetting.Vetted.the-variants as vetted
+use Rattle.transport.specs.Vetting as vetting
 use Rattle.receiver.specs.declared.answer.Answer.{Answer}
 use Rattle.receiver.specs.declared.answer.Answer.the-variants.{Refused, Stored, Repeated, Access, Control, Acknowledgement}
 use Rattle.receiver.specs.Answer.{refusalNumber}
@@ -99,6 +104,13 @@ givenUpText (up.Refused refusal) = refusedText (refusalNumber refusal)
 unfoldable pub setUpText : SettingUp → List ℕ
 setUpText fresh.Ready = octets "ready\n"
 setUpText (fresh.Refused refusal) = refusedText (refusalNumber refusal)
+
+-- PDUs that are vetted; what is approved stands in the first octets of a buffer
+unfoldable pub vettedText : Vetted → List ℕ → List ℕ
+vettedText (vetted.Approved len) message = octets "approved message " ++ (hexText (take len message) ++ octets "\n")
+vettedText vetted.ShortBuffer message = refusedText (numberOf (vetting.paper vetted.ShortBuffer))
+vettedText (vetted.Fault k) message = refusalText (numberOf (vetting.paper (vetted.Fault k))) ++ (named " at " 1 k ++ octets "\n")
+vettedText vetted.Unfinished message = refusedText (numberOf (vetting.paper vetted.Unfinished))
 
 unfoldable pub notedText : Reply → List ℕ
 notedText reply.Ok = octets "ok\n"

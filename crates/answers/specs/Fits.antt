@@ -2,13 +2,14 @@
 --   Fits text                             the text has at most 8,192 octets
 --   FitsWhole                             what is written of such a text
 --   HeardFits, SpokenFits, GivenUpFits,
---   SetUpFits, NotedFits, ReceiverFits,
---   ReadingsFit                           the texts of each kind of line
+--   SetUpFits, VettedFits, NotedFits,
+--   ReceiverFits, ReadingsFit             the texts of each kind of line
 -- A number may be of any size. The console lends 384 octets for a message or a PDU, and a receiver's lists are arrays of 16, 32 and 8.
 use mathlib.Core.List.{List, _++_}
 use mathlib.Core.Path.{_≡_}
 use Prim.Native.Nat.{ℕ, _+_, _≤_}
 use lib.ListN.{length, take}
+use Rattle.transport.specs.declared.vetting.Vetted.{Vetted}
 use Rattle.transport.specs.Segment.{messageOctets}
 use Rattle.memory.specs.Cache.{cacheEntries}
 use Rattle.memory.specs.Replay.{replayEntries}
@@ -22,7 +23,7 @@ use Rattle.sensor.specs.declared.properties.Properties.{Properties}
 use Rattle.commands.specs.declared.desk.Reply.{Reply}
 use Rattle.text.specs.Written.{written}
 use Rattle.answers.specs.declared.answer.Trials.{Trials}
-use Rattle.answers.specs.Answer.{heardText, forwardText, spokenText, givenUpText, setUpText, notedText}
+use Rattle.answers.specs.Answer.{heardText, forwardText, spokenText, givenUpText, setUpText, vettedText, notedText}
 use Rattle.answers.specs.Looking.{receiverText}
 use Rattle.answers.specs.Readings.{readingsText}
 
@@ -50,6 +51,10 @@ GivenUpFits = (a : GivingUp) → Fits (givenUpText a)
 -- a setup
 abbrev pub SetUpFits : Type 0
 SetUpFits = (a : SettingUp) → Fits (setUpText a)
+
+-- PDUs that are vetted
+abbrev pub VettedFits : Type 0
+VettedFits = (v : Vetted) (message : List ℕ) → length message ≤ messageOctets → Fits (vettedText v message)
 
 -- a line that needs no receiver
 abbrev pub NotedFits : Type 0

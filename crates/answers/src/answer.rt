@@ -12,6 +12,8 @@ use text::hex;
 use text::number;
 use text::refusal;
 use transport::securing::MessageKey;
+use transport::vetting;
+use transport::vetting::Vetted;
 ghost use mathlib.Core.Path.{_≡_};
 ghost use mathlib.Core.List.{_++_};
 ghost use Prim.Native.Nat.{_+_};
@@ -20,7 +22,7 @@ ghost use Rattle.text.specs.Octets.{octets};
 ghost use Rattle.text.specs.Hex.{hexText};
 ghost use Rattle.text.specs.Refusal.{refusalText};
 ghost use Rattle.text.specs.Written.{putting};
-ghost use Rattle.answers.specs.Answer.{named, trialsText, pairText, segmentsText, routeText, keyText, messageText, effectText, accessText, controlText, acknowledgementText, heardText, forwardText, spokenText, givenUpText, setUpText, notedText};
+ghost use Rattle.answers.specs.Answer.{named, trialsText, pairText, segmentsText, routeText, keyText, messageText, effectText, accessText, controlText, acknowledgementText, heardText, forwardText, spokenText, givenUpText, setUpText, vettedText, notedText};
 
 // How many network keys and application keys were tried.
 pub struct Trials {
@@ -260,6 +262,36 @@ pub fn put_set_up(a: SettingUp, out: &mut [u8], at: usize) -> usize
             out,
             at,
         ),
+    }
+}
+
+// `approved message BYTES` and a newline.
+fn put_approved(message: &[u8], out: &mut [u8], at: usize) -> usize
+    ensures { λ r. ⌜ lent r (now (out .exit)) ≡ putting (octets "approved message " ++ (hexText (now (message .entry)) ++ octets "\n")) (now (out .entry)) at ⌝ }
+{
+    let label = text::put(b"approved message ", out, at);
+    let end = hex::put(message, out, label);
+    text::put(b"\n", out, end)
+}
+
+// `refused N at K` and a newline.
+fn put_fault(n: u32, k: usize, out: &mut [u8], at: usize) -> usize
+    ensures { λ r. ⌜ lent r (now (out .exit)) ≡ putting (refusalText n ++ (named " at " 1 k ++ octets "\n")) (now (out .entry)) at ⌝ }
+{
+    let refused = refusal::put(n, out, at);
+    let end = number::put(b" at ", k as u64, 1, out, refused);
+    text::put(b"\n", out, end)
+}
+
+// What PDUs that are vetted are answered; message is the buffer lent for a message.
+pub fn put_vetted(v: Vetted, message: &[u8], out: &mut [u8], at: usize) -> usize
+    ensures { λ r. ⌜ lent r (now (out .exit)) ≡ putting (vettedText v (now (message .entry))) (now (out .entry)) at ⌝ }
+{
+    match v {
+        Vetted::Approved(len) => put_approved(text::first(message, len), out, at),
+        Vetted::ShortBuffer => refusal::put_line(vetting::number(v), out, at),
+        Vetted::Fault(k) => put_fault(vetting::number(v), k, out, at),
+        Vetted::Unfinished => refusal::put_line(vetting::number(v), out, at),
     }
 }
 

@@ -1,5 +1,6 @@
 -- Each line has an answer that fits, and no answer is cut: room is made before it is put.
 -- Assumes nothing.
+use mathlib.Core.Bool.{Bool}
 use mathlib.Core.List.{List}
 use mathlib.Core.Path.{_≡_, ap, sym}
 use Prim.Native.Nat.{ℕ, _≤_}
@@ -18,6 +19,7 @@ use Rattle.answers.specs.Fits.{Fits}
 use Rattle.answers.proofs.Fits.{fits-whole, given-up-fits, set-up-fits, noted-fits}
 use Rattle.answers.proofs.ReadingsFit.{readings-fit}
 use Rattle.console.specs.declared.step.Console.{Console}
+use Rattle.console.specs.Bench.{vets}
 use Rattle.console.specs.Receiving.{hears, speaks, givesUp, shows}
 use Rattle.console.specs.Step.{notes, tells, setsUp, stepping}
 use Rattle.console.specs.Input.{freed, behindAnswers}
@@ -49,6 +51,12 @@ module _ (c : Console) (said : Line) (text octets : List ℕ) where
   unfolding stepping tells
   fits-readings len k = rw k (readings-fit _ _)
 
+  pub fits-vet :
+      (ctl : Bool) (len : ℕ) (list : List ℕ) → said ≡ line.Vet ctl len → list ≡ take len octets → Fits (vets (c .desk) ctl list .text)
+      → Fits (stepping c said text octets .text)
+  unfolding stepping
+  fits-vet ctl len list k cut f = rw (k, ← cut) f
+
   pub fits-set-up : said ≡ line.SetUp → Fits (stepping c said text octets .text)
   unfolding stepping setsUp
   fits-set-up k = rw k (set-up-fits _)
@@ -57,7 +65,7 @@ module _ (c : Console) (said : Line) (text octets : List ℕ) where
   unfolding notes
   fits-note k = rw (noted-is c text octets said k) (noted-fits _)
 
-pub ruleset fits-rules = (fits-hear, fits-send, fits-show, fits-give-up, fits-readings, fits-set-up, fits-note)
+pub ruleset fits-rules = (fits-hear, fits-send, fits-show, fits-give-up, fits-readings, fits-vet, fits-set-up, fits-note)
 
 -- ---- what fits stands whole behind the others
 pub put-whole : (text out : List ℕ) (end : ℕ) → Fits text → 8192 ≤ length out → behindAnswers text (lent end out) ≡ putting text out (freed (length out) end)

@@ -41,7 +41,7 @@ use Rattle.console.specs.Receiving.{lentOf, hearsInto, hears, sent, spea
 use Rattle.console.proofs.AnsweredLaws.{put-answer}
 
 -- of a buffer of zeros as much is lent as `room` said
-lent-is : (n k : ℕ) (z : List ℕ) → z ≡ replicate messageOctets 0 → k ≡ min n (length z) → take k z ≡ lentOf n
+pub lent-is : (n k : ℕ) (z : List ℕ) → z ≡ replicate messageOctets 0 → k ≡ min n (length z) → take k z ≡ lentOf n
 lent-is n k z h e =
     let all : take k z ≡ take n z =
     by-test (ltb n (length z))

@@ -1,6 +1,6 @@
 -- The rules of the console's lines by what they say: what was done for the line makes up what it leaves.
 -- Assumes nothing.
-use mathlib.Core.Bool.{true, false}
+use mathlib.Core.Bool.{Bool, true, false}
 use mathlib.Core.List.{List, [], _∷_}
 use mathlib.Core.Path.{_≡_, refl}
 use Prim.Native.Nat.{ℕ}
@@ -26,6 +26,7 @@ use Rattle.answers.specs.Answer.{setUpText, notedText}
 use Rattle.answers.specs.Readings.{readingsText}
 use Rattle.console.specs.declared.step.Console.{Console}
 use Rattle.console.specs.Answered.{put, answerPut}
+use Rattle.console.specs.Bench.{vets}
 use Rattle.console.specs.Receiving.{hears, speaks, givesUp, shows}
 use Rattle.console.specs.Step.{console, notes, tells, besideReceiver, setUpAs, setsUp, stepping}
 use Rattle.console.proofs.AnsweredLaws.{put-answer, put-part}
@@ -52,6 +53,7 @@ module _ (c : Console) (text octets : List ℕ) where
   noted-is (line.Property property kind) k = refl
   noted-is line.Forget k = refl
   noted-is (line.Readings len) k = absurd (miss notedTags 11 tt k)
+  noted-is (line.Vet ctl len) k = absurd (miss notedTags 12 tt k)
 
 module _ (out : List ℕ) (at n : ℕ) (o : List ℕ) where
   -- ---- a line that needs no receiver
@@ -114,6 +116,12 @@ module _ (out : List ℕ) (at n : ℕ) (o : List ℕ) where
     unfolding stepping
     step-readings len message d k cut e = rw (k, ← cut) (put-part out at n o (λ (x : Desk). console x (c .receiver)) d _ e)
 
+    pub step-vet :
+        (ctl : Bool) (len : ℕ) (list : List ℕ) (d : Desk) → said ≡ line.Vet ctl len → list ≡ take len octets → put d n o ≡ answerPut (vets (c .desk) ctl list) out at
+        → put (console d (c .receiver)) n o ≡ answerPut (stepping c said text octets) out at
+    unfolding stepping
+    step-vet ctl len list d k cut e = rw (k, ← cut) (put-part out at n o (λ (x : Desk). console x (c .receiver)) d _ e)
+
     pub step-set-up :
         (d : Console) → said ≡ line.SetUp → put d n o ≡ answerPut (setsUp c) out at → put d n o ≡ answerPut (stepping c said text octets) out at
     unfolding stepping
@@ -127,4 +135,4 @@ module _ (out : List ℕ) (at n : ℕ) (o : List ℕ) where
 
 pub ruleset set-up-rules = (set-up-ready, set-up-refused)
 
-pub ruleset step-rules = (step-hear, step-send, step-give-up, step-show, step-readings, step-set-up, step-note)
+pub ruleset step-rules = (step-hear, step-send, step-give-up, step-show, step-readings, step-vet, step-set-up, step-note)

@@ -22,6 +22,7 @@ use Rattle.answers.specs.Answer.{setUpText, notedText}
 use Rattle.answers.specs.Readings.{readingsText}
 use Rattle.console.specs.declared.step.Console.{Console}
 use Rattle.console.specs.Answered.{Answered, answered}
+use Rattle.console.specs.Bench.{vets}
 use Rattle.console.specs.Receiving.{hears, speaks, givesUp, shows}
 
 abbrev pub console : Desk → Receiver → Console
@@ -66,6 +67,7 @@ stepping c (line.GiveUp what) text octets = besideDesk (c .desk) (givesUp (c .re
 stepping c line.Show text octets = besideDesk (c .desk) (shows (c .receiver))
 stepping c line.SetUp text octets = setsUp c
 stepping c (line.Readings len) text octets = besideReceiver (c .receiver) (tells (c .desk) (take len octets))
+stepping c (line.Vet ctl len) text octets = besideReceiver (c .receiver) (vets (c .desk) ctl (take len octets))
 stepping c (line.Give item) text octets = besideReceiver (c .receiver) (notes (c .desk) (line.Give item) text)
 stepping c (line.Property property kind) text octets = besideReceiver (c .receiver) (notes (c .desk) (line.Property property kind) text)
 stepping c line.Forget text octets = besideReceiver (c .receiver) (notes (c .desk) line.Forget text)

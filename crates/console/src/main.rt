@@ -2,6 +2,7 @@
 //
 // The crate `commands` has the form of each line over the function that reads it, the crate `answers` that of each answer. A line that fits no form
 // is answered `unread` and changes nothing.
+mod bench;
 mod input;
 mod lent;
 mod receiving;

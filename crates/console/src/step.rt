@@ -1,4 +1,5 @@
 // One line is answered: by the receiver, or by the desk beside it. Its answer is put behind the others in `out`; `at` says how far they go.
+use super::bench;
 use super::receiving;
 use answers::answer;
 use commands::desk;
@@ -62,6 +63,10 @@ pub(crate) fn step(
         },
         Line::Readings(len) => Console {
             desk: tell(desk, text::first(octets, len), out, at),
+            receiver: r,
+        },
+        Line::Vet { ctl, len } => Console {
+            desk: bench::vet(desk, ctl, text::first(octets, len), out, at),
             receiver: r,
         },
         Line::SetUp => set_up(c, out, at),

@@ -28,7 +28,7 @@ use Rattle.transport.specs.declared.securing.MessageKey.{MessageKey}
 use Rattle.transport.specs.declared.securing.MessageKey.the-variants.{Application, Device}
 use Rattle.transport.specs.LeadsBack.{SegmentOf}
 use Rattle.transport.specs.Securing.{transMic, applicationKeyAt}
-use Rattle.transport.specs.Segment.{messageOctets, controlOctet, segmentNumber, segmentFront}
+use Rattle.transport.specs.Segment.{messageOctets, controlOctet, segmentNumber, segmentFront, lastSegment}
 use Rattle.transport.proofs.SecureOpen.{secured-length}
 use Rattle.node.specs.Addresses.{isLocal, listens, answersTo, forNode}
 use Rattle.node.specs.Setup.{boundWithin, keysValid, nextWithin, elementsValid, groupsValid, indexValid, valid, materialAt, boundKeyAt, groupAt, nodeOf, making}
@@ -93,7 +93,7 @@ secured-octets s key szmic payload e =
     rw (cut-is node s (Access key szmic payload) e) (secured-length (keyOf node key) (envelopeOf node s key szmic) payload)
 
 segn-is : (k : ℕ) → k < 8 → lastOf node (speechAt crowd k) ≡ lasts k
-unfolding lastOf octetsOf
+unfolding lastOf lastSegment octetsOf
 segn-is k h =
     each-below (λ (n : ℕ). lastOf node (speechAt crowd n) ≡ lasts n) 0 8
     (rw (secured-octets (speechAt crowd 0) (Application 0) false (replicate 380 0x5a) refl) refl
@@ -243,11 +243,11 @@ unfolding opens
 unopened j keys pdu e t = ap (λ (k : NetworkKeys). tried k j 0x12345678 pdu .ok) e ∙ t
 
 sent-0 : segmentPdu node (speechAt crowd 6) 0 0x000700 boxTtl ≡ pdu0
-unfolding headerOf segmentOf lastOf octetsOf segmentFront segmentNumber controlOctet octets
+unfolding headerOf segmentOf lastOf lastSegment octetsOf segmentFront segmentNumber controlOctet octets
 sent-0 = rw second-key sealed-0
 
 sent-1 : segmentPdu node (speechAt crowd 6) 1 0x000701 boxTtl ≡ pdu1
-unfolding headerOf segmentOf lastOf octetsOf segmentFront segmentNumber controlOctet octets
+unfolding headerOf segmentOf lastOf lastSegment octetsOf segmentFront segmentNumber controlOctet octets
 sent-1 = rw second-key sealed-1
 
 by-second : (i : ℕ) → OwnFirst 6 i (0x000700 + i) → fitting 6 i (0x000700 + i) ≡ true → Arrives node crowd spent (sent 6 i)

@@ -20,6 +20,7 @@ use Rattle.network.specs.Opening.{opening}
 use Rattle.transport.specs.declared.securing.MessageKey.the-variants.{Application}
 use Rattle.transport.specs.LeadsBack.{SegmentOf}
 use Rattle.transport.specs.Securing.{applicationKeyAt}
+use Rattle.transport.specs.Segment.{lastSegment}
 use Rattle.transport.proofs.SecureOpen.{secured-length}
 use Rattle.node.specs.Addresses.{isLocal, answersTo, forNode}
 use Rattle.node.specs.Setup.{boundWithin, keysValid, nextWithin, elementsValid, groupsValid, indexValid, valid, boundKeyAt, nodeOf, making}
@@ -59,11 +60,11 @@ humidity-octets =
     (secured-length (keyOf node (Application 0)) (envelopeOf node humidity (Application 0) false) (replicate 20 0x5a))
 
 humidity-last : lastOf node humidity ≡ 1
-unfolding lastOf
+unfolding lastOf lastSegment
 humidity-last = rw humidity-octets refl
 
 temperature-last : lastOf node temperature ≡ 1
-unfolding lastOf octetsOf
+unfolding lastOf lastSegment octetsOf
 temperature-last = refl
 
 speaks-humidity : Speakable node humidity

@@ -24,19 +24,22 @@ use Rattle.sending.specs.declared.answer.Spoken.{Spoken}
 use Rattle.sending.specs.declared.request.Request.{Request}
 use Rattle.sending.specs.Access.{keyed, envelopeOf}
 use Rattle.sending.specs.Segment.{starting}
+use Rattle.sending.specs.Sendable.{Sendable}
 use Rattle.sending.specs.Transmission.{nextSeq}
 use Rattle.sending.proofs.Laws.Allowed.{Asked, access-allows, control-allows, access-alone, control-alone}
 use Rattle.sending.proofs.Laws.Calls.{walk-access, walk-control, walk-segment, walk-acknowledge}
+use Rattle.sending.proofs.Laws.Sendable.{access-sendable, control-sendable}
 use Rattle.sending.proofs.Laws.Shapes.{keeps-access, keeps-control}
 use Rattle.sending.proofs.Laws.Transmitted.{used, saying, by-saying, by-starting, by-stopping}
 use Rattle.demands.specs.Call.{Call, Hear, GiveUp, SendAccess, SendControl, SendSegment, Acknowledge, Stop, step}
 
--- none is kept, and one that is asked for and allowed will be
+-- none is kept, and one that is asked for and allowed will be: it can be sent in segments
 pub record Begins (r : Receiver) (o : Outgoing) : Type 0 where
   pub request : Request
   pub asks : Asked (r .node) request
   pub to-whom : o .terms .dst ≡ request .dst
   pub alone : r .out .src ≡ 0
+  pub sendable : Sendable o
 
 abbrev pub says : Call → Bool
 says (Hear pdu fwd msg) = false
@@ -81,6 +84,7 @@ module _ (r : Receiver) (P : Receiver → Type 0) where
           asks = access-allows r q key szmic (length payload) a .asks;
           to-whom = ap (λ (t : Terms). t .dst) (keeps-access (envelopeOf r q k szmic) q k payload .terms-is);
           alone = access-alone r q key szmic (length payload) a i;
+          sendable = access-sendable r q key szmic payload a i;
         }))
     walk-said (SendControl q opcode parameters buf) e =
         walk-control r buf LeftBy (λ _ _. w .stays) q opcode parameters (λ _ _. said buf (q .element) _)
@@ -90,6 +94,7 @@ module _ (r : Receiver) (P : Receiver → Type 0) where
           asks = control-allows r q opcode (length parameters) a .asks;
           to-whom = ap (λ (t : Terms). t .dst) (keeps-control r q opcode parameters .terms-is);
           alone = control-alone r q opcode (length parameters) a i;
+          sendable = control-sendable r q opcode parameters a i;
         }))
     walk-said (SendSegment n buf) e = walk-segment r buf LeftBy (λ _ _. w .stays) n (λ _ _. said buf _ _)
     walk-said (Acknowledge net src buf) e = walk-acknowledge r buf LeftBy (λ _ _. w .stays) net src (λ _ _. said buf _ _)

@@ -42,6 +42,7 @@ pub mod SendingsMet
 pub mod Forwarding
 pub mod Reserved
 pub mod OwnVoice
+pub mod OwnSegments
 pub mod CacheHolds
 pub mod ForwardingMet
 pub mod AcknowledgedMet

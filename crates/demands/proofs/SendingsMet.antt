@@ -15,7 +15,7 @@ use Rattle.network.specs.Address.{kindOf, isReserved}
 use Rattle.network.specs.IvIndex.{ivIndexSent}
 use Rattle.network.specs.Opening.{opening}
 use Rattle.transport.specs.declared.securing.MessageKey.the-variants.{Application}
-use Rattle.transport.specs.Segment.{messageOctets}
+use Rattle.transport.specs.Segment.{messageOctets, lastSegment}
 use Rattle.transport.proofs.SecureOpen.{secured-length}
 use Rattle.memory.specs.declared.outgoing.Outgoing.{Outgoing}
 use Rattle.node.specs.declared.addresses.Node.{Node}
@@ -209,14 +209,14 @@ before-index = refl
 -- ---- SegN
 -- 20 octets and a TransMIC of 8 make three segments; 12 parameters two
 report-last : (sender : Receiver) → lastOf (sender .node) (saidBy sender toShed report) ≡ 2
-unfolding lastOf
+unfolding lastOf lastSegment
 report-last sender =
     let s = saidBy sender toShed report in
     let own = sender .node in
     rw (cut-is own s report refl, secured-length (keyOf own (Application 0)) (envelopeOf own s (Application 0) true) (replicate 20 0x5a)) refl
 
 command-last : (sender : Receiver) → lastOf (sender .node) (saidBy sender toShed command) ≡ 1
-unfolding lastOf octetsOf
+unfolding lastOf lastSegment octetsOf
 command-last sender = refl
 
 -- ---- the messages

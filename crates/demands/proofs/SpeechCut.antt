@@ -20,7 +20,7 @@ use Rattle.common.proofs.Tests.{by-test}
 use Rattle.transport.specs.declared.securing.Envelope.{Envelope}
 use Rattle.transport.specs.declared.securing.MessageKey.the-variants.{Application, Device}
 use Rattle.transport.specs.Securing.{secured}
-use Rattle.transport.specs.Segment.{messageOctets, fullOctets}
+use Rattle.transport.specs.Segment.{messageOctets, fullOctets, lastSegment}
 use Rattle.transport.proofs.SecureOpen.{secured-length}
 use Rattle.node.specs.declared.addresses.Node.{Node}
 use Rattle.demands.specs.Speech.{Words, Access, Control, Speech, isControl, cutOf, octetsOf, sizeOf, lastOf, Fits, WordsRead, Speakable}
@@ -80,7 +80,7 @@ module _ (node : Node) (s : Speech) where
 
   module _ (c : Cut node s) where
     cut-count : lastOf node s + 1 ≡ chunkCount (sizeOf s) (length (octetsOf node s))
-    unfolding lastOf
+    unfolding lastOf lastSegment
     cut-count =
         let b = size-bounds s in
         let some = c .some in

@@ -14,5 +14,6 @@ pub mod Forwarding
 pub mod Reserved
 pub mod CacheHolds
 pub mod OwnVoice
+pub mod OwnSegments
 pub mod Instance
 pub mod Invariant

@@ -9,12 +9,11 @@
 --   networkPlace, applicationPlace    how many keys are tried for it
 -- Keys are named by their places in the receiver's own lists.
 use mathlib.Core.Bool.{Bool, true, false}
-use mathlib.Core.List.{List, _++_}
+use mathlib.Core.List.{List}
 use mathlib.Core.Logic.{_⊎_}
 use mathlib.Core.Path.{_≡_}
-use Prim.Native.Nat.{ℕ, _+_, _-_, _%_, _≤_, _<_, min}
+use Prim.Native.Nat.{ℕ, _+_, _%_, _≤_, _<_, min}
 use lib.ListN.{length}
-use Rattle.common.specs.Chunks.{chunk, chunkCount}
 use Rattle.common.specs.Lists.{padded}
 use Rattle.network.specs.declared.header.Header.{Header}
 use Rattle.network.specs.Address.{isUnicast}
@@ -26,7 +25,7 @@ use Rattle.transport.specs.declared.securing.MessageKey.the-variants.{Applicati
 use Rattle.transport.specs.Ranges.{OpcodeInRange}
 use Rattle.transport.specs.SecureOpen as message
 use Rattle.transport.specs.Securing.{secured, applicationKeyAt, applicationCandidates}
-use Rattle.transport.specs.Segment.{messageOctets, accessOctet, controlOctet, fullOctets, segmentFront}
+use Rattle.transport.specs.Segment.{messageOctets, accessOctet, controlOctet, fullOctets, lastSegment, segmentAt}
 use Rattle.memory.specs.declared.pair.Pair.{Pair}
 use Rattle.node.specs.declared.addresses.Node.{Node}
 use Rattle.node.specs.Addresses.{forNode}
@@ -103,13 +102,12 @@ sizeOf s = fullOctets (isControl (s .words))
 
 -- SegN
 unfoldable pub lastOf : Node → Speech → ℕ
-lastOf node s = chunkCount (sizeOf s) (length (octetsOf node s)) - 1
+lastOf node s = lastSegment (sizeOf s) (length (octetsOf node s))
 
 -- ---- a segment
--- octet 0, SZMIC, SeqZero, SegO, SegN; then the chunk
+-- SeqZero are the low 13 bits of SeqAuth
 unfoldable pub segmentOf : Node → Speech → ℕ → List ℕ
-segmentOf node s i =
-    segmentFront (firstOf node (s .words)) (szmicOf (s .words)) (s .auth .seq % 8192) i (lastOf node s) ++ chunk (sizeOf s) (octetsOf node s) i
+segmentOf node s i = segmentAt (sizeOf s) (firstOf node (s .words)) (szmicOf (s .words)) (s .auth .seq % 8192) (lastOf node s) (octetsOf node s) i
 
 unfoldable pub headerOf : Node → Speech → (i seq ttl : ℕ) → Header
 headerOf node s i seq ttl =

@@ -8,6 +8,7 @@ pub determinate : Determinate
 determinate =
     record {
       -- common
+      common-octet = λ m _ o _. of-one m (λ d. (d, o .1));
       common-copy = λ m _ _ _. of-one m (λ d. (tt, (tt, (d, tt))));
       common-equal = λ m _ o _. of-one m (λ d. (d, o .1));
       common-bits-has = λ m _ o _. of-one m (λ d. (d, o .1));
@@ -54,6 +55,8 @@ determinate =
       transport-segment-front = λ m _ o _. of-one m (λ d. (d, o .1));
       transport-segment-acknowledgement = λ m _ o _. of-one m (λ d. (d, o .1));
       transport-seq-auth-find = λ m _ o _. of-one m (λ d. (d, o .1));
+      transport-vetting-vet = λ m _ _ _. of-one m (λ d. (d .answer, (tt, (tt, (d .buffer, tt)))));
+      transport-vetting-number = λ m _ o _. of-one m (λ d. (d, o .1));
       -- memory
       memory-cache-none = λ m _ o _. of-one m (λ d. (d, o .1));
       memory-cache-is-seen = λ m _ o _. of-one m (λ d. (d, o .1));
@@ -164,6 +167,7 @@ determinate =
       answers-answer-put-given-up = λ m _ _ _. of-one m (λ d. (d .answer, (tt, (d .buffer, (tt, tt)))));
       answers-answer-put-set-up = λ m _ _ _. of-one m (λ d. (d .answer, (tt, (d .buffer, (tt, tt)))));
       answers-answer-put-noted = λ m _ _ _. of-one m (λ d. (d .answer, (tt, (d .buffer, (tt, tt)))));
+      answers-answer-put-vetted = λ m _ _ _. of-one m (λ d. (d .answer, (tt, (tt, (d .buffer, (tt, tt))))));
       answers-answer-put-unread = λ m _ _ _. of-one m (λ d. (d .answer, (d .buffer, (tt, tt))));
       answers-looking-put-receiver = λ m _ _ _. of-one m (λ d. (d .answer, (tt, (d .buffer, (tt, tt)))));
       answers-readings-put-readings = λ m _ _ _. of-one m (λ d. (d .answer, (tt, (tt, (d .buffer, (tt, tt))))));

@@ -22,6 +22,7 @@ use Rattle.determinacy.specs.Outcome.{DeterminedAs, Determined}
 
 pub record Determinate : Type 2 where
   -- common
+  pub common-octet : Determined common.octet.ended (λ _. common.octet.clauses)
   pub common-copy : Determined common.copy.ended (λ _. common.copy.clauses)
   pub common-equal : Determined common.equal.ended (λ _. common.equal.clauses)
   pub common-bits-has : Determined common.bits.has.ended (λ _. common.bits.has.clauses)
@@ -68,6 +69,8 @@ pub record Determinate : Type 2 where
   pub transport-segment-front : Determined transport.segment.front.ended (λ _. transport.segment.front.clauses)
   pub transport-segment-acknowledgement : Determined transport.segment.acknowledgement.ended (λ _. transport.segment.acknowledgement.clauses)
   pub transport-seq-auth-find : Determined transport.«seq_auth».find.ended (λ _. transport.«seq_auth».find.clauses)
+  pub transport-vetting-vet : Determined transport.vetting.vet.ended (λ _. transport.vetting.vet.clauses)
+  pub transport-vetting-number : Determined transport.vetting.number.ended (λ _. transport.vetting.number.clauses)
   -- memory
   pub memory-cache-none : Determined memory.cache.none.ended (λ _. memory.cache.none.clauses)
   pub memory-cache-is-seen : Determined memory.cache.«is_seen».ended (λ _. memory.cache.«is_seen».clauses)
@@ -178,6 +181,7 @@ pub record Determinate : Type 2 where
   pub answers-answer-put-given-up : Determined answers.answer.«put_given_up».ended (λ _. answers.answer.«put_given_up».clauses)
   pub answers-answer-put-set-up : Determined answers.answer.«put_set_up».ended (λ _. answers.answer.«put_set_up».clauses)
   pub answers-answer-put-noted : Determined answers.answer.«put_noted».ended (λ _. answers.answer.«put_noted».clauses)
+  pub answers-answer-put-vetted : Determined answers.answer.«put_vetted».ended (λ _. answers.answer.«put_vetted».clauses)
   pub answers-answer-put-unread : Determined answers.answer.«put_unread».ended (λ _. answers.answer.«put_unread».clauses)
   pub answers-looking-put-receiver : Determined answers.looking.«put_receiver».ended (λ _. answers.looking.«put_receiver».clauses)
   pub answers-readings-put-readings : Determined answers.readings.«put_readings».ended (λ _. answers.readings.«put_readings».clauses)

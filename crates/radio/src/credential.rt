@@ -3,17 +3,10 @@ use keys::NetworkKeys;
 ghost use mathlib.Core.Path.{_≡_};
 ghost use Prim.Native.Nat.{_≤_};
 ghost use lib.Dec.{eqb};
-ghost use lib.ListN.{length, getD, drop};
+ghost use lib.ListN.{length, drop};
 ghost use Rattle.common.specs.Lists.{padded};
 ghost use Rattle.network.specs.Candidates.{candidates};
 ghost use Rattle.radio.specs.Credential.{credentialOf, pieceAt, pieces, pieceCount};
-
-// The octet of s at i.
-pub(crate) fn octet(s: &[u8], i: usize) -> u8
-    ensures { λ r. ⌜ r ≡ getD (now (s .entry)) i 0 ⌝ }
-{
-    if i < s.len() { s[i] } else { 0 }
-}
 
 // The sixteen octets of s from `at` on.
 pub(crate) fn sixteen(s: &[u8], at: usize) -> [u8; 16]
@@ -76,7 +69,7 @@ pub(crate) fn piece(cs: &[u8], i: usize) -> NetworkKeys
 {
     let at = 33 * i;
     NetworkKeys {
-        nid: octet(cs, at),
+        nid: common::octet(cs, at),
         encryption: sixteen(cs, at + 1),
         privacy: sixteen(cs, at + 17),
     }

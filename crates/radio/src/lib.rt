@@ -64,7 +64,7 @@ pub extern "C" fn gorephan_open(credentials: &[u8], iv: u32, pdu: &[u8], out: &m
         return pack(refusal, trials, 0, 0);
     }
     let h = o.header;
-    let n = clear_pdu::write(credential::octet(pdu, 0), h, out);
+    let n = clear_pdu::write(common::octet(pdu, 0), h, out);
     pack(0, trials, n, h.key)
 }
 

@@ -21,7 +21,7 @@ use Rattle.transport.specs.declared.securing.Envelope.{Envelope}
 use Rattle.transport.specs.declared.securing.MessageKey.{MessageKey}
 use Rattle.transport.specs.declared.securing.MessageKey.the-variants.{Application, Device}
 use Rattle.transport.specs.Securing.{applicationKeyPlaces, transMic, applicationKeyAt, secured, securing}
-use Rattle.transport.specs.Segment.{messageOctets, fullOctets, accessOctet}
+use Rattle.transport.specs.Segment.{messageOctets, fullOctets, accessOctet, lastSegment}
 use Rattle.transport.proofs.SecureOpen.{secured-length}
 use Rattle.memory.specs.declared.outgoing.Outgoing.{Outgoing}
 use Rattle.node.specs.declared.addresses.Node.{Node}
@@ -33,7 +33,7 @@ use Rattle.sending.specs.declared.answer.Spoken.{Spoken}
 use Rattle.sending.specs.declared.request.Request.{Request}
 use Rattle.sending.specs.declared.transmission.Transmitted.{Transmitted}
 use Rattle.sending.specs.Answer.{refusedAt, spoken}
-use Rattle.sending.specs.Access.{keyed, keyAllowed, isWhole, sizeAllowed, accessAllowed, envelopeOf, wholePdu, wholeHeader, lastSegment, outgoingOf, sayingAccess, sendingAccess}
+use Rattle.sending.specs.Access.{keyed, keyAllowed, isWhole, sizeAllowed, accessAllowed, envelopeOf, wholePdu, wholeHeader, outgoingOf, sayingAccess, sendingAccess}
 use Rattle.sending.specs.Request.{ttlOf, requestAllowed}
 use Rattle.sending.specs.Segment.{starting}
 use Rattle.sending.specs.Transmission.{transmitted}

@@ -15,7 +15,7 @@ use Rattle.common.proofs.Tests.{and-first, and-second}
 use Rattle.network.specs.declared.header.Header.{Header}
 use Rattle.network.proofs.TrialLaws.{onto-zeros}
 use Rattle.network.specs.Pdu.{pduOctets}
-use Rattle.transport.specs.Segment.{messageOctets, fullOctets, controlOctet}
+use Rattle.transport.specs.Segment.{messageOctets, fullOctets, controlOctet, lastSegment}
 use Rattle.memory.specs.declared.outgoing.Outgoing.{Outgoing}
 use Rattle.node.specs.Addresses.{elementPlaces}
 use Rattle.receiver.specs.declared.answer.Refusal.the-variants as refusal
@@ -23,7 +23,6 @@ use Rattle.receiver.specs.declared.state.Receiver.{Receiver}
 use Rattle.sending.specs.declared.answer.Spoken.{Spoken}
 use Rattle.sending.specs.declared.request.Request.{Request}
 use Rattle.sending.specs.declared.transmission.Transmitted.{Transmitted}
-use Rattle.sending.specs.Access.{lastSegment}
 use Rattle.sending.specs.Answer.{refusedAt, spoken}
 use Rattle.sending.specs.Control.{controlAllowed, wholeHeader, outgoingOf, sayingControl, sendingControl}
 use Rattle.sending.specs.Request.{ttlOf, requestAllowed}

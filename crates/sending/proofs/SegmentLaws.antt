@@ -122,7 +122,7 @@ module _ (o : Outgoing) (segO start end : ℕ) (es : start ≡ chunkPlace (o .te
   end-is = rw (← es) at ee
 
   pub pdu-length : 4 + (end - start) ≡ length (segmentPdu o segO)
-  unfolding segmentPdu
+  unfolding segmentPdu outgoingChunk
   pdu-length =
       let e = end-is in
       let m : end - start ≡ length (outgoingChunk o segO) = omega arith in
@@ -139,7 +139,7 @@ module _ (o : Outgoing) (segO start end : ℕ) (es : start ≡ chunkPlace (o .te
       → (t : List ℕ) → t ≡ onto (take 16 f) (replicate 16 0)
       → (y : List ℕ) → (let d = take 12 (drop 4 t) in y ≡ onto (take (length d) (take (end - start) (drop start (o .bytes)))) d)
       → take 4 t ++ (y ++ drop 12 (drop 4 t)) ≡ padded 16 (segmentPdu o segO)
-  unfolding segmentPdu
+  unfolding segmentPdu outgoingChunk
   pdu-written f ef t et y ey =
       let lf : length f ≡ 4 = ap length ef ∙ length-front (o .terms .first) (o .terms .szmic) (o .auth .seq % 8192) segO (o .terms .segn) in
       let u : t ≡ f ++ drop 4 (replicate 16 0) =

@@ -5,11 +5,10 @@
 --   sendingAccess r q key szmic payload buf   what a call leaves
 use mathlib.Core.Bool.{Bool, true, false, _&&_, _||_, not}
 use mathlib.Core.List.{List, _∷_}
-use Prim.Native.Nat.{ℕ, _-_, min}
+use Prim.Native.Nat.{ℕ, min}
 use lib.Dec.{eqb, leb, ltb}
 use lib.ListN.{length, replicate}
 use Rattle.common.specs.Choice.{if_then_else_}
-use Rattle.common.specs.Chunks.{chunkCount}
 use Rattle.common.specs.Lent.{Lent, lent}
 use Rattle.common.specs.Lists.{padded}
 use Rattle.network.specs.declared.header.Header.{Header}
@@ -19,7 +18,7 @@ use Rattle.transport.specs.declared.securing.Envelope.{Envelope}
 use Rattle.transport.specs.declared.securing.MessageKey.{MessageKey}
 use Rattle.transport.specs.declared.securing.MessageKey.the-variants.{Application, Device}
 use Rattle.transport.specs.Securing.{applicationKeyPlaces, applicationKeyAt, secured}
-use Rattle.transport.specs.Segment.{messageOctets, accessOctet}
+use Rattle.transport.specs.Segment.{messageOctets, accessOctet, lastSegment}
 use Rattle.memory.specs.declared.outgoing.Outgoing.{Outgoing}
 use Rattle.node.specs.declared.addresses.Node.{Node}
 use Rattle.receiver.specs.declared.answer.Refusal.the-variants as refusal
@@ -89,10 +88,6 @@ wholeHeader e q k payload =
       len = length (wholePdu e k payload);
       transport = padded 16 (wholePdu e k payload);
     }
-
--- SegN of a message of so many octets
-unfoldable pub lastSegment : ℕ → ℕ → ℕ
-lastSegment size len = chunkCount size len - 1
 
 -- the secured message, as it is kept: its SeqAuth is the SEQ of segment 0
 unfoldable pub outgoingOf : Envelope → Request → KeyUsed → List ℕ → Outgoing

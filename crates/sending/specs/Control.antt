@@ -13,13 +13,12 @@ use Rattle.common.specs.Lent.{Lent, lent}
 use Rattle.common.specs.Lists.{padded}
 use Rattle.network.specs.declared.header.Header.{Header}
 use Rattle.network.specs.Pdu.{pduOctets}
-use Rattle.transport.specs.Segment.{messageOctets, controlOctet}
+use Rattle.transport.specs.Segment.{messageOctets, controlOctet, lastSegment}
 use Rattle.memory.specs.declared.outgoing.Outgoing.{Outgoing}
 use Rattle.receiver.specs.declared.answer.Refusal.the-variants as refusal
 use Rattle.receiver.specs.declared.state.Receiver.{Receiver}
 use Rattle.sending.specs.declared.answer.Spoken.{Spoken}
 use Rattle.sending.specs.declared.request.Request.{Request}
-use Rattle.sending.specs.Access.{lastSegment}
 use Rattle.sending.specs.Answer.{refusedAt, spoken}
 use Rattle.sending.specs.Request.{ttlOf, requestAllowed}
 use Rattle.sending.specs.Segment.{starting}

@@ -8,3 +8,4 @@ pub mod Control
 pub mod Acknowledge
 pub mod Stop
 pub mod NewSeq
+pub mod Sendable

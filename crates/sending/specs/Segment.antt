@@ -3,7 +3,7 @@
 --   starting r element o buf       what beginning a message leaves
 --   sendingSegment r n buf         what sending a named segment leaves
 use mathlib.Core.Bool.{Bool, _&&_, not}
-use mathlib.Core.List.{List, _++_}
+use mathlib.Core.List.{List}
 use Prim.Native.Nat.{ℕ, _+_, _-_, _*_, _%_}
 use lib.Dec.{eqb, leb, ltb}
 use lib.ListN.{length, take}
@@ -14,7 +14,7 @@ use Rattle.common.specs.Lent.{Lent, lent}
 use Rattle.common.specs.Lists.{padded}
 use Rattle.network.specs.declared.header.Header.{Header}
 use Rattle.network.specs.Pdu.{pduOctets}
-use Rattle.transport.specs.Segment.{fullOctets, segmentFront}
+use Rattle.transport.specs.Segment.{fullOctets, segmentAt}
 use Rattle.memory.specs.declared.outgoing.Outgoing.{Outgoing}
 use Rattle.node.specs.declared.addresses.Node.{Node}
 use Rattle.node.specs.Addresses.{elementPlaces, isLocal}
@@ -36,9 +36,10 @@ chunkPlace ctl segO = segO * fullOctets ctl
 unfoldable pub outgoingChunk : Outgoing → ℕ → List ℕ
 outgoingChunk o segO = chunk (fullOctets (o .terms .ctl)) (take (o .len) (o .bytes)) segO
 
--- octet 0, SZMIC, SeqZero, SegO, SegN; then the chunk
+-- the transport PDU of segment SegO: SeqZero are the low 13 bits of SeqAuth
 unfoldable pub segmentPdu : Outgoing → ℕ → List ℕ
-segmentPdu o segO = segmentFront (o .terms .first) (o .terms .szmic) (o .auth .seq % 8192) segO (o .terms .segn) ++ outgoingChunk o segO
+segmentPdu o segO =
+    segmentAt (fullOctets (o .terms .ctl)) (o .terms .first) (o .terms .szmic) (o .auth .seq % 8192) (o .terms .segn) (take (o .len) (o .bytes)) segO
 
 -- TTL, key and IV Index are those of the start; SEQ and SRC are stamped on when it is sent
 unfoldable pub segmentHeader : Outgoing → ℕ → Header

@@ -17,9 +17,9 @@ ghost use lib.ListN.{length};
 ghost use Rattle.common.specs.Lent.{lent};
 ghost use Rattle.modes.specs.Ccm.{micOctets};
 ghost use Rattle.transport.specs.Securing.{transMic};
-ghost use Rattle.transport.specs.Segment.{messageOctets, fullOctets};
+ghost use Rattle.transport.specs.Segment.{messageOctets, fullOctets, lastSegment};
 ghost use Rattle.node.specs.Addresses.{elementPlaces};
-ghost use Rattle.sending.specs.Access.{keyed, keyAllowed, isWhole, sizeAllowed, accessAllowed, envelopeOf, wholeHeader, lastSegment, outgoingOf, sayingAccess, sendingAccess};
+ghost use Rattle.sending.specs.Access.{keyed, keyAllowed, isWhole, sizeAllowed, accessAllowed, envelopeOf, wholeHeader, outgoingOf, sayingAccess, sendingAccess};
 
 // The key that secures a message, and what octet 0 and the nonce say of it.
 pub struct KeyUsed {

@@ -8,3 +8,10 @@ pub mod ReadsBack
 pub mod Examples
 pub mod SecureOpen
 pub mod PaperLaws
+pub mod ListedLaws
+pub mod VettingRules
+pub mod FitLaws
+pub mod BeginsFit
+pub mod VettedExactly
+pub mod VettedMet
+pub mod VetRules

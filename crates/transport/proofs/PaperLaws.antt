@@ -1,4 +1,4 @@
--- A form, a SeqAuth and an opened message are read back from how they are given. Assumes nothing.
+-- A form, a SeqAuth, an opened message and what was vetted are read back from how they are given. Assumes nothing.
 use mathlib.Core.List.{List}
 use mathlib.Core.Path.{_≡_, refl}
 use Prim.Native.Nat.{ℕ, _+_}
@@ -16,9 +16,12 @@ use Rattle.transport.specs.declared.securing.Opened.{Opened}
 use Rattle.transport.specs.declared.securing.Opened.the-variants.{Message, NotOpened, ShortBuffer}
 use Rattle.transport.specs.declared.seq_auth.SeqAuth.{SeqAuth}
 use Rattle.transport.specs.declared.seq_auth.SeqAuth.the-variants.{At, Nowhere}
+use Rattle.transport.specs.declared.vetting.Vetted.{Vetted}
+use Rattle.transport.specs.declared.vetting.Vetted.the-variants as vetted
 use Rattle.transport.specs.Form as form
 use Rattle.transport.specs.Securing as securing
 use Rattle.transport.specs.SeqAuth as seq-auth
+use Rattle.transport.specs.Vetting as vetting
 
 -- ---- SeqAuth
 abbrev readAuth : Paper seq-auth.Word → SeqAuth
@@ -71,3 +74,17 @@ opened-back ShortBuffer = refl
 
 pub opened-apart : securing.PaperApart
 opened-apart = told-apart securing.paper readOpened opened-back
+
+-- ---- what was vetted
+abbrev readVetted : Paper vetting.Word → Vetted
+readVetted (Given vetting.approved v) = vetted.Approved (getD v 0 0)
+readVetted (Refusal n v) = if eqb n 16 then vetted.ShortBuffer else if eqb n 26 then vetted.Fault (getD v 0 0) else vetted.Unfinished
+
+vetted-back : (v : Vetted) → readVetted (vetting.paper v) ≡ v
+vetted-back (vetted.Approved len) = refl
+vetted-back vetted.ShortBuffer = refl
+vetted-back (vetted.Fault k) = refl
+vetted-back vetted.Unfinished = refl
+
+pub vetted-apart : vetting.PaperApart
+vetted-apart = told-apart vetting.paper readVetted vetted-back

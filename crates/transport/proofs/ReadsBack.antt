@@ -61,14 +61,14 @@ kind-control o r = rw (ne-eqb o 0 (λ e. omega (arith, r .not-zero)), le-leb o 0
 
 -- ---- octets 1-3 of a segment
 -- the number gives its fields back, and has 24 bits
-record FieldsBack (s : Bool) (z o n number : ℕ) : Type 0 where
-  is-szmic : szmic number ≡ s
-  is-seqZero : seqZero number ≡ z
-  is-segO : segO number ≡ o
-  is-segN : segN number ≡ n
-  small : number < 16777216
+pub record FieldsBack (s : Bool) (z o n number : ℕ) : Type 0 where
+  pub is-szmic : szmic number ≡ s
+  pub is-seqZero : seqZero number ≡ z
+  pub is-segO : segO number ≡ o
+  pub is-segN : segN number ≡ n
+  pub small : number < 16777216
 
-fields-back : (s : Bool) (z o n : ℕ) → z < 8192 → o < 32 → n < 32 → FieldsBack s z o n (segmentNumber s z o n)
+pub fields-back : (s : Bool) (z o n : ℕ) → z < 8192 → o < 32 → n < 32 → FieldsBack s z o n (segmentNumber s z o n)
 unfolding segmentNumber
 fields-back true z o n hz ho hn =
     record {
@@ -88,7 +88,7 @@ fields-back false z o n hz ho hn =
     }
 
 -- a number of 24 bits is that of its three octets
-three : (a number : ℕ) (l : List ℕ) → number < 16777216 → number ≡ fieldsNumber ((a ∷ octets 3 number) ++ l)
+pub three : (a number : ℕ) (l : List ℕ) → number < 16777216 → number ≡ fieldsNumber ((a ∷ octets 3 number) ++ l)
 unfolding octets
 three a number l h = omega arith
 

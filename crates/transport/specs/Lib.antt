@@ -1,4 +1,5 @@
--- What transport (MP 3.5, 3.6) is read and written by: SeqAuth, opcodes, the fields of a transport PDU, its form, segments, acknowledgements, securing.
+-- What transport (MP 3.5, 3.6) is read and written by: SeqAuth, opcodes, the fields of a transport PDU, its form, segments, acknowledgements, securing;
+-- and vetting.
 pub mod SeqAuth
 pub mod LeadsBack
 pub mod Opcode
@@ -11,3 +12,6 @@ pub mod ReadsBack
 pub mod Examples
 pub mod Securing
 pub mod SecureOpen
+pub mod Vetting
+pub mod VettedExactly
+pub mod VettedMet

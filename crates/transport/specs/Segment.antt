@@ -1,13 +1,16 @@
--- The octets of a segment in front of its body, and an acknowledgement, as they are sent (document 01, "Transport").
+-- Segments of an upper transport PDU, with the octets in front of their bodies, and an acknowledgement, as they are sent (document 01, "Transport").
 --   accessOctet seg akf aid, controlOctet seg opcode   octet 0
 --   segmentFront first szmic seqZero segO segN         the four octets in front of a segment
 --   acknowledgementOctets obo seqZero bits             the seven octets of an acknowledgement
 --   fullOctets ctl                                     how many octets a full segment has behind the four
+--   lastSegment size len                               SegN of a message of so many octets
+--   segmentAt size first szmic seqZero segN u segO     a segment of the upper transport PDU u
 -- A number wider than its field counts by its low bits; RFU bits are written 0.
 use mathlib.Core.Bool.{Bool}
 use mathlib.Core.List.{List, _∷_, _++_}
-use Prim.Native.Nat.{ℕ, _+_, _*_, _%_}
+use Prim.Native.Nat.{ℕ, _+_, _-_, _*_, _%_}
 use Rattle.common.specs.Choice.{if_then_else_}
+use Rattle.common.specs.Chunks.{chunk, chunkCount}
 use Rattle.modes.specs.Ccm.{longest}
 use Rattle.network.specs.Octets.{octets}
 
@@ -42,3 +45,11 @@ acknowledgementOctets obo seqZero bits = 0x00 ∷ octets 2 (acknowledgementNumbe
 -- a full segment has 12 octets of access behind the four in front, or 8 of control
 abbrev pub fullOctets : Bool → ℕ
 fullOctets ctl = if ctl then 8 else 12
+
+-- SegN of a message of so many octets
+unfoldable pub lastSegment : ℕ → ℕ → ℕ
+lastSegment size len = chunkCount size len - 1
+
+-- octet 0, SZMIC, SeqZero, SegO, SegN; then the chunk
+abbrev pub segmentAt : ℕ → ℕ → Bool → ℕ → ℕ → List ℕ → ℕ → List ℕ
+segmentAt size first szmic seqZero segN u segO = segmentFront first szmic seqZero segO segN ++ chunk size u segO

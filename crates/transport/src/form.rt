@@ -47,7 +47,7 @@ pub enum Form {
 }
 
 // Four octets as a number, high first.
-fn number(a: u8, b: u8, c: u8, d: u8) -> u32
+pub(crate) fn number(a: u8, b: u8, c: u8, d: u8) -> u32
     ensures { λ r. ⌜ r ≡ ((a * 256 + b) * 256 + c) * 256 + d ⌝ }
 {
     (((a as u32) * 256 + b as u32) * 256 + c as u32) * 256 + d as u32

@@ -8,20 +8,20 @@
 --   Keeps, keeps-access, keeps-control    what is kept of a message in segments
 --   envelope-is                           what the second nonce rests on
 use mathlib.Core.Bool.{Bool, true, false}
-use mathlib.Core.List.{List, _∷_, _++_}
+use mathlib.Core.List.{List, _∷_}
 use mathlib.Core.Path.{_≡_, refl}
-use Prim.Native.Nat.{ℕ, _-_, _%_, _≤_}
+use Prim.Native.Nat.{ℕ, _%_, _≤_}
 use native.Mathlib.Omega.{arith}
-use lib.ListN.{length, take, length-append}
-use Rattle.common.specs.Chunks.{chunk, chunkCount}
+use lib.ListN.{length, getD, take, length-append}
 use Rattle.common.specs.Lists.{padded}
+use Rattle.common.proofs.Lists.{length-tab}
 use Rattle.network.specs.declared.header.Header.{Header}
 use Rattle.network.specs.Octets.{octets}
 use Rattle.network.proofs.OctetsLaws.{length-octets}
 use Rattle.network.proofs.TrialLaws.{take-padded}
 use Rattle.transport.specs.declared.securing.Envelope.{Envelope}
 use Rattle.transport.specs.Securing.{secured}
-use Rattle.transport.specs.Segment.{messageOctets, accessOctet, controlOctet, fullOctets, segmentFront, acknowledgementNumber, acknowledgementOctets}
+use Rattle.transport.specs.Segment.{messageOctets, accessOctet, controlOctet, fullOctets, lastSegment, segmentAt, acknowledgementNumber, acknowledgementOctets}
 use Rattle.memory.specs.declared.outgoing.Outgoing.{Outgoing}
 use Rattle.memory.specs.declared.pair.Pair.{Pair}
 use Rattle.memory.specs.declared.session.Terms.{Terms}
@@ -30,11 +30,11 @@ use Rattle.receiver.specs.declared.state.Receiver.{Receiver}
 use Rattle.sending.specs.declared.access.KeyUsed.{KeyUsed}
 use Rattle.sending.specs.declared.acknowledge.Chosen.{Chosen}
 use Rattle.sending.specs.declared.request.Request.{Request}
-use Rattle.sending.specs.Access.{envelopeOf, wholePdu, wholeHeader, lastSegment, outgoingOf}
+use Rattle.sending.specs.Access.{envelopeOf, wholePdu, wholeHeader, outgoingOf}
 use Rattle.sending.specs.Acknowledge.{acknowledgementHeader}
 use Rattle.sending.specs.Control as control
 use Rattle.sending.specs.Request.{unnamedTtl, ttlOf}
-use Rattle.sending.specs.Segment.{outgoingChunk, segmentPdu, segmentHeader}
+use Rattle.sending.specs.Segment.{segmentPdu, segmentHeader}
 use Rattle.sending.specs.Transmission.{sendingIv, addressOf, nextSeq, stamped}
 
 -- an acknowledgement has seven octets
@@ -86,8 +86,8 @@ module _ (r : Receiver) (element : ℕ) where
       → (let t = o .terms in
       stamped r element (segmentHeader o segO)
       ≡ headerSent (t .key) (o .auth .iv) (t .ctl) (o .ttl) (t .dst)
-      (segmentFront (t .first) (t .szmic) (o .auth .seq % 8192) segO (t .segn) ++ chunk (fullOctets (t .ctl)) (take (o .len) (o .bytes)) segO))
-  unfolding stamped segmentHeader segmentPdu outgoingChunk
+      (segmentAt (fullOctets (t .ctl)) (t .first) (t .szmic) (o .auth .seq % 8192) (t .segn) (take (o .len) (o .bytes)) segO))
+  unfolding stamped segmentHeader segmentPdu
   segment-out o segO = refl
 
   -- the seven octets of an acknowledgement, OBO 0
@@ -100,7 +100,7 @@ module _ (r : Receiver) (element : ℕ) where
 
 -- what is heard of a message is no part of its segments
 pub segment-unheard : (o : Outgoing) (heard segO : ℕ) → segmentHeader (withHeard o heard) segO ≡ segmentHeader o segO
-unfolding segmentHeader segmentPdu outgoingChunk
+unfolding segmentHeader segmentPdu
 segment-unheard o heard segO = refl
 
 -- ---- as it is kept
@@ -111,6 +111,8 @@ pub record Keeps (o : Outgoing) (src : ℕ) (auth : Pair) (terms : Terms) (ttl :
   pub terms-is : o .terms ≡ terms
   pub ttl-is : o .ttl ≡ ttl
   pub unheard : o .heard ≡ 0
+  pub len-is : o .len ≡ length octets
+  pub places : length (o .bytes) ≡ messageOctets
   pub octets-are : length octets ≤ messageOctets → take (o .len) (o .bytes) ≡ octets
 
 -- SegN is one less than the chunks of 12
@@ -122,13 +124,23 @@ pub keeps-access :
       ctl = false;
       first = accessOctet true (k .akf) (k .aid);
       szmic = e .szmic;
-      segn = chunkCount 12 (length m) - 1;
+      segn = lastSegment 12 (length m);
       dst = q .dst;
       key = q .network;
     }) (ttlOf (q .ttl)) m)
-unfolding outgoingOf lastSegment
+unfolding outgoingOf
 keeps-access e q k payload =
-    record { src-is = refl; auth-is = refl; terms-is = refl; ttl-is = refl; unheard = refl; octets-are = take-padded messageOctets (secured (k .key) e payload) }
+    let m = secured (k .key) e payload in
+    record {
+      src-is = refl;
+      auth-is = refl;
+      terms-is = refl;
+      ttl-is = refl;
+      unheard = refl;
+      len-is = refl;
+      places = length-tab (λ i. getD m i 0) messageOctets;
+      octets-are = take-padded messageOctets m;
+    }
 
 -- or of 8
 pub keeps-control :
@@ -138,13 +150,22 @@ pub keeps-control :
       ctl = true;
       first = controlOctet true opcode;
       szmic = false;
-      segn = chunkCount 8 (length parameters) - 1;
+      segn = lastSegment 8 (length parameters);
       dst = q .dst;
       key = q .network;
     }) (ttlOf (q .ttl)) parameters
-unfolding control.outgoingOf lastSegment
+unfolding control.outgoingOf
 keeps-control r q opcode parameters =
-    record { src-is = refl; auth-is = refl; terms-is = refl; ttl-is = refl; unheard = refl; octets-are = take-padded messageOctets parameters }
+    record {
+      src-is = refl;
+      auth-is = refl;
+      terms-is = refl;
+      ttl-is = refl;
+      unheard = refl;
+      len-is = refl;
+      places = length-tab (λ i. getD parameters i 0) messageOctets;
+      octets-are = take-padded messageOctets parameters;
+    }
 
 -- ---- the second nonce: what is stamped on the first PDU
 pub envelope-is :
