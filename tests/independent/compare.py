@@ -1,8 +1,8 @@
-"""Compares the console with the independent model of document 01, and of document 02's Sensor Status, reserved groups, cache and own voice, line by line.
+"""Compares the console, line by line, with the independent model of document 01 and of document 02's Sensor Status, reserved groups, cache, own voice, vetting.
 
   python3 tests/independent/compare.py [--seeds A..B] [--console COMMAND]
 
-Each seed makes one script of some two thousand lines: the traffic of other nodes, requests of every kind, property lists, lines that are unread.
+Each seed makes one script of some two thousand lines: the traffic of other nodes, requests of every kind, property lists, makers' segments, unread lines.
 Without --seeds the fixed ones and the scripts of edges.py are run, and every kind of answer that coverage.py lists must occur. Where an answer
 differs, the seed, the line and both answers are printed, and the script is cut down to a short one, which is also left in target/independent.
 """

@@ -4,6 +4,7 @@ import textwrap
 from model import AGAIN, BESIDE_OURS, OURS
 from network import ABOUT_RESERVED, RESERVED
 from sensor import EDGES
+from vetting import NAMES
 
 # Refusals of `hear` by number. Those of the second table must come with and without forwarding, those of the first never forward.
 HEAR_KEPT = {
@@ -48,13 +49,15 @@ ASKED = {
     "property": {14: ("named already", "named already with the other kind", "a ninth name")},
     "readings": {20: ("one octet of a header", "two octets of a header of format B", "a value cut short"),
                  21: ("no octets at all", "too short", "too short, and its value cut too", "too long", "too long, and its value cut too")},
+    "vet": {16: ("else approved", "else at fault", "else unfinished"),
+            27: tuple(f"{name}, {which}" for name in NAMES for which in ("no PDU", "the last is missing", "more are missing"))},
 }
 DONE = ("netkey", "appkey", "devkey", "elements", "group", "ivindex", "relay", "setup ready", "room", "access sent", "access started", "control sent",
         "control started", "segment sent", "ack sent", "stop", "drop", "show", "skipped", "property", "properties", "readings",
-        "readings no status: no octets", "readings no status: another opcode")
+        "readings no status: no octets", "readings no status: another opcode", "vet approved access", "vet approved control")
 UNREAD = ("a line too long", "no such command", "number of fields", "an empty field", "not a digit", "over 8 digits", "a number above its limit",
           "half an octet", "a key not of 16 octets", "a MIC neither 4 nor 8", "before the first setup", "a kind that is none",
-          "a message of over 380 octets")
+          "a message of over 380 octets", "a PDU of over 255 octets")
 CASES = ("a later network key opens it", "several network keys fail", "under the IV Index before", "a later application key opens it",
          "repeats within the session", "repeats the last message handed up", "repeats the last message handed up while another comes",
          "joins though the entry is newer", "replaces an older session", "completes with SegN 0", "completes with SegN 31",
@@ -85,7 +88,27 @@ SENSED = {
                  "named before a setup that is ready", "named before a setup that is refused"),
     "a list": ("no records", "126 records", "a property twice", "a property in both formats"),
     **{kind: tuple(f"count {count}" for count in counts) for kind, counts in EDGES.items()},
-    "before the first setup": ("property", "properties", "readings"),
+    "before the first setup": ("property", "properties", "readings", "vet"),
+}
+# The cases of vetting: what is approved, by its lengths and by the ends of its fields; what stands about it; and of 26 each reason that can stand alone, by
+# the place of the PDU at fault in its message. Access has AKF and SZMIC where control has its opcode and RFU.
+APPROVED = ("one segment", "32 segments", "several, the last full", "several, the last of one octet", "at its longest", "at its shortest", "SeqZero 0",
+            "SeqZero 1fff")
+STUBS = ("no octets", "fewer than four octets")
+AT_FAULT = ("SEG 0", "SegO above its place", "several reasons", *STUBS, "no octets behind the first four", "more octets than a segment holds")
+BETWEEN = AT_FAULT + ("another octet 0", "another SeqZero", "SegO below its place", "another SegN")
+NOT_FULL = ("not full before the last",)
+VETTED = {
+    "approved access": APPROVED + ("at its shortest with SZMIC 1", "SZMIC 1", "AKF 0", "AKF 1 with AID 0"),
+    "approved control": APPROVED + ("opcode 1", "opcode 7f"),
+    "vetted": ("a PDU of 255 octets", "383 octets of room", "what our own sender keeps, approved"),
+    "vet refused 26, access, at 0": AT_FAULT + NOT_FULL + ("AKF 0 with an AID", "too short for a message", "too short for a message with SZMIC 1"),
+    "vet refused 26, control, at 0": AT_FAULT + NOT_FULL + ("opcode 0", "RFU 1"),
+    "vet refused 26, access, between": BETWEEN + NOT_FULL + ("another SZMIC",),
+    "vet refused 26, control, between": BETWEEN + NOT_FULL + ("RFU 1",),
+    "vet refused 26, access, at the last": BETWEEN + ("another SZMIC",),
+    "vet refused 26, control, at the last": BETWEEN + ("RFU 1",),
+    **{f"vet refused 26, {name}, too many": STUBS + ("behind the last", "several reasons") for name in NAMES},
 }
 
 
@@ -102,7 +125,7 @@ def required():
     for word, table in ASKED.items():
         kinds += _refusals(table, word)
     kinds += list(DONE) + [f"unread: {why}" for why in UNREAD] + list(CASES)
-    return kinds + [f"{what}: {case}" for table in (MET, TWICE, VOICE, SENSED) for what, cases in table.items() for case in cases]
+    return kinds + [f"{what}: {case}" for table in (MET, TWICE, VOICE, SENSED, VETTED) for what, cases in table.items() for case in cases]
 
 
 def _groups(kinds):

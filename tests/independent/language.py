@@ -3,8 +3,9 @@ import model
 import network
 import sending
 import sensor
+import vetting
 
-LONGEST_LINE, LONGEST_MESSAGE = 4095, 380
+LONGEST_LINE, LONGEST_MESSAGE, LONGEST_PDU = 4095, 380, 255
 DIGITS = frozenset(b"0123456789abcdefABCDEF")
 
 
@@ -70,11 +71,18 @@ def _message(field):
     return message
 
 
+def _pdu(field):
+    pdu = _octets(field)
+    if len(pdu) > LONGEST_PDU:
+        raise Unread("a PDU of over 255 octets")
+    return pdu
+
+
 BIT, BYTE, ADDRESS, LONG, ROOM = (_number(most) for most in (1, 0xFF, 0xFFFF, 0xFFFFFFFF, 384))
 PROPERTY = ADDRESS
 TTL, APP = _or(b"-", None, BYTE), _or(b"dev", None, BYTE)
 
-# The fields of each command; elements takes any number of its last one.
+# The fields of each command; those of MANY take any number of their last one.
 FORMS = {
     b"netkey": (_key,),
     b"appkey": (BYTE, _key),
@@ -87,6 +95,7 @@ FORMS = {
     b"property": (PROPERTY, _kind),
     b"properties": (),
     b"readings": (_message,),
+    b"vet": (BIT, _pdu),
     b"room": (ROOM, ROOM),
     b"hear": (_octets,),
     b"access": (BYTE, ADDRESS, TTL, BYTE, APP, _mic, _octets),
@@ -97,6 +106,7 @@ FORMS = {
     b"drop": (ADDRESS,),
     b"show": (),
 }
+MANY = (b"elements", b"vet")
 
 
 def read(line):
@@ -107,7 +117,7 @@ def read(line):
     if word not in FORMS:
         raise Unread("no such command")
     form = FORMS[word]
-    if word == b"elements" and fields:
+    if word in MANY and fields:
         form = form[:1] + form[1:] * (len(fields) - 1)
     if len(form) != len(fields):
         raise Unread("number of fields")
@@ -212,7 +222,7 @@ class Console:
         return ["ready"]
 
     def _site(self, word, fields):
-        """The lines about what the site has named, which need no receiver."""
+        """The lines about what the site has named and what it vets, which need no receiver."""
         if not self.receiver:
             self.met.append(f"before the first setup: {word}")
         self.why = word
@@ -233,6 +243,14 @@ class Console:
             return "no status"
         answer, met = sensor.readings(message, self.named)
         self.met += met
+        return answer
+
+    def _vet(self, ctl, *pdus):
+        answer, self.why, met = vetting.vetted(ctl, list(pdus), self.room[1])
+        self.met += met
+        out = self.receiver and self.receiver.out
+        if out and (out.ctl, out.segments) == (ctl, list(pdus)) and answer != "refused 16":
+            self.met.append(f"vetted: what our own sender keeps, {answer.split()[0]}")
         return answer
 
     def _asked(self, word, fields):
@@ -288,5 +306,5 @@ GIVEN = {
     "ivindex": _index,
     "relay": lambda given, on: setattr(given, "relay", on),
 }
-SITE = {"property": Console._name, "properties": Console._forget, "readings": Console._readings}
+SITE = {"property": Console._name, "properties": Console._forget, "readings": Console._readings, "vet": Console._vet}
 SENDING = {"access": sending.access, "control": sending.control, "segment": sending.segment, "ack": sending.acknowledge}

@@ -4,7 +4,8 @@ KEY = b"0123456789abcdef0123456789ABCDEF"
 # One line of each command, all readable.
 RIGHT = (b"netkey " + KEY, b"appkey 0 " + KEY, b"devkey " + KEY, b"elements 1 0 ffffff", b"group c000", b"ivindex 1 0", b"relay 1", b"setup",
          b"room 1d 180", b"hear 00", b"access 0 1 - 0 0 4 00", b"access 1 c000 7f 1 dev 8 0102", b"control 0 1 2 0 1 -", b"segment 1f", b"ack 0 1",
-         b"stop", b"drop 1", b"show", b"property 76 humidity", b"property 4f temperature", b"properties", b"readings 52c20ed711")
+         b"stop", b"drop 1", b"show", b"property 76 humidity", b"property 4f temperature", b"properties", b"readings 52c20ed711",
+         b"vet 0 e6a03401c3c51d8e476b28e3aa5001f3 e6a034211c01cea6", b"vet 1 810000000a -")
 # Each field one above its limit, and at it, where the library answers.
 LIMITS = (
     b"appkey 100 " + KEY, b"netkey " + KEY[2:], b"netkey " + KEY + b"00", b"devkey -", b"elements", b"elements 10000 0", b"elements 1 100000000",
@@ -17,6 +18,8 @@ LIMITS = (
     b"property 10000 humidity", b"property 000000076 humidity", b"property - humidity", b"property 76", b"property 76 raw", b"property 76 Humidity",
     b"property 76 humidity 0", b"property FFFF temperature", b"properties 0", b"readings", b"readings 5", b"readings - -", b"readings 5g",
     b"readings 52" + b"FF" * 379, b"readings 52" + b"00" * 380, b"readings 04" + b"00" * 380,
+    b"vet", b"vet 2", b"vet -", b"vet 00000001", b"vet 000000001", b"vet 0 ", b"vet 0  -", b"vet 0 - ", b"vet 0 0", b"vet 0 - 0g", b"vet 0 - - -",
+    b"vet 1 " + b"FF" * 255, b"vet 1 " + b"ff" * 256, b"vet 0 - " + b"ff" * 255, b"vet 0 - " + b"ff" * 256,
     b"ivindex FFFFFFFF 1", b"relay 00000001", b"room 180 180", b"room 1d 180", b"elements 1")
 
 
@@ -30,12 +33,14 @@ def _field(dice, line, make):
 
 def _long(dice):
     """A line of 4,095 or 4,096 octets, or longer, that is right but for that."""
-    kind, length = dice.randrange(3), dice.choice((4095, 4095, 4096, 4097, 6000))
+    kind, length = dice.randrange(4), dice.choice((4095, 4095, 4096, 4097, 6000))
     if kind == 0:
         head = b"control 0 0001 - 0 1 " if length % 2 else b"control 00 0001 - 0 1 "
         return head + b"a5" * ((length - len(head)) // 2)
     if kind == 1:
         return b"elements 1" + b" 0" * ((length - 11) // 2) + (b" 0" if length % 2 else b" 00")
+    if kind == 2:
+        return (b"vet 0" if length % 2 else b"vet 00") + b" -" * ((length - 5) // 2)
     return b"#" + dice.randbytes(length - 1).replace(b"\n", b"\r")
 
 

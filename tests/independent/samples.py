@@ -1,4 +1,4 @@
-"""The ciphers and forms here give what MP section 8 and document 01's examples print, and the model hears MP's messages."""
+"""The ciphers and forms here give what MP section 8 and document 01's examples print, and the model hears and vets MP's messages."""
 import json
 from pathlib import Path
 
@@ -82,6 +82,14 @@ def _hearing(messages):
         f'access {start[0]} dst {message["dst"]} net 0 key dev {start[1]} seq {start[2]} trials 1 0 message {message["access_payload"]}']
 
 
+def _vetting(messages):
+    """The transport PDUs of MP's message 6 are the segments of its access payload, secured; the first alone is no message."""
+    message = next(each for each in messages if each["section"] == "8.3.6")
+    pdus, console = [pdu["lower_transport_pdu"] for pdu in message["pdus"]], Console()
+    answers = [console.answer(f"vet 0 {' '.join(each)}".encode())[0] for each in (pdus, pdus[:1])]
+    yield "MP 8.3.6, vetted", answers, [f'approved message {message["encrypted_access_payload"]}{message["trans_mic"]}', "refused 27"]
+
+
 def _examples():
     """Document 01, E1 to E12."""
     yield "E1", network.fitting_index(0x00101847, 1), 0x00101847
@@ -103,7 +111,7 @@ def check():
     samples = json.loads((VECTORS / "mp_samples.json").read_text())
     functions, messages = samples["functions"], samples["messages"]
     count = 0
-    for name, made, printed in (*_ciphers(), *_functions(functions), *_messages(messages), *_hearing(messages), *_examples()):
+    for name, made, printed in (*_ciphers(), *_functions(functions), *_messages(messages), *_hearing(messages), *_vetting(messages), *_examples()):
         assert made == printed, f"{name}: {made} instead of {printed}"
         count += 1
     return count

@@ -7,6 +7,7 @@ import lines
 import orders
 import statuses
 import traffic
+import vendors
 from language import Console
 from world import World, setup_lines, setup_of
 
@@ -17,10 +18,11 @@ FLOODS, STARTS = 6, (0, 0xFFFFFF - 8191, 0xFFFFFF - 8190, 5)
 
 
 class Script:
-    """Lines said to the model one after another."""
+    """Lines said to the model one after another. What is vetted has dice of its own, `bench`."""
 
     def __init__(self, seed):
         self.dice = random.Random(seed)
+        self.bench = random.Random(f"bench {seed}")
         self.console = Console()
         self.steps = []
 
@@ -41,6 +43,11 @@ class Script:
     def sense(self):
         """A line about Sensor Status."""
         self.say(statuses.line(self.dice, self.console.named))
+
+    def vet(self, own):
+        """A line that vets a maker's list, or with the chance `own` the segments of the message that is being sent."""
+        out = self.console.receiver and self.console.receiver.out
+        self.say(vendors.written(out.ctl, out.segments) if out and self.bench.random() < own else vendors.line(self.bench))
 
     def odd(self):
         """A line that is mostly unread, made of one of the latest or of any command."""
@@ -82,6 +89,8 @@ class Stage:
         if self.dice.random() < 0.06:
             for _ in range(self.dice.randint(1, 4)):
                 self.script.sense()
+        if self.script.bench.random() < 0.03:
+            self.script.vet(own=0.4)
 
     def play(self, count):
         """Turns, a few of them with buffers that are too short."""
@@ -137,9 +146,23 @@ def own_voice(script, dice, count=60):
     script.say("show")
 
 
+def at_bench(script, count):
+    """Makers' lists one after another; where there is a receiver also with too little room, and it goes on as it was."""
+    for _ in range(count):
+        short = script.console.receiver and script.bench.random() < 0.08
+        if short:
+            script.say(orders.short_room(script.bench))
+        for _ in range(script.bench.randint(1, 3)):
+            script.vet(own=0.05)
+        if short:
+            script.say(orders.enough_room(script.bench))
+    script.say("show")
+
+
 def made(seed, worlds=3, count=530):
     """The script of a seed."""
     script = Script(seed)
+    at_bench(script, seed % 4)
     for _ in range(script.dice.randrange(4)):
         script.say(script.dice.choice(("show", "hear -", "room 1d 180", "stop", "ack 0 1", "access 0 1 - 0 0 4 00", "setup", "segment 0",
                                        "properties")))
@@ -153,4 +176,5 @@ def made(seed, worlds=3, count=530):
         stage.flood(STARTS[seed // FLOODS % len(STARTS)])
     begin_again(script, random.Random(f"begin again {seed}"))
     own_voice(script, random.Random(f"own voice {seed}"))
+    at_bench(script, 60)
     return script.steps
