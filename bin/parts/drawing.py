@@ -27,6 +27,9 @@ text.value, text.prohibited { font-weight: bold } text.unknown { font-style: ita
 .cross { stroke: #fff; stroke-width: 2 } text.of { font: 12px monospace }
 .readings rect.band { fill: #f1f3fa; stroke: #fff; stroke-width: 2 } .readings.refused rect.band { fill: #fbd5d5 }"""
 
+VETTED_STYLE = """
+.vetted rect.band { fill: #e4f1ee; stroke: #fff; stroke-width: 2 } .vetted.refused rect.band { fill: #fbd5d5 }"""
+
 
 @dataclass
 class Layout:
@@ -199,7 +202,8 @@ def drawn(rows, head_words, called):
         height, body = row_lines(row, plan, y)
         found += body
         y += height
-    height, style = y + ROW, STYLE + (CELL_STYLE if messages_read else "")
+    vetted = any(row.kind.startswith("vetted") for row in rows)
+    height, style = y + ROW, STYLE + (CELL_STYLE if messages_read else "") + (VETTED_STYLE if vetted else "")
     yield f'<svg xmlns="http://www.w3.org/2000/svg" width="{plan.width}" height="{height}" viewBox="0 0 {plan.width} {height}"><style>{style}</style>'
     yield f'<rect class="paper" width="{plan.width}" height="{height}"/>'
     yield from found

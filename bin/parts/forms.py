@@ -16,6 +16,11 @@ class Field:
     only: tuple = ()
     words: tuple = ()
 
+    @property
+    def called(self):
+        """The name without the dots of one that can come many times."""
+        return self.name.rstrip(" .")
+
 
 @dataclass(frozen=True)
 class Line:
@@ -31,6 +36,10 @@ class Line:
     def form(self):
         """How the line is written."""
         return " ".join([self.word] + [field.name for field in self.fields])
+
+    def wanted(self, count):
+        """The fields of a line that has so many: where the last comes many times, it makes up their number."""
+        return self.fields[:-1] + self.fields[-1:] * max(count - len(self.fields) + 1, 0) if self.many else self.fields
 
 
 def _octet(name, *words):
@@ -73,6 +82,7 @@ LINES = (
     Line("property", (_address("P"), Field("humidity|temperature", WORD, words=("humidity", "temperature"))), "names property P", "ok, refused 14"),
     Line("properties", (), "forgets all names"),
     Line("readings", (Field("MESSAGE", OCTETS, most=380),), "reads a Sensor Status", "readings N .."),
+    Line("vet", (Field("CTL", only=(0, 1)), Field("PDU ..", OCTETS, most=0xFF)), "vets a maker's segments", "approved, refused N", many=True),
 )
 FORMS = {line.word: line for line in LINES}
 

@@ -68,7 +68,7 @@ def _of_text(line):
     if line.endswith("\r"):
         return Hint("a carriage return at the end, as in files from Windows", r"Take it away: sed 's/\r$//' FILE | bin/console", line[:-1])
     if len(line) > LONGEST:
-        return Hint(f"more than {LONGEST:,} octets", "The console reads no longer line; the longest message needs some 800")
+        return Hint(f"more than {LONGEST:,} octets", "The console reads no longer line; the longest message needs some 800, its segments some 1,100")
     return _of_spaces(line) or _of_letters(line)
 
 
@@ -145,9 +145,7 @@ def _of_form(line, ready, refused):
     form = FORMS[word]
     if form.ready and not ready:
         return _before(refused)
-    wanted = form.fields
-    if form.many and fields:
-        wanted = wanted[:1] + wanted[1:] * (len(fields) - 1)
+    wanted = form.wanted(len(fields))
     if len(fields) > len(wanted):
         return _apart(form, fields) or Hint(f"too many fields behind {word}", f"Its form is: {form.form}")
     if len(fields) < len(wanted):
@@ -201,25 +199,25 @@ def _of_octets(form, field, text):
         digits = _joined(text)
         if digits and DIGITS.issuperset(digits):
             return Hint("octets with signs between them", "Write the digits one behind the other", digits)
-        return Hint(f"{field.name} of {form.word} has something else than hex digits", "The digits are 0 to 9 and a to f")
+        return Hint(f"{field.called} of {form.word} has something else than hex digits", "The digits are 0 to 9 and a to f")
     if field.kind == KEY and len(text) != KEY_DIGITS:
         return Hint(f"a key that has not {KEY_DIGITS} digits", f"A key is 16 octets; the first such line has {len(text)} digits")
     if len(text) % 2:
         return Hint("an odd number of hex digits", "Each octet has two digits: 0 is 00")
     if len(text) > 2 * field.most:
-        return Hint(f"{field.name} of {form.word} has more than {field.most} octets", "There is no longer message")
+        return Hint(f"{field.called} of {form.word} has more than {field.most} octets", "Nothing that is sent is longer")
     return None
 
 
 def _of_number(form, field, text):
     """What is wrong with a number."""
     if not DIGITS.issuperset(text):
-        return Hint(f"{field.name} of {form.word} is no hex number", _fitting(field))
+        return Hint(f"{field.called} of {form.word} is no hex number", _fitting(field))
     if len(text) > NUMBER_DIGITS:
-        return Hint(f"{field.name} of {form.word} has over eight digits", _fitting(field))
+        return Hint(f"{field.called} of {form.word} has over eight digits", _fitting(field))
     number = int(text, 16)
     if number > field.most or field.only and number not in field.only:
-        return Hint(f"{field.name} of {form.word} is no number that fits", _fitting(field))
+        return Hint(f"{field.called} of {form.word} is no number that fits", _fitting(field))
     return None
 
 

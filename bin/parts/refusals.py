@@ -7,4 +7,5 @@ WORDS = {
     12: "no session is free", 13: "no key opens the message, or it is too short", 14: "the request is outside the rules",
     15: "the element has no sequence number left", 16: "a buffer is too short", 20: "the list ends inside a header or a value",
     21: "a named property has another length than two octets", 22: "its SRC is an address of this node",
+    26: "no message has such a segment there", 27: "the list ends before its last segment",
 }

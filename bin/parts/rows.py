@@ -1,4 +1,4 @@
-"""What a log of the console and its answers tell, as the rows of a picture: a row for each PDU heard, each acknowledgement sent, each message read."""
+"""What a log of the console and its answers tell, as the rows of a picture: a row for each PDU heard, acknowledgement sent, message read and list vetted."""
 import re
 from dataclasses import dataclass, field
 
@@ -11,6 +11,8 @@ HEADING, NAME = re.compile(r"#\s*(\d+\.\s+\S.*)"), re.compile(r"#\s*box\s+([0-9A
 # A session and the last message handed up, as `show` has them.
 SESSION = re.compile(r"session \w+ src (?P<src>\w+) iv (?P<iv>\w+) auth (?P<auth>\w+) bits (?P<bits>\w+)")
 LAST = re.compile(r"replay (?P<src>\w+) .* last (?P<iv>\w+) (?P<auth>\w+) segn (?P<segn>\w+) ")
+# The octets of an approved message, and the place of a PDU at fault.
+OCTETS, PLACE = re.compile(r"(?:[0-9a-f]{2})+"), re.compile(r"[0-9a-f]{1,2}")
 # The column of the message that the station itself sends; a name longer than so many letters stands only at its column's head.
 OWN, LONG_NAME = "own", 24
 # What an acknowledgement does to the message that is being sent.
@@ -156,6 +158,8 @@ class Story:
                 self.looked(answers)
             case "readings", [octets], said if said != ["unread"]:
                 self.rows.append(self.readings(line, octets.lower(), answers[0]))
+            case "vet", [ctl, *pdus], said if said != ["unread"]:
+                self.rows.append(vetted(line, int(ctl, 16), len(pdus), said))
 
     def heard(self, line, answer):
         """The row of an answer to `hear`."""
@@ -285,6 +289,19 @@ class Story:
 
 HEARD = {"refused": Story.refused, "stored": Story.stored, "repeat": Story.repeat, "access": Story.handed, "control": Story.handed,
          "acknowledgement": Story.acknowledged}
+
+
+def vetted(line, ctl, count, said):
+    """The row of an answer to `vet`: of segments that nobody has sent, so of no source."""
+    named, pdus = ("a control" if ctl else "an access"), f"{count} PDU{'' if count == 1 else 's'} vetted, not heard"
+    match said:
+        case ["approved", "message", octets] if OCTETS.fullmatch(octets):
+            return Row(line, f"approved: {named} message of {len(octets) // 2} octets in segments; {pdus}", "vetted")
+        case ["refused", "26", "at", place] if PLACE.fullmatch(place) and int(place, 16) < count:
+            return Row(line, f"refused 26: {WORDS[26]}, at place {int(place, 16)}; {pdus}", "vetted refused")
+        case ["refused", "16" | "27" as number]:
+            return Row(line, f"refused {number}: {WORDS[int(number)]}; {pdus}", "vetted refused")
+    raise Unfit(f"line {line} of the log: {' '.join(said)[:60]} is no answer to vet")
 
 
 def told(log, answers, called, numbers=None):

@@ -101,7 +101,7 @@ class Scene:
             self.story.add(step.line, plainly(step.command, answer, unread), kind)
         self.name(step.command, answer)
         step.row, step.names, step.open, step.doubt = rows[-1], self.names, dict(self.story.open), frozenset(self.story.doubt)
-        if step.row.kind.startswith("readings"):
+        if step.row.kind.startswith(("readings", "vetted")):
             step.row.boxes = {each.src: (each, each.bits) for each in step.open.values()}
         self.steps.append(step)
         self.read(step, answer)

@@ -68,10 +68,19 @@ LOGS = {
     "no digits": behind("hear 0g", "PDU of hear has something else than hex digits", "0 to 9 and a to f"),
     "a line too long": behind("hear " + "00" * 2046, "more than 4,095 octets"),
     "a message too long": behind("readings " + "52" * 381, "MESSAGE of readings has more than 380 octets"),
+    "no CTL": Log("vet\n", ("1 line is unread (1): too few fields behind vet.",), ("Its form is: vet CTL PDU ..",)),
+    "PDUs in the place of CTL": behind("vet e6a03401c3c5 e6a03421", "CTL of vet has over eight digits", "It is 0 or 1"),
+    "a CTL of 2": behind("vet 2 00", "CTL of vet is no number that fits", "It is 0 or 1"),
+    "a second PDU with a prefix": behind("vet 0 80 0x81 82", "a prefix 0x", "probably meant as: vet 0 80 81 82"),
+    "a third PDU of half an octet": behind("vet 0 80 81 8", "an odd number of hex digits", "two digits"),
+    "a PDU that is no hex": behind("vet 0 - 8g", "PDU of vet has something else than hex digits", "0 to 9 and a to f"),
+    "a PDU too long": behind("vet 1 - " + "81" * 256, "PDU of vet has more than 255 octets"),
+    "an element with no number": behind("elements 1 0 x", "SEQ of elements is no hex number", "0 to ffffffff in hex"),
     "lines apart": Log(READY + "show\t\nshow\n" * 11, ("11 lines are unread (4, 6, 8, 10, 12, 14, 16, 18, 20, 22 ..): a tab.",)),
     "several causes": Log("sho\nhelp\nhear 00\nsho\nhear 00\nhear 00\n", (
         "3 lines are unread (3, 5 to 6): a line that needs a receiver, before the first setup.",
         "2 lines are unread (1, 4): an unknown word, probably show.", "1 line is unread (2): there is no line for help.")),
 }
 # Logs of which nothing is to be said.
-GOOD = ("", "\n\n# a comment\r\n#\tanother\n", READY + "show\n", READY + "setup\n", f"netkey {KEY.upper()}\nelements 1201 0\nsetup\nhear -")
+GOOD = ("", "\n\n# a comment\r\n#\tanother\n", READY + "show\n", READY + "setup\n", "vet 0\nvet 1 -\nvet 1 81 - 82\nvet 0 " + "80" * 255,
+        f"netkey {KEY.upper()}\nelements 1201 0\nsetup\nhear -")

@@ -1,4 +1,4 @@
-"""Checks bin/picture on logs of the console: a row for each PDU heard, each acknowledgement sent and each message read, with the boxes and cells
+"""Checks bin/picture on logs of the console: a row for each PDU heard, acknowledgement sent, message read and list vetted, with the boxes and cells
 that the answers ask for; title, headings and names from the comments; no text cut off; and a clear word for wrong input.
 
   python3 tests/picture/check.py
@@ -33,12 +33,14 @@ BITS = re.compile(r" bits (\w+)")
 # How a row's words name a message.
 NAMED = re.compile(r"from (?:.*\((\w{4})\)|(\w{4})), message (\w+(?: under \w+)?)")
 UNITS, JUDGED = {"humidity": "%", "temperature": "°C"}, {"unknown": "not known", "prohibited": "prohibited"}
-# What is no answer to a `readings` line, and to a `hear` line.
+# What is no answer to a `readings` line, to a `hear` line, and to a `vet` line.
 NO_ANSWERS = {
     "readings 52": ("ok", "refused 14", "readings", "readings 2 0076 unknown", "readings 0 0076 unknown", "readings 1 0076", "readings 0 0076 unsaid", ""),
     "hear 00": ("ok", "refused", "refused one", "stored src 0201", "repeat src 0201 iv 12345678 auth 000a10 bits zz trials 1 0",
                 "access src 0201 dst 0001 net 0 key 0 iv 12345678 seq 000a10 trials 1 1", "acknowledgement src 0201 bits 00000001 done trials 1 0",
                 "acknowledgement src 0201", ""),
+    "vet 0 80": ("ok", "approved", "approved message", "approved message -", "approved message 0", "approved message 00 00", "refused 14", "refused 26",
+                 "refused 26 at", "refused 26 at 1", "refused 26 at x", "refused 27 at 0", "refused 16 trials 0 0", ""),
 }
 # Of which acknowledgements sent the log tells the places.
 PLACES = {"the story": "xxx", "one source": "xxx", "one segment": "x", "what is not told": "-x-x-xxx"}
@@ -176,7 +178,7 @@ def messages_read(steps):
     senders = {}
     for at, step in enumerate(steps, 1):
         answer = " ".join(step.answers[:1])
-        if " message " in answer:
+        if step.line.startswith(b"hear ") and " message " in answer:
             senders[answer.split(" message ")[1].split()[0]] = answer.split()[2]
         elif step.line.startswith(b"readings ") and answer != "unread":
             yield at, answer, senders.get(step.line.decode().split()[1].lower())
@@ -251,6 +253,31 @@ def check_readings(steps, shown):
     return count
 
 
+# Vetting
+
+
+def words_of(line, answer):
+    """How the words of a vetted list's row begin and end: a place is told in decimal."""
+    _, ctl, *pdus = line.split(b" ")
+    verdict, which, *rest = answer.split()
+    end = f"; {len(pdus)} PDU{'' if len(pdus) == 1 else 's'} vetted, not heard"
+    if verdict == "approved":
+        return f"approved: {'a control' if int(ctl, 16) else 'an access'} message of {len(rest[0]) // 2} octets ", end
+    return f"refused {which}: ", f", at place {int(rest[1], 16)}{end}" if which == "26" else end
+
+
+def check_vetted(steps, shown):
+    """Each list that was vetted has a row that says what was answered, and it has no box: nothing of it was heard; gives their number."""
+    rows, wanted = {at: row for at, row in drawn.rows(shown).items() if drawn.kind(row) == "vetted"}, dict(answers_to(steps, b"vet"))
+    must(list(rows) == list(wanted), f"lists vetted in the lines {list(rows)}, not {list(wanted)}")
+    for at, row in rows.items():
+        begin, end = words_of(steps[at - 1].line, wanted[at])
+        must(drawn.words(row).startswith(begin) and drawn.words(row).endswith(end), f"line {at}: {wanted[at][:40]}: {drawn.words(row)}")
+        must(not drawn.boxes(row)[0] and " from " not in drawn.words(row), f"line {at}: drawn as if it were heard")
+        must(("refused" in drawn.kinds(row)) == wanted[at].startswith("refused"), f"line {at}: {wanted[at][:40]} in a row {row.get('class')}")
+    return len(rows)
+
+
 # Rows
 
 
@@ -278,6 +305,7 @@ def check_rows(steps, shown):
     """The rows are those of the answers; gives their number."""
     wanted = Counter(KINDS[answer.split()[0]] for _, answer in answers_to(steps, b"hear"))
     wanted["readings"] = len(answers_to(steps, b"readings"))
+    wanted["vetted"] = len(answers_to(steps, b"vet"))
     found = Counter(map(drawn.kind, drawn.rows(shown).values()))
     for other in ("break", "heading", "acknowledging"):
         del found[other]
@@ -323,7 +351,7 @@ def check(name, steps, shown, counts):
     counts["boxed"] += check_boxes(steps, shown)
     check_names(steps, shown)
     named, sent = check_acknowledgements(steps, shown, PLACES.get(name))
-    counts.update(named=named, sent=sent, cells=check_readings(steps, shown))
+    counts.update(named=named, sent=sent, cells=check_readings(steps, shown), vetted=check_vetted(steps, shown))
 
 
 def main():
@@ -345,9 +373,9 @@ def main():
     except Wrong as wrong:
         print(f"{name}: {wrong}")
         return 1
-    print("{rows} rows of {pictures} pictures are those of the answers, {boxed} with the places that the answer names, and {cells} cells; {named} of {sent}"
-          " acknowledgements sent show their places; {comments} titles and headings and {names} names are there; {texts} texts have room; {wrong} kinds of"
-          " wrong input get a word and status 2".format(pictures=len(LOGS), **counts))
+    print("{rows} rows of {pictures} pictures are those of the answers, {boxed} with the places that the answer names, {cells} cells and {vetted}"
+          " lists vetted; {named} of {sent} acknowledgements sent show their places; {comments} titles and headings and {names} names are there; {texts} texts"
+          " have room; {wrong} kinds of wrong input get a word and status 2".format(pictures=len(LOGS), **counts))
     return 0
 
 

@@ -3,6 +3,7 @@ import sys
 
 import program
 import script
+import transport
 
 sys.path.append(str(program.ROOT / "tests" / "story"))
 
@@ -62,6 +63,25 @@ box one 0201 "{'W ' * 11}W" start 000a10 long 0076 raw 30
 hear one segment 0 => access
 readings one => refused 21
 """
+# Lists that are vetted while a message comes. One is approved whose octets are a Sensor Status: read, it is still no message that was heard.
+VETTED = f"""# On the bench
+{STATION}property 76 humidity
+box one 0201 "humidity box" start 000a10 {RECORDS}
+hear one segment 0 => stored
+vet one => approved
+vet one hole 1 => refused 26 at 1
+vet one cut 1 => refused 27
+vet 1 => refused 27
+vet 1 8100000052 => approved message 52
+vet 0 c000000052c20ec012 => approved message 52c20ec012
+readings 52c20ec012 => readings 1
+hear one segment 1 => stored
+room 1d 17f
+vet one => refused 16
+room 1d 180
+hear one segment 2 => access
+vet one counting => refused 26 at 1
+"""
 # First lines that are no title.
 UNTITLED = ("# 1. An act\n", "# box 0201: humidity box\n", "#\n# Behind an empty comment\n", "\n# Behind an empty line\n", "properties\n# Behind a command\n")
 
@@ -113,6 +133,14 @@ def given_up():
     return said(line.encode() for line in [*begun, *whole, *begun, *parts])
 
 
+def benched():
+    """Lists that are vetted, also the longest, one at fault in its last place and one with a PDU too many; and lines that are unread."""
+    most = transport.cut(0, 0x66, 0, 0, bytes(384))
+    lists = (most, most[:31] + [most[31][:4]], [*most, b"\0"], most[:31])
+    lines = [" ".join(["vet 0", *(pdu.hex() for pdu in each)]).encode() for each in lists]
+    return said([*(line.encode() for line in make.told(VETTED)[0]), *lines, b"vet", b"vet 2", b"vet 0 0", b"vet 00000001 " + b"81" * 256])
+
+
 def story():
     """The story's script."""
     return said((program.ROOT / "crates" / "console" / "stdin").read_bytes().splitlines())
@@ -121,7 +149,7 @@ def story():
 LOGS = {
     "no line": lambda: said([]), "no source": lambda: told(f"# No source\n{STATION}properties\n"), "one source": lambda: told(ONE),
     "one segment": lambda: told(SHORT), "nine sources": crowd, "wide words": lambda: told(WIDE), "comments": lambda: told(COMMENTS),
-    "hard readings": hard, "what is not told": freed, "given up": given_up, "the story": story,
+    "hard readings": hard, "the bench": benched, "what is not told": freed, "given up": given_up, "the story": story,
     **{f"untitled {at}": lambda text=text: told(text) for at, text in enumerate(UNTITLED)},
     **{f"seed {seed}": lambda seed=seed: script.made(seed) for seed in SEEDS},
 }

@@ -11,7 +11,9 @@ import make
 # A box behind the last that story.txt makes, and what it does at the story's end.
 BOX = 'box lamp 0401 "lamp" start 000700 long 0075 temperature 31.25 unknown -4.50 0076 humidity 12.00'
 ACT = ("hear lamp segment 1 => stored 0401 00000002 1 0", "ack 0 401 => sent", "hear lamp echo => refused 22 1 0", "hear lamp segment 1 resent => repeat 0401 00000002 1 0",
-       "hear lamp segment 0 => access 0401 0001 000700 1 1", "readings lamp => readings 4 0075 31.25 0075 unknown 0075 -4.50 0076 12.00")
+       "hear lamp segment 0 => access 0401 0001 000700 1 1", "readings lamp => readings 4 0075 31.25 0075 unknown 0075 -4.50 0076 12.00",
+       "vet lamp => approved", "vet lamp cut 1 => refused 27", "vet lamp cut 2 => refused 27", "vet lamp hole 0 => refused 26 at 0",
+       "vet lamp hole 1 => refused 27", "vet lamp counting => refused 26 at 1", "vet 1 => refused 27")
 # What the picture shows of it.
 DRAWN = (
     ">lamp</text>",
@@ -23,6 +25,8 @@ DRAWN = (
     "4 records from lamp (0401)",
     ">31.25 &#176;C<",
     ">12.00 %<",
+    "approved: an access message of 21 octets in segments; 2 PDUs vetted, not heard",
+    "refused 26: no message has such a segment there, at place 1; 2 PDUs vetted, not heard",
 )
 START = 'box lamp 0401 "lamp" start 000700'
 # Wrong lines, each with words of what is said about it.
@@ -55,6 +59,11 @@ WRONG = {
     f"{START} long 0075 temperature{' 1.00' * 95}": "381 octets is longer than 380",
     f"{START} before 0075 temperature 1.00 2.00 3.00 now 0075 temperature 1.00": "13 octets is longer than 11",
     "hear lamp segment 0": "hear needs the name of a box",
+    "vet wind": "wind has no message in segments",
+    "vet humidity hole 4": "segments cannot be vetted hole 4",
+    "vet humidity cut 5": "5 is no number from 0 to 4",
+    "vet humidity backwards": "segments cannot be vetted backwards",
+    "vet lamp": "the answer is: unread",
     f"{START}\nhear lamp segment 0": "lamp cannot send: segment 0",
     f"{START}\nhear lamp echo twice": "lamp cannot send: echo twice",
     f"{START}\naccess 0 401 0 0 0 4 52\nhear lamp echo": "lamp cannot send: echo, of a PDU with TTL 0",

@@ -108,14 +108,23 @@ class Box:
     """
 
     def __init__(self, src, start, words, payload, firsts):
-        self.src, self.start, self.words, self.firsts = src, start, words, firsts
+        self.src, self.start, self.words, self.payload, self.firsts = src, start, words, payload, firsts
         self.segments, self.latest, self.said = [], {}, []
         if payload:
-            upper = self._secured(start, STATION, payload)
-            self.segments = transport.cut(0, 0x40 | k4(APPLICATION_KEY), 0, start, upper)
+            self.segments = self._cut(start, self._secured(start, STATION, payload))
         self.next = start + len(self.segments) + (1 if firsts else 0)
         if self.next > LAST_SEQ + 1:
             raise Unknown(f"its numbers end with {LAST_SEQ:x}, and its message needs more")
+
+    @staticmethod
+    def _cut(start, upper):
+        """The segments of a message that is begun with this SEQ."""
+        return transport.cut(0, 0x40 | k4(APPLICATION_KEY), 0, start, upper)
+
+    def counting(self):
+        """Its segments as a wrong box makes them: the SeqZero of each is that of its own SEQ, not of the SEQ that the message was begun with."""
+        upper = self._secured(self.start, STATION, self.payload)
+        return [self._cut(self.start + place, upper)[place] for place in range(len(self.segments))]
 
     def _secured(self, seq, dst, payload, index=IV_INDEX):
         """The upper transport octets of a message."""

@@ -5,8 +5,9 @@
 
 story.txt is the script, but that a box is made there by a line of its own (`box wind 0101 "wind box" start 000100`; it becomes the comment that
 names the box in the picture), that what a box sends is named there (`hear humidity segment 2 resent`; boxes.py has the forms of both), likewise
-what was handed up from it (`readings humidity`; `changed` has the forms), and that `=>` may stand behind a command, with words of its answer:
-they must stand in the answer in that order, `forward` exactly where something is forwarded. The answers are those of the independent model, which
+what was handed up from it (`readings humidity`; `changed` has the forms) and what its maker has sent in of it (`vet humidity`; `on_bench` has them),
+and that `=>` may stand behind a command, with words of its answer: they must stand in the answer in that order, `forward` exactly where something is
+forwarded. The answers are those of the independent model, which
 the console itself is held to by `rt check console`.
 """
 import subprocess
@@ -78,11 +79,36 @@ def read(words, shed, messages):
     return f"readings {changed(messages[words[0]], words[1:]).hex() or '-'}"
 
 
+def on_bench(box, words):
+    """The transport PDUs of a box's long message: as they are; without the last of them; without one; or with SeqZero counting on, as SEQ does."""
+    match words:
+        case []:
+            return box.segments
+        case ["cut", count]:
+            return box.segments[:len(box.segments) - number(count, len(box.segments))]
+        case ["hole", place] if number(place, 31) < len(box.segments):
+            return box.segments[:number(place, 31)] + box.segments[number(place, 31) + 1:]
+        case ["counting"]:
+            return box.counting()
+    raise Wrong(f"segments cannot be vetted {' '.join(words)}")
+
+
+def vetted(words, shed):
+    """The console's line for a `vet` of story.txt: of a box's segments, or of PDUs as they stand there."""
+    if not words or words[0] not in shed:
+        return " ".join(["vet", *words])
+    if not shed[words[0]].segments:
+        raise Wrong(f"{words[0]} has no message in segments")
+    return " ".join(["vet 0", *(pdu.hex() for pdu in on_bench(shed[words[0]], words[1:]))])
+
+
 def spoken(line, shed, messages, last):
     """The console's line for a command of story.txt."""
     words = line.split()
     if words[0] == "readings":
         return read(words[1:], shed, messages)
+    if words[0] == "vet":
+        return vetted(words[1:], shed)
     if words[0] != "hear":
         return line
     if len(words) < 2 or words[1] not in shed:

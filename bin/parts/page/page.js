@@ -9,7 +9,7 @@ const WORD = { new: "new", filled: "came", missing: "hole", again: "again", name
 const MEANS = { new: "comes with this PDU", filled: "came before", missing: "a hole: missing", again: "repeated: nothing new",
   named: "named by an acknowledgement", whole: "handed up" };
 const KIND = { stored: "stored", handed: "handed up", repeat: "repeat", acknowledging: "acknowledgement sent", acknowledged: "acknowledgement heard",
-  readings: "readings", unread: "unread" };
+  readings: "readings", vetted: "vetted: approved", unread: "unread" };
 // The marks of what was read.
 const READ = [["value", "a number", "with its unit, as the box wrote it"], ["unknown", "not known", "the box itself says so: a gap in the plot"],
   ["prohibited", "prohibited", "no box may write this: a gap in the plot"], ["raw", "raw", "octets of a property that nobody has named: not plotted"]];
