@@ -3,7 +3,7 @@ from collections import namedtuple
 
 import transport
 from boxes import APPLICATION_KEY, IV_INDEX, NETWORK_KEY, STATION
-from sealed import BOX, DEVICE_KEY, GROUP, OTHER_KEY, READING, READINGS, SECOND_KEY, akf_aid, changed, hear, secured, segment, whole
+from sealed import BOX, DEVICE_KEY, GROUP, OTHER_KEY, READING, READINGS, SECOND_KEY, akf_aid, changed, hear, parts, secured, segment, vet, whole
 
 # Lines that the log has and the page leaves out.
 Hidden = namedtuple("Hidden", "lines")
@@ -118,8 +118,9 @@ def short_buffer():
     """`room` has lent too little: 29 octets (1d) for a PDU, 384 (180) for a message. It is asked before all else, whether the buffer is needed or not. In C it
     is `out_len` below 29."""
     return [segment(0, 0x100), "# 28 octets for a PDU: hearing, sending and acknowledging are refused", "room 1c 180", whole(0x105),
-            "access 0 201 - 0 0 4 52", "control 0 201 - 0 1 -", "segment 0", "ack 0 201", "# 383 octets for a message: hearing is refused",
-            "room 1d 17f", whole(0x105), "# sending needs no buffer for a message", "access 0 201 - 0 0 4 52", "# now both are as at the start",
+            "access 0 201 - 0 0 4 52", "control 0 201 - 0 1 -", "segment 0", "ack 0 201",
+            "# vetting needs no buffer for a PDU", vet(*parts(0x100)), "# 383 octets for a message: hearing and vetting are refused",
+            "room 1d 17f", whole(0x105), vet(*parts(0x100)), "# sending needs no buffer for a message", "access 0 201 - 0 0 4 52", "# now both are as at the start",
             "room 1d 180", whole(0x105)]
 
 
@@ -146,9 +147,28 @@ def own_source():
             "# the station knows of the box alone", "show"]
 
 
+def fault():
+    """The PDU at this place, counted from 0, begins with those before it the segments of no message. In a message octet 0, SZMIC or RFU, SeqZero and SegN are
+    the same in all segments, SegO is the place, each but the last is full, and none stands behind the last. The first PDU at fault is named, and what stands
+    behind it is not judged."""
+    first, second, last = parts(0x100)
+    other = parts(0x101)[1]
+    return ["# the three segments of five readings, whole: approved", vet(first, second, last), "# the second has another SeqZero", vet(first, other, last),
+            "# the second is missing, and the third stands in its place", vet(first, last), "# the first is not full", vet(first[:-1], second, last),
+            "# the last has nothing behind its first four octets", vet(first, second, last[:4]), "# one too many: the last again", vet(first, second, last, last),
+            "# the same as control segments, which hold eight octets and not twelve", vet(first, second, last, ctl=1),
+            "# a control segment whose RFU bit is 1; and as it should be", vet(bytes.fromhex("8a80000052"), ctl=1), vet(bytes.fromhex("8a00000052"), ctl=1)]
+
+
+def unfinished():
+    """No PDU is at fault, but the list ends before SegN is reached: the last segments are missing. So it is where no PDU is given at all."""
+    first, second, last = parts(0x100)
+    return ["# no PDU", vet(), "# the first of three", vet(first), "# the first two", vet(first, second), "# and all three: approved", vet(first, second, last)]
+
+
 # Each example by its number.
 MADE = {
     1: wrong_length, 2: no_candidate, 3: not_authentic, 4: wrong_address, 5: cached, 6: not_for_node, 7: wrong_form, 8: no_seq_auth, 9: replayed,
     10: differs, 11: no_entry_left, 12: no_slot_left, 13: not_opened, 14: outside_rules, 15: no_seq_left, 16: short_buffer, 20: cut, 21: misfit,
-    22: own_source,
+    22: own_source, 26: fault, 27: unfinished,
 }

@@ -38,10 +38,19 @@ def whole(seq, payload=READING, src=BOX, dst=STATION, app=APPLICATION_KEY, index
     return hear(seq, bytes([akf_aid(app)]) + secured(seq, payload, src, dst, index, app), src, dst, index=index, **how)
 
 
+def parts(start, src=BOX, dst=STATION):
+    """The transport PDUs of the five readings, begun with the SEQ `start`: three segments."""
+    return transport.cut(0, akf_aid(), 0, start, secured(start, READINGS, src, dst))
+
+
 def segment(place, start, seq=None, src=BOX, dst=STATION, **how):
     """The line for a segment of the five readings, begun with the SEQ `start`; segment N is first sent with `start` + N."""
-    parts = transport.cut(0, akf_aid(), 0, start, secured(start, READINGS, src, dst))
-    return hear(start + place if seq is None else seq, parts[place], src, dst, **how)
+    return hear(start + place if seq is None else seq, parts(start, src, dst)[place], src, dst, **how)
+
+
+def vet(*pdus, ctl=0):
+    """The line that vets these transport PDUs."""
+    return " ".join([f"vet {ctl}", *(pdu.hex() or "-" for pdu in pdus)])
 
 
 def acknowledgement(seq, start, bits):

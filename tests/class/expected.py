@@ -36,6 +36,11 @@ class Wanted:
         return self.command.startswith("ack ") and self.answers[0].startswith("sent ") or self.answers[0].startswith("acknowledgement ")
 
     @property
+    def is_vetted(self):
+        """Whether a list of segments was vetted."""
+        return self.command.startswith("vet ") and self.answers != ["unread"]
+
+    @property
     def forwarded(self):
         """The PDU that was forwarded, or none."""
         return self.answers[0].partition(" forward ")[2]

@@ -1,4 +1,6 @@
 """Goes through a page in the browser, forwards and backwards, and compares each step with what it must show."""
+import re
+
 from expected import visible, wanted
 
 # What one step shows, as it stands in the page.
@@ -31,6 +33,11 @@ def told_apart(step, shown, sentences):
         pairs += [("kind", shown["kind"], f"refused {step.refused}"), ("refusal in words", f"refused {step.refused}: " in shown["words"], True)]
     if step.src:
         pairs += [("source in words", step.src in shown["words"], True), ("forwarding in words", "forwarded" in shown["words"], bool(step.forwarded))]
+    if step.is_vetted:
+        fault = re.fullmatch(r"refused 26 at (\w+)", step.answers[0])
+        pairs += [("verdict", shown["kind"], f"refused {step.refused}" if step.refused else "vetted: approved"),
+                  ("word that nothing was heard", shown["words"].endswith(" vetted, not heard"), True),
+                  ("place in words", f", at place {int(fault[1], 16)};" in shown["words"] if fault else "at place" in shown["words"], bool(fault))]
     if step.answers == ["unread"]:
         pairs += [("kind", shown["kind"], "unread"), ("reason", shown["words"].startswith("unread: "), True)]
     return [f"the {what} is {found!r}, not {right!r}" for what, found, right in pairs if found != right]
@@ -54,6 +61,8 @@ def placed(step, shown):
         found = {message["who"].rpartition("(")[2].strip(")"): filled(message) for message in shown["messages"] if "session open" in message["state"]}
         if found != step.sessions:
             wrong.append(f"the open sessions are {found}, not {step.sessions}")
+    if step.is_vetted and own:
+        wrong.append("a list that was vetted is shown as a message that comes")
     if set(shown["holes"]) - {"dashed"}:
         wrong.append("a hole has no dashed frame")
     return wrong
