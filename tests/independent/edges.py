@@ -52,7 +52,7 @@ TEXTS = (
     _straddling(b"netkey " + KEY + b"\nsetup\n"), _straddling(_vetting(PAIR) + b"\n"), b"readings -", b"readings 52\nproperties",
     b"properties\nproperty 0 humidity\nproperty 0 temperature", LONGEST, LONGEST + b"\n",
     *[b"readings " + first + b"00" * more + end for first in (b"52", b"04") for more in (379, 380, 2042, 2043) for end in (b"", b"\nreadings 52\n")],
-    *VETTINGS, b"\n".join(VETTINGS), READY + b"room 1d 17f\n" + b"\n".join(VETTINGS) + b"\nroom 1d 180\n" + _vetting(PAIR) + b"\nshow\n",
+    b"vet", b"vet 0", _vetting(ACCESS), *VETTINGS[-4:], b"\n".join(VETTINGS), READY + b"room 1d 17f\n" + b"\n".join(VETTINGS) + b"\nroom 1d 180\n" + _vetting(PAIR) + b"\nshow\n",
 )
 
 

@@ -5,7 +5,6 @@ behind them, and cut as a sender cuts it; what comes of it is held against the P
 at fault, so that the comparison can count the reasons.
 """
 from collections import namedtuple
-from itertools import takewhile
 
 ROOM = 384
 # By CTL: the octets of a full segment, what octet 0 may be, and the longest upper transport PDU; and the shortest by the bit before SeqZero.
@@ -39,7 +38,7 @@ def _sent(message):
 
 
 def _tried(ctl, pdus):
-    """For each length every message that may begin with these PDUs: octet 0, the bit and SeqZero stand in the first, whatever the others say."""
+    """For each length the message that may begin with these PDUs: octet 0, the bit and SeqZero are those of the first, whatever the others say."""
     if not pdus or len(pdus[0]) < FRONT:
         return
     first, bit, seq_zero, *_ = said(pdus[0])
@@ -52,7 +51,12 @@ def _tried(ctl, pdus):
 
 def _agreed(pdus, message):
     """How many PDUs, from the first on, are this message's segments."""
-    return sum(1 for _ in takewhile(lambda pair: pair[0] == pair[1], zip(pdus, _sent(message))))
+    found = 0
+    for pdu, segment in zip(pdus, _sent(message)):
+        if pdu != segment:
+            break
+        found += 1
+    return found
 
 
 def judged(ctl, pdus):
