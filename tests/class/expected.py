@@ -103,6 +103,8 @@ class Listener:
             self.read(step, rest[0].lower())
         elif word == "show" and len(step.answers) > 1:
             step.sessions = {value(line, "src"): places(int(value(line, "bits"), 16)) for line in step.answers if line.startswith("session ")}
+        elif step.is_vetted:
+            step.sessions = {src: places(bits) for src, (_, bits) in self.bits.items()}
         step.plots = {key: found[-WINDOW:] for key, found in self.plots.items()}
 
     def heard(self, step, answer):
