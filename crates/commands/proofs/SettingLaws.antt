@@ -115,27 +115,28 @@ read-start texts =
     noSequences)
     (zero-add (length texts)))
 
--- ---- the text behind a space at `at` is a number, or is none; or the line ends
+-- ---- the text behind a space at `at`; it is a number, or is none; or the line ends
 module _
     (line : List ℕ) (at end : ℕ) (h : at < length line) (space : getD line at 0 ≡ 32) (e : end ≡ (at + 1) + first (is 32) (drop (at + 1) line))
-    (text : List ℕ) (t : text ≡ take (end - (at + 1)) (take (length line - (at + 1)) (drop (at + 1) line))) (a : Number) (r : a ≡ numberOf text)
-    (count : ℕ) (next : List ℕ) where
-  left : drop 1 (fields (drop at line)) ≡ text ∷ drop 1 (fields (drop end line))
-  left =
+    (text : List ℕ) (t : text ≡ take (end - (at + 1)) (take (length line - (at + 1)) (drop (at + 1) line))) where
+  pub field-left : drop 1 (fields (drop at line)) ≡ text ∷ drop 1 (fields (drop end line))
+  field-left =
       fields-on line at end h space e
       ∙ ap (λ (m : List ℕ). m ∷ drop 1 (fields (drop end line)))
       (sym
       (t ∙ ap (take (end - (at + 1))) (take-all (length line - (at + 1)) (drop (at + 1) line) (simp length-drop (omega arith)))))
 
-  pub read-on :
-      (n : ℕ) → a ≡ Value n
-      → sequencesFrom count next (drop 1 (fields (drop at line))) ≡ sequencesFrom (counted elementPlaces count) (set next count n) (drop 1 (fields (drop end line)))
-  unfolding sequencesFrom
-  read-on n k = rw (left, ← r, k)
+  module _ (a : Number) (r : a ≡ numberOf text) (count : ℕ) (next : List ℕ) where
+    pub read-on :
+        (n : ℕ) → a ≡ Value n
+        → sequencesFrom count next (drop 1 (fields (drop at line)))
+        ≡ sequencesFrom (counted elementPlaces count) (set next count n) (drop 1 (fields (drop end line)))
+    unfolding sequencesFrom
+    read-on n k = rw (field-left, ← r, k)
 
-  pub read-wrong : a ≡ NotHex → noSequences ≡ sequencesFrom count next (drop 1 (fields (drop at line)))
-  unfolding sequencesFrom
-  read-wrong k = rw (left, ← r, k)
+    pub read-wrong : a ≡ NotHex → noSequences ≡ sequencesFrom count next (drop 1 (fields (drop at line)))
+    unfolding sequencesFrom
+    read-wrong k = rw (field-left, ← r, k)
 
 pub read-end :
     (line : List ℕ) (at count : ℕ) (next : List ℕ) → length line ≤ at
