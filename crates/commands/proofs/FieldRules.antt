@@ -5,6 +5,7 @@ use mathlib.Core.Path.{_≡_, _∙_}
 use mathlib.Core.Bool.{Bool}
 use mathlib.Core.List.{List}
 use Prim.Native.Nat.{ℕ}
+use lib.Dec.{eqb}
 use Rattle.common.specs.Lent.{lent}
 use Rattle.sensor.specs.declared.properties.Kind.{Kind}
 use Rattle.transport.specs.declared.securing.MessageKey.{MessageKey}
@@ -12,13 +13,15 @@ use Rattle.sending.specs.declared.request.Request.{Request}
 use Rattle.sending.specs.declared.request.Ttl.{Ttl}
 use Rattle.text.specs.declared.number.Number.{Number}
 use Rattle.text.specs.declared.number.Number.the-variants.{Value, NotHex}
+use Rattle.text.specs.declared.number.Bit.{Bit}
+use Rattle.text.specs.declared.number.Bit.the-variants as bit
 use Rattle.text.specs.declared.number.Octet.{Octet}
 use Rattle.text.specs.declared.number.Octet.the-variants as octet
 use Rattle.text.specs.declared.number.Short.{Short}
 use Rattle.text.specs.declared.number.Short.the-variants as short
 use Rattle.text.specs.declared.hex.Octets.{Octets}
 use Rattle.text.specs.Hex.{reading}
-use Rattle.text.specs.Number.{numberOf, atMost, octetOf, shortOf}
+use Rattle.text.specs.Number.{numberOf, atMost, octetOf, shortOf, bitOf}
 use Rattle.text.proofs.NumberLaws.{if-map, at-most-map, onNumber, number-made}
 use Rattle.commands.specs.declared.naming.KindField.{KindField}
 use Rattle.commands.specs.declared.naming.KindField.the-variants as kind
@@ -32,7 +35,7 @@ use Rattle.commands.specs.declared.requesting.Asked.{Asked}
 use Rattle.commands.specs.declared.requesting.Asked.the-variants as asked
 use Rattle.commands.specs.declared.line.Line.{Line}
 use Rattle.commands.specs.Naming.{withKind}
-use Rattle.commands.specs.Request.{upTo, withTtl, withKey, withMic, withRequest}
+use Rattle.commands.specs.Request.{upTo, withBit, withTtl, withKey, withMic, withRequest}
 use Rattle.commands.specs.Line.{counted, withOctets}
 
 -- ---- what each reading leads to, x where it does not fit
@@ -43,6 +46,10 @@ onOctet x f octet.Unfit = x
 abbrev onShort : {A : Type 0} → A → (ℕ → A) → Short → A
 onShort x f (short.Value v) = f v
 onShort x f short.Unfit = x
+
+abbrev onBit : {A : Type 0} → A → (Bool → A) → Bit → A
+onBit x f (bit.Value v) = f v
+onBit x f bit.Unfit = x
 
 abbrev onKind : {A : Type 0} → A → (Kind → A) → KindField → A
 onKind x f (kind.Fits v) = f v
@@ -76,6 +83,10 @@ module _ {A : Type 0} (text t : List ℕ) (same-text : t ≡ text) (x z : A) whe
   pub short-read : (f : ℕ → A) (a b : Short) → a ≡ shortOf (numberOf t) → a ≡ b → z ≡ onShort x f b → z ≡ upTo 0xFFFF text x f
   short-read f a b e k r = r ∙ rw (← k, e, same-text) (at-most-map (onShort x f) 0xFFFF short.Value short.Unfit (numberOf text))
 
+  pub bit-read : (f : Bool → A) (a b : Bit) → a ≡ bitOf (numberOf t) → a ≡ b → z ≡ onBit x f b → z ≡ withBit text x f
+  unfolding withBit
+  bit-read f a b e k r = r ∙ rw (← k, e, same-text) (at-most-map (onBit x f) 1 (λ n. bit.Value (eqb n 1)) bit.Unfit (numberOf text))
+
   pub kind-read : (f : Kind → A) (a b : KindField) → a ≡ withKind t kind.Unfit kind.Fits → a ≡ b → z ≡ onKind x f b → z ≡ withKind text x f
   unfolding withKind
   kind-read f a b e k r = r ∙ rw (← k, e, same-text) (simp (if-map (onKind x f)))
@@ -104,4 +115,4 @@ pub octets-read :
     → lent z left ≡ withOctets text out f
 octets-read text t out left same-text f z a b e k r = rw (← same-text, ← e, k, r)
 
-pub ruleset field-rules = (number-read, octet-read, short-read, kind-read, ttl-read, key-read, mic-read, request-read, octets-read)
+pub ruleset field-rules = (number-read, octet-read, short-read, bit-read, kind-read, ttl-read, key-read, mic-read, request-read, octets-read)

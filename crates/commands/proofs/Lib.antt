@@ -3,4 +3,5 @@ pub mod ChoiceRules
 pub mod FieldRules
 pub mod LineRules
 pub mod SettingLaws
+pub mod ListingLaws
 pub mod DeskLaws

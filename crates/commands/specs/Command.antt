@@ -1,5 +1,5 @@
 -- Which command a line is, by its first field, its word; a command that has no other field is the whole line.
---   reading line word                            the words that read what sensors say
+--   apart line word                              the words that have nothing to do with a receiver
 --   givingKey line word, settingUp line word     these and the words that lead to a receiver
 --   speaking line word, withReceiver line word   these and the words that need one
 --   commandOf line ready                         the command of a line, where a receiver is ready or not
@@ -13,14 +13,15 @@ use Rattle.text.specs.Octets.{octets}
 use Rattle.commands.specs.declared.setting.Item.the-variants.{NetKey, AppKey, DevKey, Elements, Group, IvIndex, Relay}
 use Rattle.commands.specs.declared.command.Order.the-variants as order
 use Rattle.commands.specs.declared.command.Command.{Command}
-use Rattle.commands.specs.declared.command.Command.the-variants.{Give, SetUp, Order, Property, Forget, Readings, Unknown}
+use Rattle.commands.specs.declared.command.Command.the-variants.{Give, SetUp, Order, Property, Forget, Readings, Vet, Unknown}
 
--- the words that read what sensors say
-unfoldable pub reading : List ℕ → List ℕ → Command
-reading line word =
+-- the words that have nothing to do with a receiver: those that read what sensors say, and `vet`
+unfoldable pub apart : List ℕ → List ℕ → Command
+apart line word =
     if same word (octets "property") then Property else
     if same line (octets "properties") then Forget else
     if same word (octets "readings") then Readings else
+    if same word (octets "vet") then Vet else
     Unknown
 
 -- these, and the words that give a key
@@ -29,7 +30,7 @@ givingKey line word =
     if same word (octets "netkey") then Give NetKey else
     if same word (octets "appkey") then Give AppKey else
     if same word (octets "devkey") then Give DevKey else
-    reading line word
+    apart line word
 
 -- these, and the others that lead to a receiver
 unfoldable pub settingUp : List ℕ → List ℕ → Command

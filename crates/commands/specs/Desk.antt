@@ -62,7 +62,7 @@ notingProperty d n = notingNamed d (n .properties) (n .answer)
 abbrev pub forgetting : Desk → Noted
 forgetting d = noted (withProperties d noProperties) reply.Ok
 
--- a line that is skipped writes nothing; `setup`, what needs a receiver, and readings are not noted here
+-- a line that is skipped writes nothing; `setup`, what needs a receiver, readings and what is vetted are not noted here
 unfoldable pub noting : Desk → Line → List ℕ → Noted
 noting d (line.Give item) text = notingGiven d (giving (d .given) item text)
 noting d (line.Room room) text = notingRoom d room
@@ -76,3 +76,4 @@ noting d line.Show text = noted d reply.Unread
 noting d (line.Property property kind) text = notingProperty d (naming (d .properties) property kind)
 noting d line.Forget text = forgetting d
 noting d (line.Readings len) text = noted d reply.Unread
+noting d (line.Vet ctl len) text = noted d reply.Unread

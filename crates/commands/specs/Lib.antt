@@ -2,6 +2,7 @@
 pub mod Command
 pub mod Request
 pub mod Naming
+pub mod Listing
 pub mod Line
 pub mod Setting
 pub mod Desk

@@ -1,5 +1,6 @@
 -- The fields of a line: numbers, and those of a line that sends. Each definition hands what it reads on to f, and is x where it does not fit.
 --   upTo most text x f     a number of at most so much
+--   withBit text x f       0 or 1
 --   withTtl text x f       a TTL
 --   withKey text x f       the key of an access message
 --   withMic text x f       the size of its MIC
@@ -22,6 +23,10 @@ use Rattle.text.specs.Octets.{octets}
 -- a number of at most so much
 abbrev pub upTo : {A : Type 0} → ℕ → List ℕ → A → (ℕ → A) → A
 upTo most text x f = atMost most f x (numberOf text)
+
+-- 0 or 1: whether it is 1
+unfoldable pub withBit : {A : Type 0} → List ℕ → A → (Bool → A) → A
+withBit text x f = upTo 1 text x λ n. f (eqb n 1)
 
 -- a TTL: a number, or - where it is left unnamed
 unfoldable pub withTtl : {A : Type 0} → List ℕ → A → (Ttl → A) → A

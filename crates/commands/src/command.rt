@@ -2,7 +2,7 @@
 use super::setting::Item;
 use text::field;
 ghost use mathlib.Core.Path.{_≡_};
-ghost use Rattle.commands.specs.Command.{reading, givingKey, settingUp, speaking, withReceiver, commandOf};
+ghost use Rattle.commands.specs.Command.{apart, givingKey, settingUp, speaking, withReceiver, commandOf};
 
 pub(crate) enum Command {
     // One of the lines that lead to `setup`.
@@ -16,6 +16,8 @@ pub(crate) enum Command {
     Forget,
     // The readings of a message are asked for.
     Readings,
+    // PDUs are vetted.
+    Vet,
     // No command.
     Unknown,
 }
@@ -33,7 +35,7 @@ pub(crate) enum Order {
     Show,
 }
 
-// The command of a line. Where there is no receiver yet, only the lines that set one up and those that read what sensors say are commands.
+// The command of a line. Where there is no receiver yet, only the lines that set one up and those that have nothing to do with one are commands.
 pub(crate) fn of(line: &[u8], ready: bool) -> Command
     ensures { λ r. ⌜ r ≡ commandOf (now (line .entry)) ready ⌝ }
 {
@@ -85,7 +87,7 @@ fn speaking(line: &[u8], word: &[u8]) -> Command
     setting_up(line, word)
 }
 
-// The words that lead to a receiver, and those that read what sensors say.
+// The words that lead to a receiver, and those that have nothing to do with one.
 fn setting_up(line: &[u8], word: &[u8]) -> Command
     ensures { λ r. ⌜ r ≡ settingUp (now (line .entry)) (now (word .entry)) ⌝ }
 {
@@ -107,7 +109,7 @@ fn setting_up(line: &[u8], word: &[u8]) -> Command
     giving_key(line, word)
 }
 
-// The words that give a key, and those that read what sensors say.
+// The words that give a key, and those that have nothing to do with a receiver.
 fn giving_key(line: &[u8], word: &[u8]) -> Command
     ensures { λ r. ⌜ r ≡ givingKey (now (line .entry)) (now (word .entry)) ⌝ }
 {
@@ -120,12 +122,12 @@ fn giving_key(line: &[u8], word: &[u8]) -> Command
     if common::equal(word, b"devkey") {
         return Command::Give(Item::DevKey);
     }
-    reading(line, word)
+    apart(line, word)
 }
 
-// The words that read what sensors say.
-fn reading(line: &[u8], word: &[u8]) -> Command
-    ensures { λ r. ⌜ r ≡ reading (now (line .entry)) (now (word .entry)) ⌝ }
+// The words that have nothing to do with a receiver: those that read what sensors say, and `vet`.
+fn apart(line: &[u8], word: &[u8]) -> Command
+    ensures { λ r. ⌜ r ≡ apart (now (line .entry)) (now (word .entry)) ⌝ }
 {
     if common::equal(word, b"property") {
         return Command::Property;
@@ -135,6 +137,9 @@ fn reading(line: &[u8], word: &[u8]) -> Command
     }
     if common::equal(word, b"readings") {
         return Command::Readings;
+    }
+    if common::equal(word, b"vet") {
+        return Command::Vet;
     }
     Command::Unknown
 }

@@ -71,7 +71,7 @@ pub fn after_setup(d: Desk, ready: bool) -> Desk
     }
 }
 
-// Notes a line that needs no receiver; any other is unread, and so are readings, which are answered elsewhere.
+// Notes a line that needs no receiver; any other is unread, and so are readings and what is vetted, which are answered elsewhere.
 pub fn note(d: Desk, said: Line, line: &[u8]) -> Noted
     ensures { λ r. ⌜ r ≡ noting d said (now (line .entry)) ⌝ }
 {
@@ -88,6 +88,7 @@ pub fn note(d: Desk, said: Line, line: &[u8]) -> Noted
         Line::Property { property, kind } => name(d, property, kind),
         Line::Forget => forget(d),
         Line::Readings(_) => unread(d),
+        Line::Vet { .. } => unread(d),
     }
 }
 

@@ -2,6 +2,7 @@
 mod command;
 pub mod desk;
 pub mod line;
+mod listing;
 mod naming;
 mod requesting;
 pub mod setting;

@@ -2,6 +2,7 @@
 use super::command::Command;
 use super::command::Order;
 use super::desk::Room;
+use super::listing::list;
 use super::naming::KindField;
 use super::naming::kind_of;
 use super::requesting::Asked;
@@ -17,13 +18,14 @@ use text::field;
 use text::hex;
 use text::hex::Octets;
 use text::number;
+use text::number::Bit;
 use text::number::Number;
 use text::number::Octet;
 use text::number::Short;
 use transport::securing::MessageKey;
 ghost use mathlib.Core.Path.{_≡_};
 ghost use Rattle.common.specs.Lent.{lent};
-ghost use Rattle.commands.specs.Line.{roomOf, hearOf, accessOf, controlOf, segmentOf, ackOf, dropOf, orderOf, propertyOf, readingsOf, lineOf};
+ghost use Rattle.commands.specs.Line.{roomOf, hearOf, accessOf, controlOf, segmentOf, ackOf, dropOf, orderOf, propertyOf, readingsOf, vetOf, lineOf};
 
 pub enum Line {
     // No octets, or a line that begins with #: nothing is answered.
@@ -45,6 +47,8 @@ pub enum Line {
     Forget,
     // The readings of a message of so many octets are asked for.
     Readings(usize),
+    // PDUs are vetted; so many octets list them.
+    Vet { ctl: bool, len: usize },
 }
 
 // What is sent.
@@ -99,6 +103,7 @@ pub fn read(line: &[u8], ready: bool, octets: &mut [u8]) -> Line
         Command::Property => property(line),
         Command::Forget => Line::Forget,
         Command::Readings => readings(line, octets),
+        Command::Vet => vet(line, octets),
         Command::Unknown => Line::Unread,
     }
 }
@@ -245,6 +250,22 @@ fn readings(line: &[u8], octets: &mut [u8]) -> Line
 {
     match hex::read(field::last(line, 1), octets) {
         Octets::Count(len) => Line::Readings(len),
+        Octets::NotHex => Line::Unread,
+    }
+}
+
+// `vet CTL PDU ..`: no PDU or more, each behind its length in the buffer. A line never lists more octets than it has characters.
+fn vet(line: &[u8], octets: &mut [u8]) -> Line
+    ensures { λ r. ⌜ lent r (now (octets .exit)) ≡ vetOf (now (line .entry)) (now (octets .entry)) ⌝ }
+{
+    let Bit::Value(ctl) = number::read_bit(field::nth(line, 1)) else {
+        return Line::Unread;
+    };
+    if octets.len() < line.len() {
+        return Line::Unread;
+    }
+    match list(field::last(line, 1), octets) {
+        Octets::Count(len) => Line::Vet { ctl, len },
         Octets::NotHex => Line::Unread,
     }
 }

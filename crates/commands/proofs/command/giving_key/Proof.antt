@@ -1,4 +1,4 @@
--- `command::giving_key` meets its contract: each word is one test, and behind them stand the words that read what sensors say.
+-- `command::giving_key` meets its contract: each word is one test, and behind them stand the words that have nothing to do with a receiver.
 -- Assumes nothing.
 use borrow.Author.Needs.{needs}
 use Rattle.commands.specs.Command.{givingKey}

@@ -13,5 +13,6 @@ read-spec =
     (tie.spec
     (λ c. search line-rules) (λ c. search needs) (λ c. search line-rules) (λ c. search line-rules) (λ c κs. search needs) (λ c. search needs)
     (λ c κs. search needs) (λ c. search needs) (λ c. search needs) (λ c. search needs) (λ c κs. search needs) (λ c. search needs) (λ c. search needs)
-    (λ c κs. search needs) (λ c. search needs) (λ c. search needs) (λ c. search line-rules) (λ c. search line-rules) (λ c. search line-rules)
-    (λ c. search line-rules) (λ c. search line-rules) (λ c. search needs) (λ c. search line-rules) (λ c. search line-rules))
+    (λ c κs. search needs) (λ c. search needs) (λ c κs. search needs) (λ c. search needs) (λ c. search needs) (λ c. search line-rules)
+    (λ c. search line-rules) (λ c. search line-rules) (λ c. search line-rules) (λ c. search line-rules) (λ c. search needs) (λ c. search line-rules)
+    (λ c. search needs) (λ c. search line-rules) (λ c. search line-rules))
