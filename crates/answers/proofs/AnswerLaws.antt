@@ -148,20 +148,21 @@ module _ (out : List ℕ) (at r : ℕ) (o : List ℕ) where
     unfolding vettedText
     vetted-approved len s k h e = rw (k, ← h) e
 
-    module _ (n : ℕ) (h : n ≡ numberOf (vetting.paper v)) where
-      pub vetted-short : v ≡ vetted.ShortBuffer → lent r o ≡ putting (refusedText n) out at → lent r o ≡ putting (vettedText v message) out at
-      unfolding vettedText
-      vetted-short k e = rw (k, ← rw k at h) e
+    pub vetted-short :
+        (n : ℕ) → v ≡ vetted.ShortBuffer → n ≡ numberOf (vetting.paper v) → lent r o ≡ putting (refusedText n) out at → lent r o ≡ putting (vettedText v message) out at
+    unfolding vettedText
+    vetted-short n k h e = rw (k, ← rw k at h) e
 
-      pub vetted-fault :
-          (i : ℕ) → v ≡ vetted.Fault i → lent r o ≡ putting (refusalText n ++ (named " at " 1 i ++ octets "\n")) out at
-          → lent r o ≡ putting (vettedText v message) out at
-      unfolding vettedText
-      vetted-fault i k e = rw (k, ← rw k at h) e
+    pub vetted-fault :
+        (i n : ℕ) → v ≡ vetted.Fault i → n ≡ numberOf (vetting.paper (vetted.Fault i)) → lent r o ≡ putting (refusalText n ++ (named " at " 1 i ++ octets "\n")) out at
+        → lent r o ≡ putting (vettedText v message) out at
+    unfolding vettedText
+    vetted-fault i n k h e = rw (k, ← h) e
 
-      pub vetted-unfinished : v ≡ vetted.Unfinished → lent r o ≡ putting (refusedText n) out at → lent r o ≡ putting (vettedText v message) out at
-      unfolding vettedText
-      vetted-unfinished k e = rw (k, ← rw k at h) e
+    pub vetted-unfinished :
+        (n : ℕ) → v ≡ vetted.Unfinished → n ≡ numberOf (vetting.paper v) → lent r o ≡ putting (refusedText n) out at → lent r o ≡ putting (vettedText v message) out at
+    unfolding vettedText
+    vetted-unfinished n k h e = rw (k, ← rw k at h) e
 
   -- ---- what became of a PDU
   module _ (a : Answer) (t : Trials) (message : List ℕ) where
