@@ -41,7 +41,12 @@ enum Judged {
 fn read_first(p: &[u8]) -> Stated
     ensures { λ r. ⌜ r ≡ statedBy (now (p .entry)) ⌝ }
 {
-    let n = super::form::number(0, common::octet(p, 1), common::octet(p, 2), common::octet(p, 3));
+    let n = super::form::number(
+        0,
+        common::octet(p, 1),
+        common::octet(p, 2),
+        common::octet(p, 3),
+    );
     Stated {
         first: common::octet(p, 0),
         szmic: 8388608 <= n,

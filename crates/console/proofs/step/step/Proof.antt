@@ -12,7 +12,8 @@ step-spec =
     (tie.spec
     (λ c. search needs) (λ c κs. search needs) (λ c κs. search needs) (λ c. search needs) (λ c κs. search needs) (λ c. search needs) (λ c κs. search needs)
     (λ c. search needs) (λ c κs. search needs) (λ c. search needs) (λ c κs. search needs) (λ c κs. search needs) (λ c. search needs) (λ c κs. search needs)
-    (λ c κs. search needs) (λ c. search needs) (λ c. (search step-rules, search fits-rules)) (λ c. search needs) (λ c. (search step-rules, search fits-rules))
+    (λ c κs. search needs) (λ c. search needs) (λ c κs. search needs) (λ c κs. search needs) (λ c. search needs) (λ c. (search step-rules, search fits-rules))
     (λ c. search needs) (λ c. (search step-rules, search fits-rules)) (λ c. search needs) (λ c. (search step-rules, search fits-rules)) (λ c. search needs)
+    (λ c. (search step-rules, search fits-rules)) (λ c. search needs) (λ c. (search step-rules, search fits-rules)) (λ c. search needs)
     (λ c. (search step-rules, search fits-rules)) (λ c. search needs) (λ c. (search step-rules, search fits-rules)) (λ c. search needs)
     (λ c. (search step-rules, search fits-rules)))
