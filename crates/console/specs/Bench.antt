@@ -9,12 +9,8 @@ use Rattle.answers.specs.Answer.{vettedText}
 use Rattle.console.specs.Answered.{Answered, answered}
 use Rattle.console.specs.Receiving.{lentOf}
 
--- PDUs are vetted with this buffer: what is approved is its first octets
-unfoldable pub vetsInto : Desk → Bool → List ℕ → List ℕ → Answered Desk
-vetsInto d ctl list message =
-    let v = vetting ctl list message in
-    answered d (vettedText (v .answer) (v .buffer))
-
--- `vet CTL PDU ..`: the buffer has the length that `room` named second, and the desk stays as it is
+-- `vet CTL PDU ..`: the buffer has the length that `room` named second, and what is approved is its first octets; the desk stays as it is
 unfoldable pub vets : Desk → Bool → List ℕ → Answered Desk
-vets d ctl list = vetsInto d ctl list (lentOf (d .room .message))
+vets d ctl list =
+    let v = vetting ctl list (lentOf (d .room .message)) in
+    answered d (vettedText (v .answer) (v .buffer))

@@ -2,12 +2,9 @@
 use answers::answer;
 use commands::desk::Desk;
 ghost use mathlib.Core.Path.{_≡_};
-ghost use Prim.Native.Nat.{_≤_};
-ghost use lib.ListN.{length};
-ghost use Rattle.transport.specs.Segment.{messageOctets};
 ghost use Rattle.answers.specs.Fits.{Fits};
 ghost use Rattle.console.specs.Answered.{put, answerPut};
-ghost use Rattle.console.specs.Bench.{vetsInto, vets};
+ghost use Rattle.console.specs.Bench.{vets};
 
 // Vets the PDUs of a list. Of the buffer for a message as much is lent as `room` said. The desk stays.
 pub(crate) fn vet(d: Desk, ctl: bool, list: &[u8], out: &mut [u8], at: &mut usize) -> Desk
@@ -17,22 +14,7 @@ pub(crate) fn vet(d: Desk, ctl: bool, list: &[u8], out: &mut [u8], at: &mut usiz
     let room = d.room;
     let mut message = super::lent::longest();
     let n = text::within(room.message, &message);
-    vet_into(d, ctl, list, &mut message[..n], out, at)
-}
-
-fn vet_into(
-    d: Desk,
-    ctl: bool,
-    list: &[u8],
-    message: &mut [u8],
-    out: &mut [u8],
-    at: &mut usize,
-) -> Desk
-    requires { ⌜ length (now message) ≤ messageOctets ⌝ }
-    ensures exact { λ e. ⌜ put e (now (at .exit)) (now (out .exit)) ≡ answerPut (vetsInto d ctl (now (list .entry)) (now (message .entry))) (now (out .entry)) (now (at .entry)) ⌝ }
-    ensures fits { λ e. ⌜ Fits (vetsInto d ctl (now (list .entry)) (now (message .entry)) .text) ⌝ }
-{
-    let vetted = transport::vetting::vet(ctl, list, message);
-    *at = answer::put_vetted(vetted, message, out, *at);
+    let vetted = transport::vetting::vet(ctl, list, &mut message[..n]);
+    *at = answer::put_vetted(vetted, text::first(&message, n), out, *at);
     d
 }

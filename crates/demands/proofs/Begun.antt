@@ -3,6 +3,7 @@
 --   laws-begun      what is made of it
 --   last-begun      its SegN, as it is answered
 --   holds-begun, keeps-begun    the sender behind the call
+--   holds-after, kept-after     and behind any calls that leave the message kept
 --   can-begun, goes-begun       a segment of it can be sealed, and is made
 use mathlib.Core.Bool.{true, false}
 use mathlib.Core.List.{List, _∷_}
@@ -32,12 +33,12 @@ use Rattle.sending.specs.Request.{ttlOf}
 use Rattle.sending.specs.Transmission.{nextSeq}
 use Rattle.sending.proofs.Laws.Allowed.{Asked, ttl-low, sendable-allowed}
 use Rattle.sending.proofs.Laws.Stamped.{address-local}
-use Rattle.demands.specs.Call.{Call, SendSegment, Outcome, leftSaid, step}
-use Rattle.demands.specs.GoesOut.{accepted}
+use Rattle.demands.specs.Call.{Call, SendSegment, Outcome, leftSaid, step, after}
+use Rattle.demands.specs.GoesOut.{accepted, StaysKept}
 use Rattle.demands.specs.ReadBack.{sayCall, goesWhole, saidBy, pduMade, Piece, pieces, segNAs, Shared}
 use Rattle.demands.specs.Speech.{Words, Speech, isControl, lastOf, headerOf}
 use Rattle.demands.proofs.Invariant.{good-step}
-use Rattle.demands.proofs.Pieces.{Of, Laws, Holds, can-told, pdu-told, pieces-told, segment-goes}
+use Rattle.demands.proofs.Pieces.{Of, Laws, Holds, can-told, pdu-told, pieces-told, holds-behind, kept-behind, segment-goes}
 use Rattle.demands.proofs.SaidLaws.{request-of, fits-of, held, Kept, kept}
 use Rattle.demands.proofs.SentLaws.{StartedBy, keptAs, sendingAs, step-is}
 use Rattle.demands.proofs.SpeechCut.{Cut, cut-fits, cut-low}
@@ -136,6 +137,13 @@ module _ (sender : Receiver) (good : Good sender) (node : Node) (shared : Shared
 
     pub keeps-begun : behind .out .src ≡ 0 → ⊥
     keeps-begun = rw (g .leaves, keeping .src-is) (unicast-some (s .src) from-unicast)
+
+    -- and behind any calls that leave the message kept
+    pub holds-after : (l : List Call) → StaysKept behind l → HoldsIt (after behind l) (suc first)
+    holds-after l e = holds-behind sender own node shared q there s refl o keeping l behind (suc first) e holds-begun
+
+    pub kept-after : (l : List Call) → StaysKept behind l → after behind l .out .src ≡ 0 → ⊥
+    kept-after l e = kept-behind sender own node shared q there s refl o keeping l behind e
 
     -- segment 0
     abbrev zeroth : Piece

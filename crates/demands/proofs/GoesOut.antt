@@ -49,8 +49,8 @@ use Rattle.demands.specs.GoesOut.{restAs, accepted, pduCount, GoesOut, S
 use Rattle.demands.specs.Interleaved.{Each}
 use Rattle.demands.specs.ReadBack.{sayCall, goesWhole, saidBy, segNAs, Shared}
 use Rattle.demands.specs.Speech.{Words, Access, Control, Speech, keyOf, envelopeOf, akfOf, aidOf, octetsOf, lastOf}
-use Rattle.demands.proofs.Begun.{there, ttl-fits, from-unicast, keeping, segn-is, HoldsIt, last-most, can-begun, goes-begun, raised-begun, out-begun, holds-begun, keeps-begun, last-begun}
-use Rattle.demands.proofs.Pieces.{header-is, key-number, key-is, leaves-out, raised, holds-more, holds-behind, kept-behind}
+use Rattle.demands.proofs.Begun.{there, ttl-fits, from-unicast, keeping, segn-is, HoldsIt, last-most, can-begun, goes-begun, raised-begun, out-begun, holds-begun, keeps-begun, holds-after, kept-after, last-begun}
+use Rattle.demands.proofs.Pieces.{header-is, key-number, key-is, leaves-out, raised, holds-more}
 use Rattle.demands.proofs.SaidLaws.{access-stamped, control-stamped, request-of}
 use Rattle.demands.proofs.SentLaws.{headerAs, keptAs, sendingAs, said-by, StartedBy, started-by, Way, Whole, Begun, way, step-is}
 use Rattle.demands.proofs.SpeechCut.{cut-is}
@@ -238,13 +238,9 @@ module _ (sender : Receiver) (good : Good sender) (q : Request) (words : Words) 
   goes-way (Begun a v g) e last unheard near left-seq =
       let node = sender .node in
       let shared = shared-itself node in
-      let own = keeping sender good node shared q words a in
-      let low = there sender good node shared q words a in
       let behind = sendingAs sender q words buf .answer .receiver in
-      let s = saidBy sender q words in
-      let o = keptAs sender q words in
-      let h = holds-behind sender (good .node-made) node shared q low s refl o own l behind _ e (holds-begun sender good node shared q words a buf g) in
-      let z = kept-behind sender (good .node-made) node shared q low s refl o own l behind e in
+      let h = holds-after sender good node shared q words a buf g l e in
+      let z = kept-after sender good node shared q words a buf g l e in
       goes-begun sender good node shared q words a w (good .node-made) (after behind l) _ n room z h (rw (last-begun sender good node shared q words a buf g) at last)
       unheard wide near left-seq
 

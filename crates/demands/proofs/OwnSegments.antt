@@ -27,11 +27,10 @@ use Rattle.demands.specs.Interleaved.{start}
 use Rattle.demands.specs.OwnSegments.{SendableIfKept, SendableStep, SendableAfter, segmentsKept, OwnApproved, KeptAsSaid}
 use Rattle.demands.specs.ReadBack.{goesWhole, saidBy}
 use Rattle.demands.specs.Speech.{Words, octetsOf}
-use Rattle.demands.proofs.Begun.{there, keeping, holds-begun}
+use Rattle.demands.proofs.Begun.{keeping, holds-after, kept-after}
 use Rattle.demands.proofs.GoesOut.{shared-itself}
 use Rattle.demands.proofs.Left.{walk-step}
-use Rattle.demands.proofs.Pieces.{holds-behind, kept-behind}
-use Rattle.demands.proofs.SentLaws.{Way, Whole, Begun, way, sendingAs, keptAs, step-is}
+use Rattle.demands.proofs.SentLaws.{Way, Whole, Begun, way, sendingAs, step-is}
 
 -- ---- kept by every call
 none-sendable : SendableIfKept noOutgoing
@@ -90,15 +89,9 @@ module _ (sender : Receiver) (good : Good sender) (q : Request) (words : Words) 
   said-way (Whole a v g) e = absurd (true≢false (sym v ∙ w))
   said-way (Begun a v g) e =
       let node = sender .node in
-      let shared = shared-itself node in
-      let own = keeping sender good node shared q words a in
-      let low = there sender good node shared q words a in
-      let behind = sendingAs sender q words buf .answer .receiver in
-      let s = saidBy sender q words in
-      let o = keptAs sender q words in
-      let h = holds-behind sender (good .node-made) node shared q low s refl o own l behind _ e (holds-begun sender good node shared q words a buf g) in
-      let z = kept-behind sender (good .node-made) node shared q low s refl o own l behind e in
-      ap keptOctets (h .still z) ∙ own .octets-are
+      let same = shared-itself node in
+      let h = holds-after sender good node same q words a buf g l e in
+      ap keptOctets (h .still (kept-after sender good node same q words a buf g l e)) ∙ keeping sender good node same q words a .octets-are
 
 pub kept-as-said : KeptAsSaid
 kept-as-said sender q words buf l good sent w kept =

@@ -115,6 +115,9 @@ pub record Keeps (o : Outgoing) (src : ℕ) (auth : Pair) (terms : Terms) (ttl :
   pub places : length (o .bytes) ≡ messageOctets
   pub octets-are : length octets ≤ messageOctets → take (o .len) (o .bytes) ≡ octets
 
+padded-long : (m : List ℕ) → length (padded messageOctets m) ≡ messageOctets
+padded-long m = length-tab (λ i. getD m i 0) messageOctets
+
 -- SegN is one less than the chunks of 12
 pub keeps-access :
     (e : Envelope) (q : Request) (k : KeyUsed) (payload : List ℕ)
@@ -131,16 +134,7 @@ pub keeps-access :
 unfolding outgoingOf
 keeps-access e q k payload =
     let m = secured (k .key) e payload in
-    record {
-      src-is = refl;
-      auth-is = refl;
-      terms-is = refl;
-      ttl-is = refl;
-      unheard = refl;
-      len-is = refl;
-      places = length-tab (λ i. getD m i 0) messageOctets;
-      octets-are = take-padded messageOctets m;
-    }
+    record { src-is = refl; auth-is = refl; terms-is = refl; ttl-is = refl; unheard = refl; len-is = refl; places = padded-long m; octets-are = take-padded messageOctets m }
 
 -- or of 8
 pub keeps-control :
@@ -156,16 +150,8 @@ pub keeps-control :
     }) (ttlOf (q .ttl)) parameters
 unfolding control.outgoingOf
 keeps-control r q opcode parameters =
-    record {
-      src-is = refl;
-      auth-is = refl;
-      terms-is = refl;
-      ttl-is = refl;
-      unheard = refl;
-      len-is = refl;
-      places = length-tab (λ i. getD parameters i 0) messageOctets;
-      octets-are = take-padded messageOctets parameters;
-    }
+    let m = parameters in
+    record { src-is = refl; auth-is = refl; terms-is = refl; ttl-is = refl; unheard = refl; len-is = refl; places = padded-long m; octets-are = take-padded messageOctets m }
 
 -- ---- the second nonce: what is stamped on the first PDU
 pub envelope-is :
