@@ -38,18 +38,18 @@ module _ (ctl : Bool) (first : ℕ) where
   octet-low h = rw (lt-leb 128 first h) refl
 
   module _ (h : 128 ≤ first) where
-    pub octet-control : ctl ≡ true → ltb 0 (first % 128) ≡ octetAllowed ctl first
+    pub octet-control : ctl ≡ true → (r : Bool) → r ≡ ltb 0 (first % 128) → r ≡ octetAllowed ctl first
     unfolding octetAllowed
-    octet-control t = rw (le-leb 128 first h, t) refl
+    octet-control t r e = rw (le-leb 128 first h, t) e
 
     module _ (t : ctl ≡ false) where
       pub octet-application : 64 ≤ first % 128 → true ≡ octetAllowed ctl first
       unfolding octetAllowed
       octet-application k = rw (le-leb 128 first h, t, le-leb 64 (first % 128) k) refl
 
-      pub octet-device : first % 128 < 64 → eqb (first % 64) 0 ≡ octetAllowed ctl first
+      pub octet-device : first % 128 < 64 → (r : Bool) → r ≡ eqb (first % 64) 0 → r ≡ octetAllowed ctl first
       unfolding octetAllowed
-      octet-device k = rw (le-leb 128 first h, t, lt-leb 64 (first % 128) k) refl
+      octet-device k r e = rw (le-leb 128 first h, t, lt-leb 64 (first % 128) k) e
 
 pub ruleset octet-rules = (octet-low, octet-control, octet-application, octet-device)
 
@@ -63,17 +63,18 @@ module _ (ctl szmic : Bool) where
   unfolding bitAllowed
   bit-access t = rw t refl
 
-  pub few-control : ctl ≡ true → 1 ≡ least ctl szmic
-  unfolding least
-  few-control t = rw t refl
+  module _ (r : ℕ) where
+    pub few-control : ctl ≡ true → r ≡ 1 → r ≡ least ctl szmic
+    unfolding least
+    few-control t e = rw t e
 
-  pub few-long : ctl ≡ false → szmic ≡ true → 9 ≡ least ctl szmic
-  unfolding least
-  few-long t z = rw (t, z) refl
+    pub few-long : ctl ≡ false → szmic ≡ true → r ≡ 9 → r ≡ least ctl szmic
+    unfolding least
+    few-long t z e = rw (t, z) e
 
-  pub few-short : ctl ≡ false → szmic ≡ false → 5 ≡ least ctl szmic
-  unfolding least
-  few-short t z = rw (t, z) refl
+    pub few-short : ctl ≡ false → szmic ≡ false → r ≡ 5 → r ≡ least ctl szmic
+    unfolding least
+    few-short t z e = rw (t, z) e
 
 pub full-control : (ctl : Bool) (n : ℕ) → ctl ≡ true → 8 * n ≡ fullOctets ctl * n
 full-control ctl n t = rw t refl
