@@ -11,17 +11,16 @@ use mathlib.Core.List.{List}
 use mathlib.Core.Path.{_≡_, refl, ap}
 use Prim.Native.Nat.{ℕ, _+_, _≤_, _<_}
 use native.Mathlib.Omega.{arith}
-use borrow.Author.Tests.{eqb-true, eqb-false}
-use lib.Dec.{eqb}
 use lib.ListN.{length}
 use Rattle.common.specs.Chunks.{chunk, chunkCount}
-use Rattle.common.proofs.Chunks.{chunk-full, chunk-some, chunkCount-zero}
+use Rattle.common.proofs.Chunks.{chunk-full, chunk-some}
 use Rattle.common.proofs.Tests.{by-test}
 use Rattle.transport.specs.declared.securing.Envelope.{Envelope}
 use Rattle.transport.specs.declared.securing.MessageKey.the-variants.{Application, Device}
 use Rattle.transport.specs.Securing.{secured}
-use Rattle.transport.specs.Segment.{messageOctets, fullOctets, lastSegment}
+use Rattle.transport.specs.Segment.{messageOctets, fullOctets}
 use Rattle.transport.proofs.SecureOpen.{secured-length}
+use Rattle.transport.proofs.SegmentLaws.{count-last}
 use Rattle.node.specs.declared.addresses.Node.{Node}
 use Rattle.demands.specs.Speech.{Words, Access, Control, Speech, isControl, cutOf, octetsOf, sizeOf, lastOf, Fits, WordsRead, Speakable}
 
@@ -80,14 +79,8 @@ module _ (node : Node) (s : Speech) where
 
   module _ (c : Cut node s) where
     cut-count : lastOf node s + 1 ≡ chunkCount (sizeOf s) (length (octetsOf node s))
-    unfolding lastOf lastSegment
-    cut-count =
-        let b = size-bounds s in
-        let some = c .some in
-        let n = chunkCount (sizeOf s) (length (octetsOf node s)) in
-        by-test (eqb n 0)
-        (λ t. let z = chunkCount-zero (sizeOf s) (length (octetsOf node s)) (b .0) (eqb-true n 0 t) in absurd (omega arith))
-        (λ t. let z = eqb-false n 0 t in omega arith)
+    unfolding lastOf
+    cut-count = let e = count-last (sizeOf s) (length (octetsOf node s)) (size-bounds s .0) (c .some) in omega arith
 
     pub cut-low : lastOf node s < 32
     cut-low = let l = cut-count in let f = c .few in omega arith

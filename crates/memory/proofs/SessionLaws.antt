@@ -1,16 +1,17 @@
 -- Sessions from the code's tests: what segments of one message share, and where the octets of a segment stand.
 -- Assumes nothing.
 use mathlib.Core.Bool.{Bool, true, false, _&&_, not, Bool·beq}
-use mathlib.Core.List.{List, [], _++_, append-nil}
-use mathlib.Core.Path.{_≡_, refl, sym, ap, ap₂, _∙_}
+use mathlib.Core.List.{List, _++_}
+use mathlib.Core.Path.{_≡_, refl, sym, ap, _∙_}
 use Prim.Native.Nat.{ℕ, _+_, _-_, _*_, _%_, _≤_, min}
 use native.Mathlib.Nat.{le-of-lt}
 use native.Mathlib.Omega.{arith}
 use borrow.Author.Tests.{eq-eqb, ne-eqb, ltb-true, ltb-false}
 use lib.Dec.{eqb, ltb}
 use lib.ListN.{length, take, drop, take-append-drop, length-take, length-drop, drop-of-length-le}
-use lib.Seq.{take-all, take-append-seam, drop-append-le}
+use lib.Seq.{take-append-seam, drop-append-le}
 use Rattle.common.specs.Lists.{onto}
+use Rattle.common.proofs.Onto.{laid-copied}
 use Rattle.common.proofs.Tests.{by-test}
 use Rattle.network.specs.declared.header.Header.{Header}
 use Rattle.network.specs.Header.{transportOf}
@@ -103,15 +104,10 @@ module _ (t : List ℕ) (len : ℕ) where
       → y ≡ onto (take (length (take (messageOctets - at) (drop at b))) (take (n - 4) (drop 4 t))) (take (messageOctets - at) (drop at b))
       → take at b ++ (y ++ drop (messageOctets - at) (drop at b)) ≡ take at b ++ onto (drop 4 (take len t)) (drop at b)
   octets-put b at {n} {y} eb ha en hn ey =
-      let d = drop at b in
       let o = drop 4 (take len t) in
-      let ld : length d ≡ messageOctets - at = length-drop at b ∙ ap (λ (k : ℕ). k - at) eb in
-      let whole : take (messageOctets - at) d ≡ d = take-all (messageOctets - at) d (omega arith) in
-      let none : drop (messageOctets - at) d ≡ [] = drop-of-length-le d {i = messageOctets - at} (omega arith) in
       let k : n - 4 ≡ length o = omega arith in
       let part : take (n - 4) (drop 4 t) ≡ o = ap (λ (m : ℕ). take m (drop 4 t)) k ∙ octets-part in
-      let room : take (length d) o ≡ o = take-all (length d) o (omega arith) in
-      ap (λ (z : List ℕ). take at b ++ z) (ap₂ _++_ ((rw (whole, part, room) at ey)) none ∙ append-nil (onto o d))
+      laid-copied o b at (omega arith) (messageOctets - at) y (omega arith) (rw part at ey)
 
 -- ---- the message's length
 module _ (s : Session) (h : Header) (segO : ℕ) where

@@ -8,7 +8,7 @@ use mathlib.Core.Bool.{Bool, true, false}
 use mathlib.Core.List.{List, [], _∷_, _++_, flatten}
 use mathlib.Core.Path.{_≡_, refl, sym, ap, ap₂, _∙_}
 use Prim.Native.Nat.{ℕ, zero, suc, _+_, _-_, _*_, _≤_, _<_}
-use native.Mathlib.Nat.{lt-of-mul-lt-mul-left, mul-le-mul-left, mul-suc, pos-of-ne-zero}
+use native.Mathlib.Nat.{lt-of-mul-lt-mul-left, mul-le-mul-left, mul-suc}
 use native.Mathlib.Omega.{arith}
 use borrow.Author.Tests.{ltb-true, ltb-false, lt-ltb}
 use lib.Dec.{ltb}
@@ -17,7 +17,7 @@ use lib.Seq.{take-at, drop-at, getD-take}
 use Rattle.common.specs.Choice.{if_then_else_}
 use Rattle.common.specs.Chunks.{chunk, chunkCount}
 use Rattle.common.specs.Lists.{tab, tabFrom}
-use Rattle.common.proofs.Chunks.{chunkCount-zero, chunk-full, chunk-some, chunk-last, chunks-join, Cuts, length-joined, chunk-joined, count-joined}
+use Rattle.common.proofs.Chunks.{chunk-full, chunk-some, chunk-last, chunks-join, Cuts, length-joined, chunk-joined, count-joined}
 use Rattle.common.proofs.Lists.{length-tab, getD-tab, tab-is, take-tab}
 use Rattle.common.proofs.Tests.{by-test}
 use Rattle.transport.specs.declared.vetting.Stated.{Stated}
@@ -26,7 +26,7 @@ use Rattle.transport.specs.Vetting.{segmentsOf, octetAllowed, bitAllowed
 use Rattle.transport.specs.VettedExactly.{Begins}
 use Rattle.transport.proofs.FitLaws.{size-some, least-some, least-size, most-is, Fitting, Fit, fills-parts, fills-from, fits-parts, fits-from}
 use Rattle.transport.proofs.ReadsBack.{fields-back, three}
-use Rattle.transport.proofs.SegmentLaws.{length-front}
+use Rattle.transport.proofs.SegmentLaws.{length-front, count-last}
 
 -- ---- the segments of an allowed message
 abbrev pub madeOf : ℕ → Bool → ℕ → ℕ → Stated
@@ -53,10 +53,10 @@ joined-from size c z q n u i (suc m) =
     ap₂ _++_ (drop-at (segmentFront c z q i n) (chunk size u i) 4 (length-front c z q i n)) (joined-from size c z q n u (suc i) m)
 
 -- so many segments, and SegN has 5 bits
-pub record Spans (size n : ℕ) (u : List ℕ) : Type 0 where
-  pub count : chunkCount size (length u) ≡ suc n
-  pub ends : length u ≡ size * n + length (chunk size u n)
-  pub low : n < 32
+record Spans (size n : ℕ) (u : List ℕ) : Type 0 where
+  count : chunkCount size (length u) ≡ suc n
+  ends : length u ≡ size * n + length (chunk size u n)
+  low : n < 32
 
 module _ (ctl : Bool) (c : ℕ) (z : Bool) (q : ℕ) (u : List ℕ) (a : Allowed ctl c z q u) where
   abbrev size : ℕ
@@ -65,13 +65,10 @@ module _ (ctl : Bool) (c : ℕ) (z : Bool) (q : ℕ) (u : List ℕ) (a : Allowed
   abbrev last : ℕ
   last = lastSegment size (length u)
 
-  pub spans : Spans size last u
-  unfolding lastSegment
+  spans : Spans size last u
   spans =
-      let s = size-some ctl in
       let some : 0 < length u = omega (arith, least-some ctl z, a .not-shorter) in
-      let there : 0 < chunkCount size (length u) = pos-of-ne-zero (λ e. omega (arith, chunkCount-zero size (length u) s e)) in
-      let e : chunkCount size (length u) ≡ suc last = omega arith in
+      let e = count-last size (length u) (size-some ctl) some in
       let ends = chunk-last size u last e in
       let one = chunk-some size u last (omega arith) .0 in
       record { count = e; ends = ends; low = lt-of-mul-lt-mul-left size (omega (arith, most-is ctl, a .not-longer)) }

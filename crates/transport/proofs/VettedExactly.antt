@@ -24,7 +24,7 @@ use Rattle.transport.specs.declared.vetting.Judged.{Judged}
 use Rattle.transport.specs.declared.vetting.Judged.the-variants as judgement
 use Rattle.transport.specs.declared.vetting.Stated.{Stated}
 use Rattle.transport.specs.declared.vetting.Vetted.{Vetted}
-use Rattle.transport.specs.declared.vetting.Vetted.the-variants.{Approved, Fault, Unfinished}
+use Rattle.transport.specs.declared.vetting.Vetted.the-variants.{Approved, ShortBuffer, Fault, Unfinished}
 use Rattle.transport.specs.Listed.{pdus}
 use Rattle.transport.specs.Segment.{messageOctets, fullOctets, lastSegment, segmentAt}
 use Rattle.transport.specs.Vetting.{statedBy, fits, judgedFrom, judged, joined, shown, vetting}
@@ -217,51 +217,55 @@ pub vetting-long : (ctl : Bool) (list out : List ℕ) → messageOctets ≤ leng
 unfolding vetting
 vetting-long ctl list out h = rw (le-ltb (length out) messageOctets h) refl
 
--- each answer is shown for its judgement only
-shown-whole : (j : Judged) (u v out : List ℕ) → shown j u out ≡ lent (Approved (length v)) (onto v out) → (j ≡ judgement.Whole) × (u ≡ v)
-shown-whole judgement.Whole u v out e =
+-- the judgement is told from the answer
+abbrev judgedBy : Vetted → Judged
+judgedBy (Approved len) = judgement.Whole
+judgedBy ShortBuffer = judgement.Unfinished
+judgedBy (Fault k) = judgement.Fault k
+judgedBy Unfinished = judgement.Unfinished
+
+told : (j : Judged) (u out : List ℕ) → judgedBy (shown j u out .answer) ≡ j
+told judgement.Whole u out = refl
+told (judgement.Fault k) u out = refl
+told judgement.Unfinished u out = refl
+
+-- what is approved is told from length and buffer
+shown-octets : (u v out : List ℕ) → shown judgement.Whole u out ≡ shown judgement.Whole v out → u ≡ v
+shown-octets u v out e =
     let a : Approved (length u) ≡ Approved (length v) = ap (λ (x : Lent Vetted). x .answer) e in
     let n : length u ≡ length v = cc in
     let b : onto u out ≡ onto v out = ap (λ (x : Lent Vetted). x .buffer) e in
-    (refl, sym (take-append-seam u (drop (length u) out)) ∙ ap (take (length u)) b ∙ ap (λ (k : ℕ). take k (onto v out)) n ∙ take-append-seam v (drop (length v) out))
-shown-whole (judgement.Fault k) u v out e = let a : Fault k ≡ Approved (length v) = ap (λ (x : Lent Vetted). x .answer) e in absurd (zero-one (cc))
-shown-whole judgement.Unfinished u v out e = let a : Unfinished ≡ Approved (length v) = ap (λ (x : Lent Vetted). x .answer) e in absurd (zero-one (cc))
+    sym (take-append-seam u (drop (length u) out)) ∙ ap (take (length u)) b ∙ ap (λ (k : ℕ). take k (onto v out)) n ∙ take-append-seam v (drop (length v) out)
 
-shown-fault : (j : Judged) (u out : List ℕ) (k : ℕ) → shown j u out ≡ lent (Fault k) out → j ≡ judgement.Fault k
-shown-fault judgement.Whole u out k e = let a : Approved (length u) ≡ Fault k = ap (λ (x : Lent Vetted). x .answer) e in absurd (zero-one (cc))
-shown-fault (judgement.Fault i) u out k e = let a : Fault i ≡ Fault k = ap (λ (x : Lent Vetted). x .answer) e in let is : i ≡ k = cc in ap judgement.Fault is
-shown-fault judgement.Unfinished u out k e = let a : Unfinished ≡ Fault k = ap (λ (x : Lent Vetted). x .answer) e in absurd (zero-one (cc))
+module _ (ctl : Bool) (list out : List ℕ) (h : messageOctets ≤ length out) where
+  abbrev l : List (List ℕ)
+  l = pdus list
 
-shown-unfinished : (j : Judged) (u out : List ℕ) → shown j u out ≡ lent Unfinished out → j ≡ judgement.Unfinished
-shown-unfinished judgement.Whole u out e = let a : Approved (length u) ≡ Unfinished = ap (λ (x : Lent Vetted). x .answer) e in absurd (zero-one (cc))
-shown-unfinished (judgement.Fault i) u out e = let a : Fault i ≡ Unfinished = ap (λ (x : Lent Vetted). x .answer) e in absurd (zero-one (cc))
-shown-unfinished judgement.Unfinished u out e = refl
+  by-answer : {x : Lent Vetted} → vetting ctl list out ≡ x → judged ctl l ≡ judgedBy (x .answer)
+  by-answer e = sym (told (judged ctl l) (joined l) out) ∙ ap (λ (y : Lent Vetted). judgedBy (y .answer)) (sym (vetting-long ctl list out h) ∙ e)
+
+  by-judgement : {j : Judged} → judged ctl l ≡ j → vetting ctl list out ≡ shown j (joined l) out
+  by-judgement e = vetting-long ctl list out h ∙ ap (λ (j : Judged). shown j (joined l) out) e
 
 pub approves-exactly : ApprovesExactly
-approves-exactly ctl list out u h =
-    let l = pdus list in
-    let v = vetting-long ctl list out h in (
-      λ e.
-          let w = shown-whole (judged ctl l) (joined l) u out (sym v ∙ e) in
-          subst (λ (x : List ℕ). Are ctl x l) (w .1) (whole-are ctl l (w .0)),
-      λ a. v ∙ ap (λ (j : Judged). shown j (joined l) out) (are-whole ctl l u a) ∙ ap (λ (x : List ℕ). shown judgement.Whole x out) (are-joined ctl l u a),
-    )
+approves-exactly ctl list out u h = (
+  λ e.
+      let w = by-answer ctl list out h e in
+      subst (λ (x : List ℕ). Are ctl x (pdus list)) (shown-octets _ u out (sym (by-judgement ctl list out h w) ∙ e)) (whole-are ctl (pdus list) w),
+  λ a. by-judgement ctl list out h (are-whole ctl (pdus list) u a) ∙ ap (λ (x : List ℕ). shown judgement.Whole x out) (are-joined ctl (pdus list) u a),
+)
 
 pub faults-exactly : FaultsExactly
-faults-exactly ctl list out k h =
-    let l = pdus list in
-    let v = vetting-long ctl list out h in (
-      λ e. fault-at ctl l k (shown-fault (judged ctl l) (joined l) out k (sym v ∙ e)),
-      λ a. v ∙ ap (λ (j : Judged). shown j (joined l) out) (at-fault ctl l k (a .0) (a .1) (a .2)),
-    )
+faults-exactly ctl list out k h = (
+  λ e. fault-at ctl (pdus list) k (by-answer ctl list out h e),
+  λ a. by-judgement ctl list out h (at-fault ctl (pdus list) k (a .0) (a .1) (a .2)),
+)
 
 pub unfinished-exactly : UnfinishedExactly
-unfinished-exactly ctl list out h =
-    let l = pdus list in
-    let v = vetting-long ctl list out h in (
-      λ e. unfinished ctl l (shown-unfinished (judged ctl l) (joined l) out (sym v ∙ e)),
-      λ a. v ∙ ap (λ (j : Judged). shown j (joined l) out) (is-unfinished ctl l (a .0) (a .1)),
-    )
+unfinished-exactly ctl list out h = (
+  λ e. unfinished ctl (pdus list) (by-answer ctl list out h e),
+  λ a. by-judgement ctl list out h (is-unfinished ctl (pdus list) (a .0) (a .1)),
+)
 
 pub one-message : OneMessage
 one-message ctl u v l a b =
