@@ -7,7 +7,7 @@ from dataclasses import dataclass
 from pathlib import Path
 
 from early import compared, early, is_wanted
-from exchange import Unfit, exchanged, lines_of
+from exchange import Unfit, exchanged, lines_of, octets_of
 from readings_in import is_put, put_in
 
 ROOT = Path(__file__).resolve().parents[2]
@@ -20,12 +20,16 @@ class Failed(Exception):
 
 @dataclass
 class Answered:
-    """The lines and their answers, the number of each line in the file, what was taken off the file, and words where that is not all of it."""
+    """The lines and their answers, the number of each line in the file, what was taken off the file, and words where that is not all of it.
+
+    `alone` is not empty where it is not proved, and some of the answers are the model's alone.
+    """
     log: list
     answers: list
     numbers: list
     taken: list
     part: str = ""
+    alone: str = ""
 
     def own(self):
         """The answers to the lines of the file, each line's together."""
@@ -52,11 +56,6 @@ def consoles():
         raise Failed("the console is not built")
     console = [str(ROOT / "bin" / "program"), "console"]
     return [sys.executable, "-B", str(ROOT / "bin" / "parts" / "answering.py"), *console], console
-
-
-def octets_of(lines):
-    """A log as octets."""
-    return "".join(f"{line}\n" for line in lines).encode("latin-1")
 
 
 def ask(command, log):
@@ -95,7 +94,7 @@ def before(path):
         return octets_of(lines)
 
     found = None if os.environ.get("GOREPHAN_CONSOLE") or not is_wanted() else early(octets, with_readings)
-    return found and Answered(lines_of(found[0]), lines_of(found[1]), numbers, taken, found[2])
+    return found and Answered(lines_of(found.log), lines_of(found.answers), numbers, taken, found.part, found.alone)
 
 
 def judged(first, proved):

@@ -4,8 +4,8 @@
   early.py --compared LOG EARLY ANSWERS      compares, on standard output; the status is 1 where they differ
 
 The answers are what the independent model answers, after `rt try` has run the console itself, unproved, on the log, and has seen it write exactly that: `rt`
-builds only what is proved, and of what an unproved program writes it tells no more than whether that is what was expected. Of a long log the first lines are
-answered. Where there are no such answers, a word says why.
+builds only what is proved, and of what an unproved program writes it tells no more than whether that is what was expected. It does so for the beginning of a
+long log; behind that the model alone answers, which is said. Where there are no such answers, a word says why.
 """
 import os
 import re
@@ -13,19 +13,24 @@ import shutil
 import signal
 import subprocess
 import sys
+import time
+from dataclasses import dataclass
 from itertools import zip_longest
 from pathlib import Path
 
 from crates import ROOT, TARGET
+from exchange import Unfit, exchanged, lines_of, octets_of
 
 MARK, NONE = "not proved yet: ", "no answers yet: "
-# A run that takes longer is given up: the proof itself takes some minutes. `rt try` lets a program write no more octets than these.
-SECONDS, LINES, OCTETS = 60, 10000, 1 << 20
+# `rt try` runs the console on so many lines, and lets a program write so many octets.
+LINES, OCTETS = 10000, 1 << 20
+# The model answers as much of a log as it can in so many seconds, some 100,000 lines; `rt try` has until so many seconds after the start.
+MODEL, LATEST = 8, 25
 # What `rt try` says of its interpreter where that has used up its steps, fewer than a hundred `hear` lines, and of each of three ways to compile.
 LIMIT = re.compile(r"\AFAIL: the interpreter failed.*^the run did not finish within \d+ steps", re.M | re.S)
 FAILED, WRITTEN, WAYS = re.compile("^FAIL: ", re.M), re.compile("^ok: the native program .* wrote what is expected$", re.M), 3
-TOO_LONG, TOO_MUCH = f"it takes more than {SECONDS} s to run the console unproved", f"they have over {OCTETS:,} octets, and rt try lets a program write no more"
-NO_MODEL = "the independent model, tests/independent, does not run"
+TOO_LONG, NO_MODEL = "it takes too long to run the console unproved", "the independent model, tests/independent, does not run"
+ALONE = "the independent model alone answers"
 # Two consoles that are not proved yet may run beside each other.
 HERE = TARGET / "early" / str(os.getpid())
 
@@ -41,9 +46,56 @@ def model(*options):
     return [python, "-B", *options, str(ROOT / "tests/independent/console.py")]
 
 
-def modelled(log):
-    """The model's answers to a log, both as octets."""
-    return subprocess.run(model(), input=log, stdout=subprocess.PIPE, check=True).stdout
+@dataclass
+class Early:
+    """A log and its answers before the proof, as octets; words where that is not all of the log, and where the console was not seen to write all of it."""
+    log: bytes
+    answers: bytes
+    part: str
+    alone: str
+
+
+def modelled(log, seconds=None):
+    """The model's answers to a log, both as octets; or those that it gives within so many seconds."""
+    try:
+        return subprocess.run(model(), input=log, stdout=subprocess.PIPE, check=True, timeout=seconds).stdout
+    except subprocess.TimeoutExpired as late:
+        if not late.stdout:
+            raise
+        return late.stdout[:late.stdout.rfind(b"\n") + 1]
+
+
+def within(log, answers, lines, octets):
+    """How many lines of a log are answered, within so many lines and octets of answers; and by how many lines of answers."""
+    count = at = 0
+    try:
+        for number, _, said in exchanged(log, answers):
+            octets -= sum(len(answer) + 1 for answer in said)
+            if number > lines or octets < 0:
+                return min(number - 1, lines), at
+            count, at = number, at + len(said)
+    except Unfit:
+        return count, at  # the answers end before the log
+    return min(lines, len(log)), at
+
+
+def cut(log, answers, lines=sys.maxsize, octets=sys.maxsize):
+    """So much of a log as is answered within so many lines and octets of answers, and the answers to that, all as octets."""
+    asked, said = lines_of(log), lines_of(answers)
+    count, at = within(asked, said, lines, octets)
+    return (log, answers) if count == len(asked) else (octets_of(asked[:count]), octets_of(said[:at]))
+
+
+def first(part, whole):
+    """Words where some octets are only the first lines of others."""
+    counts = [len(lines_of(octets)) for octets in (part, whole)]
+    return "" if counts[0] == counts[1] else "the first {:,} of {:,} lines".format(*counts)
+
+
+def alone(begun, answers):
+    """Words where the console, unproved, has written only the beginning of the answers."""
+    words = first(begun, answers)
+    return words and f"the console itself, run unproved, has written {words} of answers; behind them {ALONE}"
 
 
 def laid_out(log, answers):
@@ -94,39 +146,31 @@ def is_limit(said):
     return bool(LIMIT.search(said)) and len(FAILED.findall(said)) == 1 and len(WRITTEN.findall(said)) == WAYS
 
 
-def tried(log, answers):
-    """A word where the console, unproved, does not write these answers."""
-    if len(answers) > OCTETS:
-        return TOO_MUCH
-    trying = Trying(log, answers)
+def tried(log, answers, latest):
+    """A word where the console, unproved, does not write these answers; and words where it was not seen to write all of them until then."""
+    log, begun = cut(log, answers, LINES, OCTETS)
+    trying = Trying(log, begun)
     try:
-        wrong = trying.wrong(SECONDS)
-        return TOO_LONG if wrong is None else wrong
+        wrong = trying.wrong(max(latest - time.monotonic(), 0))
     finally:
         trying.end()
-
-
-def beginning(log):
-    """So much of a log as is answered before the proof, and words where that is not all of it."""
-    count = log.count(b"\n") + (not log.endswith(b"\n"))
-    if count <= LINES:
-        return log, ""
-    return b"".join(line + b"\n" for line in log.split(b"\n", LINES)[:LINES]), f"the first {LINES:,} of {count:,} lines"
+    return ("", f"{ALONE}: {TOO_LONG}") if wrong is None else (wrong, alone(begun, answers))
 
 
 def early(log, changed=lambda log, answers: log):
-    """The beginning of a log, after `changed` has seen its first answers, the answers to that, both as octets, and words where that is not all; or None."""
-    log, part = beginning(log)
+    """A log of octets, after `changed` has seen its first answers, with the answers to that before the proof; or None."""
+    latest = time.monotonic() + LATEST
     try:
-        log = changed(log, modelled(log))
-        answers = modelled(log)
-    except (OSError, subprocess.CalledProcessError):
-        answers, wrong = None, NO_MODEL
+        part, answers = cut(log, modelled(log, MODEL))
+        asked = changed(part, answers)
+        answers = answers if asked == part else modelled(asked)
+    except (OSError, subprocess.SubprocessError):
+        answers, wrong, words = b"", NO_MODEL, ""
     else:
-        wrong = answers and tried(log, answers)
+        wrong, words = tried(asked, answers, latest) if answers else ("", "")
     if wrong:
         print(NONE + wrong, file=sys.stderr)
-    return (log, answers, part) if answers and not wrong else None
+    return Early(asked, answers, first(part, log), words) if answers and not wrong else None
 
 
 def compared(shown, proved, part=False):
@@ -140,15 +184,16 @@ def compared(shown, proved, part=False):
 def main():
     *option, log, answers = sys.argv[1:]
     if option:
-        lines = (Path(name).read_text("latin-1").splitlines() for name in (log, answers))
-        same, words = compared(*lines, bool(beginning(Path(option[1]).read_bytes())[1]))
+        whole, shown, proved = (Path(name).read_bytes() for name in (option[1], log, answers))
+        same, words = compared(lines_of(shown), lines_of(proved), cut(whole, shown)[0] != whole)
         print(words)
         return int(not same)
     found = early(Path(log).read_bytes())
-    if found and found[2]:
-        print(MARK + found[2], file=sys.stderr)
+    for words in (found.part, found.alone) if found else ():
+        if words:
+            print(MARK + words, file=sys.stderr)
     if found:
-        Path(answers).write_bytes(found[1])
+        Path(answers).write_bytes(found.answers)
     return int(not found)
 
 

@@ -11,6 +11,11 @@ def lines_of(octets):
     return lines[:-1] if lines[-1] == "" else lines
 
 
+def octets_of(lines):
+    """Lines as octets."""
+    return "".join(f"{line}\n" for line in lines).encode("latin-1")
+
+
 def read(name):
     """The lines of a file."""
     with open(name, "rb") as file:

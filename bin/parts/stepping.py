@@ -18,7 +18,7 @@ STORY, TARGET = ROOT / "crates" / "console" / "stdin", ROOT / "target"
 MOST = 100_000
 # How a capture's file begins: pcap of either order and either clock, pcapng, btsnoop.
 CAPTURES = tuple(map(bytes.fromhex, ("d4c3b2a1", "a1b2c3d4", "4d3cb2a1", "a1b23c4d", "0a0d0d0a"))) + (b"btsnoop\0",)
-NOT_PROVED = "The console is not proved yet. These are the answers of the independent model, which the console itself has written too, unproved."
+NOT_PROVED = "The console is not proved yet. These are the answers of the independent model"
 
 
 def is_capture(path):
@@ -42,8 +42,9 @@ def kept(name, given, proved):
     if not 0 < len(found["steps"]) <= MOST:
         return None
     if not proved:
+        wrote = f": {given.alone}." if given.alone else ", which the console itself has written too, unproved."
         part = [f"Shown are {given.part}."] if given.part else []
-        found["title"], found["notes"] = f"Not proved yet: {found['title']}", [NOT_PROVED, *part, *found["notes"]]
+        found["title"], found["notes"] = f"Not proved yet: {found['title']}", [NOT_PROVED + wrote, *part, *found["notes"]]
     TARGET.mkdir(exist_ok=True)
     return written_whole(TARGET / "class.html" if name == STORY else own_name(name, TARGET / "pages", ".html"), page(found))
 

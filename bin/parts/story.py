@@ -6,7 +6,7 @@ from pathlib import Path
 from answered import ROOT, Failed, answered, before, judged
 from drawing import picture
 from early import MARK
-from exchange import Unfit
+from exchange import Unfit, octets_of
 from given import put, refused
 from own_name import own_name, written_whole
 from telling import shown
@@ -18,7 +18,7 @@ def story(log):
     """Shows the log: with early answers first, if there are any, and then with the proved ones, if they are others or more."""
     first = before(log)
     if first:
-        put((f"{MARK}{first.part}\n".encode() if first.part else b"") + shown(first.log, first.answers, first.numbers, MARK) + b"\n")
+        put(octets_of(MARK + words for words in (first.part, first.alone) if words) + shown(first.log, first.answers, first.numbers, MARK) + b"\n")
     given = answered(log)
     for words in given.taken:
         print(f"bin/story: takes off {words}", file=sys.stderr)

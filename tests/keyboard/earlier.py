@@ -9,16 +9,16 @@ from pathlib import Path
 
 from explaining import ROOT, SECONDS
 from logs import PDU, READY
-from typed_early import typed
-from typing_in import until
+from typed_early import piped, typed
 
-# `try` asks whether the console writes what is expected, as rt does, or says what TRIED has: a limit is that of the interpreter alone, unless it is said that a
-# compiled console differs, too. `check` waits for the file GO, if one is named, and hands out the built console.
+# `try` asks whether the console writes what is expected, and not too much, as rt does, or says what TRIED has: a limit is that of the interpreter alone, unless
+# it is said that a compiled console differs, too. `check` waits for the file GO, if one is named, and hands out the built console.
 STAND_IN = r"""#!/bin/sh
 case $1 in
 version) echo stand-in ;;
 try) [ "$TRIED" != real ] || exec "$RT" try console
-    [ "$TRIED" != asked ] || { $CONSOLE <crates/console/stdin | cmp -s - crates/console/stdout && exit; }
+    [ "$TRIED" != slow ] || sleep 60
+    [ "$TRIED" != asked ] || [ "$(wc -c <crates/console/stdout)" -gt 1048576 ] || { $CONSOLE <crates/console/stdin | cmp -s - crates/console/stdout && exit; }
     case $TRIED in limit*)
         printf 'FAIL: the interpreter failed, with status 83\nthe run did not finish within 10000000 steps: it may loop\n'
         printf 'ok: the native program at -O%s ended and wrote what is expected\n' 0 3
@@ -32,14 +32,28 @@ esac
 """
 # It answers each line, and each wrongly.
 OTHER_MODEL = "import sys\nfor line in sys.stdin.buffer:\n    if line.strip() and line[:1] != b'#':\n        print('known to nobody')\n"
+# It answers as ours does, but wrongly behind so many lines, or after a minute behind a line `# later`.
+LIKE_OURS = """import sys, time
+from language import Console
+console = Console()
+for count, line in enumerate(sys.stdin.buffer):
+    if line == b"# later\\n":
+        sys.stdout.flush()
+        time.sleep(60)
+    for answer in console.answer(line.removesuffix(b"\\n")):
+        print(answer if count < {} else "known to nobody")
+"""
 MARK, SAME, OTHER, NONE = "not proved yet: ", "proved now, and the 4 lines of answers are those shown before", "NOT what was shown before", "no answers yet: "
-# An emulated machine may be too slow for `rt try`.
-TOO_LONG = "no answers yet: it takes more than"
 LOG = "# a log\nproperty 76 humidity\nreadings 52c20ed711c20effff\nnetkey 0\nreadings 52c20ed7\n"
 ANSWERS = ["ok", "readings 2 0076 humidity 45.67 4046d5c28f5c28f6 0076 unknown", "unread", "refused 20"]
-# A log of which only the first lines are answered before the proof: its answers, and how many of them are shown. A property is named once.
-MOST, LONG, LONG_ANSWERS, SHOWN = 10000, LOG * 2500, ANSWERS + ["refused 14", *ANSWERS[1:]] * 2499, 8000
-PART, PART_SAME = "the first 10,000 of 12,500 lines", "proved now, and the first 8,000 lines of answers are those shown before"
+# A log of which the model alone answers the end, its answers, and what is said of them. A property is named once.
+MOST, LONG, LONG_ANSWERS = 10000, LOG * 2500, ANSWERS + ["refused 14", *ANSWERS[1:]] * 2499
+BEGUN = "the console itself, run unproved, has written the first {} lines of answers; behind them the independent model alone answers"
+LONG_BEGUN, LONG_SAME = BEGUN.format("8,000 of 10,000"), "proved now, and the 10,000 lines of answers are those shown before"
+# Lines whose answers are of more octets than rt try lets a program write.
+MUCH = "property 76 humidity\n" + f"readings 52{'c20ed711' * 90}\n" * 400
+# A log of which the model answers the beginning in time, and what is said of it.
+LATER, PART, PART_SAME = LOG + "# later\nproperties\n", "the first 5 of 7 lines", "proved now, and the first 4 lines of answers are those shown before"
 
 # More lines than the interpreter of `rt try` has steps for.
 HEARD, HEARD_SAME = READY + f"hear {PDU}\n" * 200, "proved now, and the 203 lines of answers are those shown before"
@@ -73,26 +87,35 @@ class Tree:
         """Takes away what is built there."""
         shutil.rmtree(self.root / "target", ignore_errors=True)
 
-    def run(self, program, tried, given=None):
-        """Runs a script of bin/ on the log, or on what it is given through a pipe, where nothing is built."""
+    def run(self, program, tried, log=LOG, **also):
+        """Runs a script of bin/ on a log, where nothing is built."""
         self.unbuilt()
-        return self.again(program, tried, given)
+        self.log.write_text(log)
+        return self.again(program, tried, **also)
 
-    def again(self, program, tried, given=None):
-        """The same, with what is built there. The toolchain's own run may take as long as bin/parts/early.py waits for it."""
-        words = [str(self.root / "bin" / program), *([] if given else [str(self.log)])]
-        return subprocess.run(words, input=given, capture_output=True, text=True, timeout=2 * SECONDS, check=False, env=self.environment(tried))
+    def again(self, program, tried, **also):
+        """The same, with what is built there."""
+        words = [str(self.root / "bin" / program), str(self.log)]
+        return subprocess.run(words, capture_output=True, text=True, timeout=SECONDS, check=False, env=self.environment(tried, **also))
 
     @contextmanager
-    def other_model(self, text=OTHER_MODEL):
-        """Another model in the place of ours."""
-        model = self.root / "tests" / "independent" / "console.py"
-        kept = model.read_text()
-        model.write_text(text)
+    def other(self, name, changed):
+        """Another file in the place of ours, changed so."""
+        file = self.root / name
+        kept = file.read_text()
+        file.write_text(changed(kept))
         try:
             yield
         finally:
-            model.write_text(kept)
+            file.write_text(kept)
+
+    def other_model(self, text=OTHER_MODEL):
+        """Another model in the place of ours."""
+        return self.other("tests/independent/console.py", lambda _: text)
+
+    def in_a_hurry(self):
+        """Less time for the model, and for `rt try`."""
+        return self.other("bin/parts/early.py", lambda text: text.replace("MODEL, LATEST = 8, 25", "MODEL, LATEST = 1, 2"))
 
 
 def _marked(text):
@@ -101,11 +124,10 @@ def _marked(text):
 
 
 def _console(tree):
-    """bin/console: the early answers on standard error, the proved ones on standard output; of a file, and of a pipe."""
-    first, second, piped = tree.run("console", "asked"), tree.again("console", "asked"), tree.run("console", "asked", LOG)
+    """bin/console of a file: the early answers on standard error, the proved ones on standard output."""
+    first, second = tree.run("console", "asked"), tree.again("console", "asked")
     yield "bin/console, the first time", first.stdout.splitlines() == ANSWERS and _marked(first.stderr) == ANSWERS and SAME in first.stderr
     yield "bin/console, the second time", second.stdout == first.stdout and MARK not in second.stderr and SAME not in second.stderr
-    yield "bin/console, from a pipe", piped.stdout == first.stdout and _marked(piped.stderr) == ANSWERS and SAME in piped.stderr
     refused = tree.run("console", "refused")
     yield "bin/console, where another is written unproved", refused.stdout == first.stdout and NONE in refused.stderr and MARK not in refused.stderr
     limit, differs = tree.run("console", "limit"), tree.run("console", "limit and a difference")
@@ -114,33 +136,50 @@ def _console(tree):
     with tree.other_model("import sys\nsys.exit(1)\n"):
         lost = tree.run("console", "asked")
     yield "bin/console, where the model does not run", lost.stdout == first.stdout and f"{NONE}the independent model" in lost.stderr and MARK not in lost.stderr
-    much = tree.run("console", "asked", "property 76 humidity\n" + f"readings 52{'c20ed711' * 90}\n" * 400)
-    yield "bin/console, of more answers than rt try takes", len(much.stdout) > 1 << 20 and f"{NONE}they have over 1,048,576 octets" in much.stderr
     nothing = tree.run("console", "asked", "\n")
     yield "bin/console, of nothing", not nothing.stdout and not nothing.returncode and "not proved" not in nothing.stderr and NONE not in nothing.stderr
-    with subprocess.Popen([str(tree.root / "bin" / "console")], stdin=subprocess.PIPE, stdout=subprocess.PIPE, env=tree.environment("refused")) as console:
-        os.write(console.stdin.fileno(), b"properties\n")
-        yield "bin/console, from a pipe that stays open, once it is built", until(console.stdout.fileno(), b"ok\n") == b"ok\n"
 
 
 def _long(tree):
-    """Of a long log the first lines are answered before the proof, which is said, and compared."""
-    piped = tree.run("console", "asked", LONG)
+    """Of a long log `rt try` sees the beginning, and the model alone answers the rest, which is said; all is compared."""
+    long = tree.run("console", "asked", LONG)
     yield "bin/console, of a long log", (
-        piped.stdout.splitlines() == LONG_ANSWERS and _marked(piped.stderr) == [PART, *LONG_ANSWERS[:SHOWN]] and PART_SAME in piped.stderr)
-    with tree.other_model():
-        other = tree.run("console", "fits", LONG)
-    yield "bin/console, of a long log, where the proved answers are others", OTHER in other.stderr and other.stdout == piped.stdout
-    tree.log.write_text(LONG)
-    told, paged = tree.run("story", "asked"), tree.run("class", "asked")
-    behind = told.stdout.partition(PART_SAME)[2]
-    yield "bin/story, of a long log", _marked(told.stdout) == [PART, *LONG_ANSWERS[:SHOWN]] and behind.count(ANSWERS[1]) == 2500
-    yield "bin/class, of a long log", f"The page of {PART}, not proved yet: " in paged.stdout and f"{PART_SAME}\nThe page of it: " in paged.stdout
-    *heard, asks, acknowledges = (ROOT / "tests" / "answers" / "station.log").read_text().splitlines()
-    tree.log.write_text("\n".join([*heard, *["#"] * (MOST - len(heard)), acknowledges, asks, ""]))
-    apart = tree.run("story", "asked")
-    yield "bin/story, of a long log that asks for readings behind its first lines", "lines of answers are those shown before" in apart.stdout
-    tree.log.write_text(LOG)
+        long.stdout.splitlines() == LONG_ANSWERS and _marked(long.stderr) == [LONG_BEGUN, *LONG_ANSWERS] and LONG_SAME in long.stderr)
+    refused = tree.run("console", "refused", LONG)
+    yield "bin/console, of a long log, where another is written unproved", (
+        refused.stdout == long.stdout and NONE in refused.stderr and MARK not in refused.stderr)
+    with tree.other_model(LIKE_OURS.format(MOST)):
+        other = tree.run("console", "asked", LONG)
+    behind = f"{OTHER}: line 8001 of the answers was 'known to nobody' and is 'refused 14'"
+    yield "bin/console, of a long log, where the proved answers behind its beginning are others", behind in other.stderr and other.stdout == long.stdout
+    much = tree.run("console", "asked", MUCH)
+    answers = much.stdout.splitlines()
+    fit = next(count for count in range(401) if sum(len(answer) + 1 for answer in answers[:count + 1]) > 1 << 20)
+    yield "bin/console, of more answers than rt try takes", (
+        _marked(much.stderr) == [BEGUN.format(f"{fit} of 401"), *answers] and "the 401 lines of answers are those" in much.stderr)
+    told, paged = tree.run("story", "asked", LONG), tree.run("class", "asked", LONG, BUILT="/no/such/console")
+    behind = told.stdout.partition(LONG_SAME)[2]
+    yield "bin/story, of a long log", _marked(told.stdout) == [LONG_BEGUN, *LONG_ANSWERS] and "The picture of it" in behind and ANSWERS[1] not in behind
+    page = Path(paged.stdout.strip().rpartition("The page of it, not proved yet: ")[2]).read_text()
+    yield "bin/class, of a long log, where the proof fails", f"answers of the independent model: {LONG_BEGUN}." in page and '"line":12500,' in page
+
+
+def _late(tree):
+    """What is not known in time is not waited for: neither the model's answers to the end of a log, nor what `rt try` sees."""
+    with tree.in_a_hurry():
+        slow = tree.run("console", "slow")
+        yield "bin/console, where rt try takes long", (
+            _marked(slow.stderr) == ["the independent model alone answers: it takes too long to run the console unproved", *ANSWERS] and SAME in slow.stderr)
+        with tree.other_model(LIKE_OURS.format(MOST)):
+            late, paged = tree.run("console", "asked", LATER), tree.run("class", "asked", LATER)
+            *heard, asks, acknowledges = (ROOT / "tests" / "answers" / "station.log").read_text().splitlines()
+            apart = tree.run("story", "asked", "\n".join([*heard, "# later", acknowledges, asks, ""]))
+    yield "bin/console, where the model takes long", (
+        late.stdout.splitlines() == [*ANSWERS, "ok"] and _marked(late.stderr) == [PART, *ANSWERS] and PART_SAME in late.stderr)
+    yield "bin/class, where the model takes long", f"The page of {PART}, not proved yet: " in paged.stdout and f"{PART_SAME}\nThe page of it: " in paged.stdout
+    shown, _, again = apart.stdout.partition("lines of answers are those shown before\n")
+    yield "bin/story, where the model takes long, of a log that asks for readings behind that", (
+        f"+  {asks}" in shown and "# later" not in shown and f"21  {asks}" in again)
 
 
 def _story(tree):
@@ -168,7 +207,7 @@ def early(words):
     """Each way to answer before the proof; one of them by the toolchain's own `rt try`."""
     with tempfile.TemporaryDirectory() as folder:
         tree = Tree(folder, words)
-        found = [*_console(tree), *_story(tree), *_page(tree), *_long(tree), *typed(tree)]
+        found = [*_console(tree), *_story(tree), *_page(tree), *_long(tree), *_late(tree), *typed(tree), *piped(tree)]
         real = tree.run("console", "real", HEARD)
-        found.append(("bin/console, by rt try itself", len(real.stdout.splitlines()) == 203 and (HEARD_SAME in real.stderr or TOO_LONG in real.stderr)))
+        found.append(("bin/console, by rt try itself", len(real.stdout.splitlines()) == 203 and HEARD_SAME in real.stderr))
     return [f"{what}: not as expected" for what, fits in found if not fits], f"{len(found)} runs before a proof"
