@@ -11,14 +11,15 @@ from explaining import ROOT, SECONDS
 from logs import PDU, READY
 from typed_early import piped, typed
 
-# `try` asks whether the console writes what is expected, and not too much, as rt does, or says what TRIED has: a limit is that of the interpreter alone, unless
-# it is said that a compiled console differs, too. `check` waits for the file GO, if one is named, and hands out the built console.
+# `try` asks whether the console writes what is expected, as rt does, or says what TRIED has, and neither of too much: a limit is that of the interpreter alone,
+# unless it is said that a compiled console differs, too. `check` waits for the file GO, if one is named, and hands out the built console.
 STAND_IN = r"""#!/bin/sh
 case $1 in
 version) echo stand-in ;;
 try) [ "$TRIED" != real ] || exec "$RT" try console
     [ "$TRIED" != slow ] || sleep 60
-    [ "$TRIED" != asked ] || [ "$(wc -c <crates/console/stdout)" -gt 1048576 ] || { $CONSOLE <crates/console/stdin | cmp -s - crates/console/stdout && exit; }
+    [ "$(wc -l <crates/console/stdin)" -le 10000 ] && [ "$(wc -c <crates/console/stdout)" -le 1048576 ] || exit 1
+    [ "$TRIED" != asked ] || { $CONSOLE <crates/console/stdin | cmp -s - crates/console/stdout && exit; }
     case $TRIED in limit*)
         printf 'FAIL: the interpreter failed, with status 83\nthe run did not finish within 10000000 steps: it may loop\n'
         printf 'ok: the native program at -O%s ended and wrote what is expected\n' 0 3

@@ -172,7 +172,8 @@ def _waiting(tree):
         os.write(pipe.ours, b"properties\n")
         fits += [pipe.answers("ok")]
         os.close(pipe.ours)
-        fits += [not pipe.status(), "Ctrl-D" not in pipe.shown, pipe.shown.count("1 line is unread (2): ") == 1, "console: 0 of " in pipe.shown]
+        fits += [not pipe.status(), "Ctrl-D" not in pipe.shown, pipe.shown.count(" has 1 digits") == 1, "1 line is unread (2): " in pipe.shown,
+                 "console: 0 of " in pipe.shown]
         return all(fits) and pipe.wrote == f"ok\nunread\n{READ}\nok\n"
 
 
