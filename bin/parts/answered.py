@@ -20,10 +20,7 @@ class Failed(Exception):
 
 @dataclass
 class Answered:
-    """The lines and their answers, the number of each line in the file, what was taken off the file, and words where that is not all of it.
-
-    `alone` is not empty where it is not proved, and some of the answers are the model's alone.
-    """
+    """The lines and their answers, the number of each line in the file, and what was taken off the file; `part` and `alone` are those of early.Early."""
     log: list
     answers: list
     numbers: list

@@ -114,9 +114,9 @@ class Tree:
         """Another model in the place of ours."""
         return self.other("tests/independent/console.py", lambda _: text)
 
-    def in_a_hurry(self):
-        """Less time for the model, and for `rt try`."""
-        return self.other("bin/parts/early.py", lambda text: text.replace("MODEL, LATEST = 8, 25", "MODEL, LATEST = 1, 2"))
+    def in_a_hurry(self, model, latest):
+        """Other seconds for the model, and for `rt try`."""
+        return self.other("bin/parts/early.py", lambda text: text.replace("MODEL, LATEST = 8, 25", f"MODEL, LATEST = {model}, {latest}"))
 
 
 def _marked(text):
@@ -161,20 +161,21 @@ def _long(tree):
     told, paged = tree.run("story", "asked", LONG), tree.run("class", "asked", LONG, BUILT="/no/such/console")
     behind = told.stdout.partition(LONG_SAME)[2]
     yield "bin/story, of a long log", _marked(told.stdout) == [LONG_BEGUN, *LONG_ANSWERS] and "The picture of it" in behind and ANSWERS[1] not in behind
-    page = Path(paged.stdout.strip().rpartition("The page of it, not proved yet: ")[2]).read_text()
+    place = paged.stdout.strip().partition("The page of it, not proved yet: ")[2]
+    page = Path(place).read_text() if place else ""
     yield "bin/class, of a long log, where the proof fails", f"answers of the independent model: {LONG_BEGUN}." in page and '"line":12500,' in page
 
 
 def _late(tree):
     """What is not known in time is not waited for: neither the model's answers to the end of a log, nor what `rt try` sees."""
-    with tree.in_a_hurry():
+    with tree.in_a_hurry(8, 2):
         slow = tree.run("console", "slow")
-        yield "bin/console, where rt try takes long", (
-            _marked(slow.stderr) == ["the independent model alone answers: it takes too long to run the console unproved", *ANSWERS] and SAME in slow.stderr)
-        with tree.other_model(LIKE_OURS.format(MOST)):
-            late, paged = tree.run("console", "asked", LATER), tree.run("class", "asked", LATER)
-            *heard, asks, acknowledges = (ROOT / "tests" / "answers" / "station.log").read_text().splitlines()
-            apart = tree.run("story", "asked", "\n".join([*heard, "# later", acknowledges, asks, ""]))
+    yield "bin/console, where rt try takes long", (
+        _marked(slow.stderr) == ["the independent model alone answers: it takes too long to run the console unproved", *ANSWERS] and SAME in slow.stderr)
+    *heard, asks, acknowledges = (ROOT / "tests" / "answers" / "station.log").read_text().splitlines()
+    with tree.in_a_hurry(1.5, 25), tree.other_model(LIKE_OURS.format(MOST)):
+        late, paged = tree.run("console", "asked", LATER), tree.run("class", "asked", LATER)
+        apart = tree.run("story", "asked", "\n".join([*heard, "# later", acknowledges, asks, ""]))
     yield "bin/console, where the model takes long", (
         late.stdout.splitlines() == [*ANSWERS, "ok"] and _marked(late.stderr) == [PART, *ANSWERS] and PART_SAME in late.stderr)
     yield "bin/class, where the model takes long", f"The page of {PART}, not proved yet: " in paged.stdout and f"{PART_SAME}\nThe page of it: " in paged.stdout

@@ -1,5 +1,4 @@
-"""What is typed or comes through a pipe before the proof: answered at once and marked, compared when the proof is done, and answered by the proved console from
-then on."""
+"""What is typed or piped before the proof: answered at once and marked, compared when the proof is done, and answered by the proved console from then on."""
 import os
 import pty
 import signal
