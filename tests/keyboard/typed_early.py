@@ -129,8 +129,8 @@ def _written_otherwise(tree):
 def _too_many(tree):
     """A great many lines are answered, but only on the first of them the console is run unproved."""
     with Session(tree, "asked") as session:
-        for _ in range(101):
-            os.write(session.ours, b"\n" * 100)
+        for _ in range(21):
+            os.write(session.ours, b"\n" * 500)
             until(session.ours, b"\0", 0.05)
         fits = [session.types("properties", f"{MARK}ok"), session.shows(f"the first 0 of 1 lines of answers; {ALONE}"), session.proved(f"the 1 {SAME}{ON}")]
         return all(fits) and not session.ended()
