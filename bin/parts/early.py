@@ -24,7 +24,7 @@ from exchange import Unfit, exchanged, lines_of, octets_of
 MARK, NONE = "not proved yet: ", "no answers yet: "
 # `rt try` runs the console on so many lines, and lets a program write so many octets.
 LINES, OCTETS = 10000, 1 << 20
-# The model answers as much of a log as it can in so many seconds, some 100,000 lines; `rt try` has until so many seconds after the start.
+# The model answers as much of a log as it can in so many seconds, over 100,000 `hear` lines; `rt try` has until so many seconds after the start.
 MODEL, LATEST = 8, 25
 # What `rt try` says of its interpreter where that has used up its steps, fewer than a hundred `hear` lines, and of each of three ways to compile.
 LIMIT = re.compile(r"\AFAIL: the interpreter failed.*^the run did not finish within \d+ steps", re.M | re.S)
