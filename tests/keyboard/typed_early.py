@@ -208,6 +208,16 @@ def _written_or_proved_otherwise(tree):
     return all(fits)
 
 
+def _with_no_pause(tree):
+    """Where there is no pause in what comes, the console is run on it all the same, after a time."""
+    def hurried(text):
+        return text.replace("PAUSE, SECONDS, LOOK = 1, 60, 0.2", "PAUSE, SECONDS, LOOK = 600, 2, 0.2")
+    with tree.other("bin/parts/typed.py", hurried), Pipe(tree, "refused") as pipe:
+        fits = [pipe.types("properties", f"{MARK}ok"), pipe.shows(".log")]
+        os.close(pipe.ours)
+        return all(fits) and pipe.proved(f"proved now, and the 1 {SAME}") and not pipe.status()
+
+
 def _lost_or_left(tree):
     """Where the model does not run, the proof is waited for; Ctrl-C ends it all."""
     with tree.other_model("import sys\nsys.exit(1)\n"), Pipe(tree, "asked") as pipe:
@@ -224,5 +234,5 @@ def _lost_or_left(tree):
 
 def piped(tree):
     """Each way that a pipe before the proof can go."""
-    for check in (_waiting, _at_once, _with_no_newline, _written_or_proved_otherwise, _lost_or_left):
+    for check in (_waiting, _at_once, _with_no_newline, _written_or_proved_otherwise, _with_no_pause, _lost_or_left):
         yield f"bin/console, from a pipe, {check.__name__.strip('_').replace('_', ' ')}", check(tree)
