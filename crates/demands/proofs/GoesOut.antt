@@ -49,7 +49,8 @@ use Rattle.demands.specs.GoesOut.{restAs, accepted, pduCount, GoesOut, S
 use Rattle.demands.specs.Interleaved.{Each}
 use Rattle.demands.specs.ReadBack.{sayCall, goesWhole, saidBy, segNAs, Shared}
 use Rattle.demands.specs.Speech.{Words, Access, Control, Speech, keyOf, envelopeOf, akfOf, aidOf, octetsOf, lastOf}
-use Rattle.demands.proofs.Begun.{there, ttl-fits, from-unicast, keeping, segn-is, HoldsIt, last-most, can-begun, goes-begun, raised-begun, out-begun, holds-begun, keeps-begun, holds-after, kept-after, last-begun}
+use Rattle.demands.proofs.Begun.{there, ttl-fits, from-unicast, keeping, segn-is, HoldsIt, last-most}
+use Rattle.demands.proofs.Begun.{can-begun, goes-begun, raised-begun, out-begun, holds-begun, keeps-begun, holds-after, kept-after, last-begun}
 use Rattle.demands.proofs.Pieces.{header-is, key-number, key-is, leaves-out, raised, holds-more}
 use Rattle.demands.proofs.SaidLaws.{access-stamped, control-stamped, request-of}
 use Rattle.demands.proofs.SentLaws.{headerAs, keptAs, sendingAs, said-by, StartedBy, started-by, Way, Whole, Begun, way, step-is}
