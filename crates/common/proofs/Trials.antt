@@ -1,12 +1,14 @@
 -- Trials of candidates, of any element type. `tries-each`: the candidate that opens is one of them, none before it opens, and its trials are its place
 -- from 1; where none opens, the trials are their number. A loop that tries the candidates picked of a list keeps `Trying`.
 -- Then the same of places picked below n. Assumes nothing.
-use mathlib.Core.Bool.{Bool, true, false}
+use mathlib.Core.Bool.{Bool, true, false, true≢false}
 use mathlib.Core.List.{List, [], _∷_, _++_}
-use mathlib.Core.Path.{_≡_, refl, ap, subst, _∙_}
+use mathlib.Core.Path.{_≡_, refl, sym, ap, subst, _∙_}
 use Prim.Native.Nat.{ℕ, zero, suc, _+_, _≤_, _<_}
 use native.Mathlib.Nat.{not-suc-le-zero}
 use native.Mathlib.Omega.{arith}
+use borrow.Author.Tests.{ltb-true, ltb-false}
+use lib.Dec.{ltb}
 use lib.ListN.{length, getD, drop}
 use Rattle.common.specs.Search.{picked}
 use Rattle.common.specs.Trials.{Outcome, Succeeded, Failed, triesFrom, tries}
@@ -63,6 +65,16 @@ module _ {A : Type 0} (o : A → Bool) (d : A) where
       each-from P 0 l
       (λ k e. let m : k + 1 ≡ 0 + k + 1 = omega arith in subst (λ (i : ℕ). P (Succeeded (getD l k d) i)) m (f k e))
       (λ e. let m : length l ≡ 0 + length l = omega arith in subst (λ (i : ℕ). P (Failed i)) m (g e))
+
+  -- and where one is known to open, and none before it, they end with it
+  pub tries-opens-at : (l : List A) (k : ℕ) → OpensAt o l d k → tries o l ≡ Succeeded (getD l k d) (k + 1)
+  tries-opens-at l k e =
+      tries-each (λ r. r ≡ Succeeded (getD l k d) (k + 1)) l
+      (λ j f. ap (λ (i : ℕ). Succeeded (getD l i d) (i + 1)) (omega (arith, before f e, before e f)))
+      (λ none. absurd (true≢false (sym (e .passes) ∙ none k (e .within))))
+    where
+      before : {i j : ℕ} → OpensAt o l d i → OpensAt o l d j → i ≤ j
+      before {i} {j} a b = by-test (ltb j i) (λ t. absurd (true≢false (sym (b .passes) ∙ a .none-before j (ltb-true j i t)))) (λ t. ltb-false j i t)
 
 module _ {A : Type 0} (c o : A → Bool) where
   -- where none of those picked before it opens, x is found behind them
