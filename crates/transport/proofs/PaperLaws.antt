@@ -10,10 +10,10 @@ use Rattle.common.proofs.PaperLaws.{told-apart, bit-back}
 use Rattle.transport.specs.declared.form.Form.{Form}
 use Rattle.transport.specs.declared.form.Form.the-variants.{Access, AccessSegment, Control, ControlSegment, Acknowledgement, Wrong}
 use Rattle.transport.specs.declared.form.SegmentFields.{SegmentFields}
-use Rattle.transport.specs.declared.securing.MessageKey.{MessageKey}
-use Rattle.transport.specs.declared.securing.MessageKey.the-variants.{Application, Device}
 use Rattle.transport.specs.declared.securing.Opened.{Opened}
 use Rattle.transport.specs.declared.securing.Opened.the-variants.{Message, NotOpened, ShortBuffer}
+use Rattle.transport.specs.declared.securing.Opener.{Opener}
+use Rattle.transport.specs.declared.securing.Opener.the-variants.{Application, Labelled, Device}
 use Rattle.transport.specs.declared.seq_auth.SeqAuth.{SeqAuth}
 use Rattle.transport.specs.declared.seq_auth.SeqAuth.the-variants.{At, Nowhere}
 use Rattle.transport.specs.declared.vetting.Vetted.{Vetted}
@@ -59,21 +59,33 @@ pub form-apart : form.PaperApart
 form-apart = told-apart form.paper readForm form-back
 
 -- ---- an opened message
-abbrev pub keyAs : ℕ → ℕ → MessageKey
-keyAs kind i = if eqb kind 0 then Application i else Device
+abbrev pub openerAs : ℕ → ℕ → ℕ → Opener
+openerAs kind i j = if eqb kind 0 then Application i else if eqb kind 1 then Device else Labelled i j
 
 abbrev readOpened : Paper securing.Word → Opened
-readOpened (Given securing.message v) = Message (keyAs (getD v 2 0) (getD v 3 0)) (getD v 0 0) (getD v 1 0)
+readOpened (Given securing.message v) = Message (openerAs (getD v 2 0) (getD v 3 0) (getD v 4 0)) (getD v 0 0) (getD v 1 0)
 readOpened (Refusal n v) = if eqb n 13 then NotOpened (getD v 0 0) else ShortBuffer
 
 opened-back : (o : Opened) → readOpened (securing.paper o) ≡ o
 opened-back (Message (Application i) trials len) = refl
+opened-back (Message (Labelled i j) trials len) = refl
 opened-back (Message Device trials len) = refl
 opened-back (NotOpened trials) = refl
 opened-back ShortBuffer = refl
 
 pub opened-apart : securing.PaperApart
 opened-apart = told-apart securing.paper readOpened opened-back
+
+abbrev readOpener : List ℕ → Opener
+readOpener v = openerAs (getD v 0 0) (getD v 1 0) (getD v 2 0)
+
+opener-back : (x : Opener) → readOpener (securing.openerValues x) ≡ x
+opener-back (Application i) = refl
+opener-back (Labelled i j) = refl
+opener-back Device = refl
+
+pub opener-apart : (x y : Opener) → securing.openerValues x ≡ securing.openerValues y → x ≡ y
+opener-apart = told-apart securing.openerValues readOpener opener-back
 
 -- ---- what was vetted
 abbrev readVetted : Paper vetting.Word → Vetted

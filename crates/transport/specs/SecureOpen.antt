@@ -1,24 +1,26 @@
--- Promises: a secured message is so long; the key that secured it, application or device, opens it again; and what every opening leaves.
-use mathlib.Core.Bool.{true, false}
-use mathlib.Core.List.{List}
+-- Promises: a secured message is so long; the pair that secured it, or the device key, opens it again; which pairs were tried; and what every opening leaves.
+use mathlib.Core.Bool.{Bool, true, false}
+use mathlib.Core.List.{List, []}
 use mathlib.Core.Path.{_≡_}
-use Prim.Native.Nat.{ℕ, _+_, _<_, _≤_, min}
-use lib.ListN.{length}
+use Prim.Native.Nat.{ℕ, _+_, _*_, _<_, _≤_}
+use lib.ListN.{length, getD}
 use Rattle.common.specs.Lent.{lent}
-use Rattle.common.specs.Lists.{onto}
+use Rattle.common.specs.Lists.{onto, same}
 use Rattle.common.specs.Paper.{numberOf}
-use Rattle.modes.specs.Ccm.{micOctets}
-use Rattle.transport.specs.declared.securing.ApplicationKey.{ApplicationKey}
+use Rattle.common.specs.Search.{first}
+use Rattle.modes.specs.Ccm.{micOctets, longestData}
 use Rattle.transport.specs.declared.securing.Envelope.{Envelope}
-use Rattle.transport.specs.declared.securing.MessageKey.{MessageKey}
-use Rattle.transport.specs.declared.securing.MessageKey.the-variants.{Application, Device}
-use Rattle.transport.specs.declared.securing.Opened.the-variants.{Message}
-use Rattle.transport.specs.Securing.{applicationKeyPlaces, transMic, secured, openedBy, applicationKeyAt, fitsKey, applicationCandidates, unsecuring, paper, trialsOf}
+use Rattle.transport.specs.declared.securing.Held.{Held}
+use Rattle.transport.specs.declared.securing.Opened.the-variants.{Message, NotOpened}
+use Rattle.transport.specs.declared.securing.Opener.{Opener}
+use Rattle.transport.specs.declared.securing.Opener.the-variants.{Application, Labelled, Device}
+use Rattle.transport.specs.Securing.{applicationKeyPlaces, labelPlaces, transMic, secured, pairs, keyBy, additionalBy, opensMessage}
+use Rattle.transport.specs.Securing.{unsecuring, openerValues, paper, trialsOf}
 use Rattle.transport.specs.Segment.{messageOctets}
 
 -- a secured message has its TransMIC behind it
 abbrev pub SecuredLength : Type 0
-SecuredLength = (key : List ℕ) (e : Envelope) (m : List ℕ) → length (secured key e m) ≡ length m + micOctets (transMic (e .szmic))
+SecuredLength = (key : List ℕ) (e : Envelope) (additional m : List ℕ) → length (secured key e additional m) ≡ length m + micOctets (transMic (e .szmic))
 
 -- a message that can be handed up, and the buffer lent for it
 pub record Fits (m buf : List ℕ) : Type 0 where
@@ -29,40 +31,73 @@ pub record Fits (m buf : List ℕ) : Type 0 where
   -- the buffer is not refused 16
   pub room : messageOctets ≤ length buf
 
--- a receiver, by the application keys that it holds, of a message c that the key at place i secured
-pub record Receives (keys : List ApplicationKey) (count i : ℕ) (e : Envelope) (c buf : List ℕ) : Type 0 where
+-- the place of a pair among those tried, from 0; their number where it is none of them
+abbrev pub sameOpener : Opener → Opener → Bool
+sameOpener x y = same (openerValues x) (openerValues y)
+
+unfoldable pub placeOf : Held → Envelope → Opener → ℕ
+placeOf held e x = first (sameOpener x) (pairs held e)
+
+-- the pair at a place
+abbrev pub pairAt : Held → Envelope → ℕ → Opener
+pairAt held e k = getD (pairs held e) k Device
+
+-- a receiver, by what it holds, of a message c that this pair secured
+pub record Receives (held : Held) (x : Opener) (e : Envelope) (c buf : List ℕ) : Type 0 where
   -- AKF is 1
   pub akf-set : e .akf ≡ true
-  -- the key is one of those held
-  pub held : i < min count applicationKeyPlaces
-  -- it is of that AID, and bound to the opening network key
-  pub fitting : fitsKey e (applicationKeyAt keys i) ≡ true
-  -- no key before it that fits authenticates the message
-  pub none-before : (j : ℕ) → j < i → fitsKey e (applicationKeyAt keys j) ≡ true → openedBy (applicationKeyAt keys j .key) e c buf .answer ≡ false
+  -- the pair is one of those tried
+  pub tried : placeOf held e x < length (pairs held e)
+  -- no pair before it authenticates the message
+  pub none-before : (k : ℕ) → k < placeOf held e x → opensMessage held e c buf (pairAt held e k) ≡ false
 
--- what an application key secured, a receiver opens to the same message; its trials are the keys before it that fit, and the key
+-- what a pair secured, a receiver opens to the same message; its trials are the pairs before it, and the pair
 abbrev pub UnsecureSecure : Type 0
 UnsecureSecure =
-    (keys : List ApplicationKey) (count i : ℕ) (device : List ℕ) (e : Envelope) (m buf : List ℕ)
-    → (let c = secured (applicationKeyAt keys i .key) e m in
-    Fits m buf → Receives keys count i e c buf
-    → unsecuring keys count device e c buf ≡ lent (Message (Application i) (length (applicationCandidates keys i e) + 1) (length m)) (onto m buf))
+    (held : Held) (x : Opener) (e : Envelope) (m buf : List ℕ)
+    → (let c = secured (keyBy held x) e (additionalBy held x) m in
+    Fits m buf
+    -- CCM takes so much additional data: a label has sixteen octets
+    → length (additionalBy held x) ≤ longestData
+    → Receives held x e c buf
+    → unsecuring held e c buf ≡ lent (Message x (placeOf held e x + 1) (length m)) (onto m buf))
 
 -- what the device key secured, it opens to the same message, with no trials
 abbrev pub UnsecureSecureDevice : Type 0
 UnsecureSecureDevice =
-    (keys : List ApplicationKey) (count : ℕ) (device : List ℕ) (e : Envelope) (m buf : List ℕ)
+    (held : Held) (e : Envelope) (m buf : List ℕ)
     → Fits m buf
     -- AKF is 0
     → e .akf ≡ false
-    → unsecuring keys count device e (secured device e m) buf ≡ lent (Message Device 0 (length m)) (onto m buf)
+    → unsecuring held e (secured (held .device) e [] m) buf ≡ lent (Message Device 0 (length m)) (onto m buf)
 
--- there are four application keys at most, so no more trials
+-- ---- which pairs were tried
+-- the trials of a message are the place, from 1, of the pair that opened it: this one opens it, and none before it
+pub record FirstToOpen (held : Held) (e : Envelope) (c buf : List ℕ) (x : Opener) (trials : ℕ) : Type 0 where
+  pub place : ℕ
+  pub counted : trials ≡ place + 1
+  pub within : place < length (pairs held e)
+  pub named : pairAt held e place ≡ x
+  pub opens : opensMessage held e c buf x ≡ true
+  pub none-before : (k : ℕ) → k < place → opensMessage held e c buf (pairAt held e k) ≡ false
+
+abbrev pub OpenedByFirst : Type 0
+OpenedByFirst =
+    (held : Held) (e : Envelope) (c buf : List ℕ) (x : Opener) (trials len : ℕ) (left : List ℕ)
+    → e .akf ≡ true → unsecuring held e c buf ≡ lent (Message x trials len) left → FirstToOpen held e c buf x trials
+
+-- 13 of a message that is long enough carries the number of pairs, and none of them opens it
+abbrev pub NoneOpened : Type 0
+NoneOpened =
+    (held : Held) (e : Envelope) (c buf : List ℕ) (trials : ℕ) (left : List ℕ)
+    → e .akf ≡ true → 1 + micOctets (transMic (e .szmic)) ≤ length c → unsecuring held e c buf ≡ lent (NotOpened trials) left
+    → (trials ≡ length (pairs held e)) × ((k : ℕ) → k < length (pairs held e) → opensMessage held e c buf (pairAt held e k) ≡ false)
+
+-- there are four application keys and four labels at most, so no more than sixteen pairs
 abbrev pub TrialsMost : Type 0
-TrialsMost =
-    (keys : List ApplicationKey) (count : ℕ) (device : List ℕ) (e : Envelope) (c buf : List ℕ)
-    → trialsOf (unsecuring keys count device e c buf .answer) ≤ applicationKeyPlaces
+TrialsMost = (held : Held) (e : Envelope) (c buf : List ℕ) → trialsOf (unsecuring held e c buf .answer) ≤ applicationKeyPlaces * labelPlaces
 
+-- ---- what every opening leaves
 -- the message of len octets that stands in what a call left of buf
 pub record Stands (c buf : List ℕ) (len : ℕ) (left : List ℕ) : Type 0 where
   pub len-most : len ≤ messageOctets
@@ -70,20 +105,24 @@ pub record Stands (c buf : List ℕ) (len : ℕ) (left : List ℕ) : Type 0 wher
   -- the buffer is as long as it was
   pub as-long : length left ≡ length buf
 
--- a message that is opened, by whatever key
+-- a message that is opened, by whatever
 abbrev pub MessageStands : Type 0
 MessageStands =
-    (keys : List ApplicationKey) (count : ℕ) (device : List ℕ) (e : Envelope) (c buf : List ℕ) (k : MessageKey) (trials len : ℕ) (left : List ℕ)
-    → unsecuring keys count device e c buf ≡ lent (Message k trials len) left → Stands c buf len left
+    (held : Held) (e : Envelope) (c buf : List ℕ) (x : Opener) (trials len : ℕ) (left : List ℕ)
+    → unsecuring held e c buf ≡ lent (Message x trials len) left → Stands c buf len left
 
--- the place of the application key that opened a message is one of four
+-- the places of the application key and the label that opened a message are among four each
+abbrev pub Low : Opener → Type 0
+Low (Application i) = i < applicationKeyPlaces
+Low (Labelled i j) = (i < applicationKeyPlaces) × (j < labelPlaces)
+Low Device = Unit {0}
+
 abbrev pub PlaceLow : Type 0
 PlaceLow =
-    (keys : List ApplicationKey) (count : ℕ) (device : List ℕ) (e : Envelope) (c buf : List ℕ) (i trials len : ℕ) (left : List ℕ)
-    → unsecuring keys count device e c buf ≡ lent (Message (Application i) trials len) left → i < applicationKeyPlaces
+    (held : Held) (e : Envelope) (c buf : List ℕ) (x : Opener) (trials len : ℕ) (left : List ℕ)
+    → unsecuring held e c buf ≡ lent (Message x trials len) left → Low x
 
 -- what is refused, 13 or 16, keeps the buffer
 abbrev pub RefusedKeeps : Type 0
 RefusedKeeps =
-    (keys : List ApplicationKey) (count : ℕ) (device : List ℕ) (e : Envelope) (c buf : List ℕ)
-    → 0 < numberOf (paper (unsecuring keys count device e c buf .answer)) → unsecuring keys count device e c buf .buffer ≡ buf
+    (held : Held) (e : Envelope) (c buf : List ℕ) → 0 < numberOf (paper (unsecuring held e c buf .answer)) → unsecuring held e c buf .buffer ≡ buf

@@ -11,7 +11,7 @@ use Rattle.transport.proofs.securing.open.Tie as tie
 returns : tie.Need-returns
 returns c =
     let a = c .before .before .before .args in
-    open-short-buffer (a .keys) (a .count) (a .device) (a .e) (a .sealed .now) (a .out .now) (c .if1 .taken)
+    open-short-buffer (a .held) (a .e) (a .sealed .now) (a .out .now) (c .if1 .taken)
 
 add-if2 : tie.Need-add-if2
 add-if2 c = omega (arith, c .mic-octets .ensures, mic-octets-bounds (transMic (c .before .before .before .before .args .e .szmic)) .1)
@@ -20,7 +20,7 @@ returns-2 : tie.Need-returns-2
 returns-2 c =
     let s = c .before .before in
     let a = s .before .before .before .args in
-    open-too-short (a .keys) (a .count) (a .device) (a .e) (a .sealed .now) (a .out .now) (s .if1 .left)
+    open-too-short (a .held) (a .e) (a .sealed .now) (a .out .now) (s .if1 .left)
     (omega (arith, c .before .mic-octets .ensures, c .if2 .taken))
 
 returns-3 : tie.Need-returns-3
@@ -28,17 +28,17 @@ returns-3 c =
     let t = c .before .before .before .before .before in
     let s = t .before .before in
     let a = s .before .before .before .args in
-    open-application (a .keys) (a .count) (a .device) (a .e) (a .sealed .now) (a .out .now) (s .if1 .left)
+    open-application (a .held) (a .e) (a .sealed .now) (a .out .now) (s .if1 .left)
     (omega (arith, t .before .mic-octets .ensures, t .if2 .left)) (c .before .before .before .before .if3 .taken)
     (c .before .before .open-by-application .ensures)
 
 returns-4 : tie.Need-returns-4
 returns-4 c =
-    let t = c .before .before .before .before .before in
+    let t = c .before .before .before .before .before .before in
     let s = t .before .before in
     let a = s .before .before .before .args in
-    open-device (a .keys) (a .count) (a .device) (a .e) (a .sealed .now) (a .out .now) (s .if1 .left)
-    (omega (arith, t .before .mic-octets .ensures, t .if2 .left)) (c .before .before .before .before .if3 .left)
+    open-device (a .held) (a .e) (a .sealed .now) (a .out .now) (s .if1 .left)
+    (omega (arith, t .before .mic-octets .ensures, t .if2 .left)) (c .before .before .before .before .before .if3 .left)
     (c .before .before .open-by-device .ensures)
 
 pub open-spec : {M : Type 1} → statement M

@@ -8,9 +8,9 @@ use Rattle.transport.proofs.securing.open_by.Tie as tie
 returns : tie.Need-returns
 returns c =
     let s = c .before .before .before .before in
-    let a = s .before .before .before .before .before .args in
-    opened-by (a .key) (a .e) (s .before .before .expand .ensures) (s .before .message-nonce .ensures) (s .trans-mic .ensures) (a .sealed .now) (a .out .now)
-    (c .before .before .«open» .ensures)
+    let a = s .before .before .before .before .before .before .args in
+    opened-by (a .key) (a .e) (s .before .before .expand .ensures) (s .before .message-nonce .ensures) (s .trans-mic .ensures) (a .additional .now)
+    (a .sealed .now) (a .out .now) (c .before .before .open-with .ensures)
 
 pub open-by-spec : {M : Type 1} → statement M
 open-by-spec =
