@@ -4,16 +4,16 @@
 --   local-within, local-bounds           it is where it lies among the elements', and nowhere else
 --   answers-..                           whether the node answers to it
 --   for-..                               whether a PDU is for this node
-use mathlib.Core.Bool.{Bool, true, false}
+use mathlib.Core.Bool.{Bool, true, false, _&&_}
 use mathlib.Core.Path.{_≡_, refl}
 use Prim.Native.Nat.{ℕ, _+_, _-_, _≤_, _<_, min}
 use native.Mathlib.Omega.{arith}
 use borrow.Author.Tests.{lt-ltb, le-ltb, le-leb, lt-leb, ltb-true, ltb-false, leb-true, eq-eqb, ne-eqb}
-use lib.Dec.{leb, ltb}
+use lib.Dec.{eqb, leb, ltb}
 use Rattle.common.proofs.Tests.{by-test, and-first, and-second}
 use Rattle.network.specs.Address.{isReserved}
 use Rattle.node.specs.declared.addresses.Node.{Node}
-use Rattle.node.specs.Addresses.{elementPlaces, isLocal, listens, answersTo, forNode}
+use Rattle.node.specs.Addresses.{elementPlaces, isLocal, listens, holdsLabel, answersTo, forNode}
 
 module _ (node : Node) (a : ℕ) where
   -- the address is below the first element's
@@ -63,14 +63,22 @@ module _ (node : Node) (a : ℕ) where
         unfolding answersTo
         answers-relays h t = simp (← e, f, ne-eqb a 0xFFFF n, eq-eqb a 0xFFFE h, t)
 
-        module _ {l : Bool} (q : l ≡ listens node a) where
-          pub answers-listened : (a ≡ 0xFFFE → ⊥) → l ≡ answersTo node a
+        -- not 0xFFFE, or relay is off: groups and labels decide
+        module _ (w : eqb a 0xFFFE && node .relay ≡ false) {l : Bool} (q : l ≡ listens node a) where
+          pub answers-listened : l ≡ true → true ≡ answersTo node a
           unfolding answersTo
-          answers-listened h = simp (← e, f, ne-eqb a 0xFFFF n, ne-eqb a 0xFFFE h, ← q)
+          answers-listened t = simp (← e, f, ne-eqb a 0xFFFF n, w, ← q, t)
 
-          pub answers-listened-only : a ≡ 0xFFFE → node .relay ≡ false → l ≡ answersTo node a
+          pub answers-label : l ≡ false → {m : Bool} → m ≡ holdsLabel node a → m ≡ answersTo node a
           unfolding answersTo
-          answers-listened-only h r = simp (← e, f, ne-eqb a 0xFFFF n, eq-eqb a 0xFFFE h, r, ← q)
+          answers-label t p = rw (← e, f, ne-eqb a 0xFFFF n, w, ← q, t) p
+
+  -- the tests of 0xFFFE and relay
+  pub no-relays : (a ≡ 0xFFFE → ⊥) → eqb a 0xFFFE && node .relay ≡ false
+  no-relays h = rw (ne-eqb a 0xFFFE h)
+
+  pub relay-off : node .relay ≡ false → eqb a 0xFFFE && node .relay ≡ false
+  relay-off r = rw r (by-test (eqb a 0xFFFE) (λ t. rw t) (λ t. rw t))
 
   -- ---- whether a PDU is for this node
   module _ {s : Bool} (e : s ≡ isReserved a) where

@@ -2,7 +2,7 @@
 use mathlib.Core.Path.{_≡_, ap, _∙_}
 use Prim.Native.Nat.{ℕ}
 use Rattle.node.specs.declared.addresses.Node.{Node}
-use Rattle.node.specs.Addresses.{isLocal, listens, answersTo, forNode}
+use Rattle.node.specs.Addresses.{isLocal, listens, holdsLabel, answersTo, forNode}
 use Rattle.node.specs.Index.{Index, indexOf, withIndex, SameFixed, SameIndex}
 
 pub same-node : (a b : Node) → SameFixed a b → SameIndex a b → a ≡ b
@@ -13,5 +13,5 @@ unfolding isLocal
 local-fixed a b f address = ap (λ (x : Node). isLocal x address) f
 
 pub for-fixed : (a b : Node) → SameFixed a b → (address : ℕ) → forNode a address ≡ forNode b address
-unfolding answersTo forNode isLocal listens
+unfolding answersTo forNode isLocal listens holdsLabel
 for-fixed a b f address = ap (λ (x : Node). forNode x address) f

@@ -10,14 +10,14 @@ use lib.Dec.{leb, ltb, eqb}
 use lib.ListN.{getD}
 use Rattle.common.proofs.Lists.{length-tab, getD-tab}
 use Rattle.common.proofs.Tests.{by-test, and-first, and-second}
-use Rattle.keys.specs.Derivation.{k2, k4}
+use Rattle.keys.specs.Derivation.{k2, k4, labelAddress}
 use Rattle.network.proofs.AddressLaws.{unicast-range}
 use Rattle.network.specs.Candidates.{networkKeyPlaces}
-use Rattle.transport.specs.Securing.{applicationKeyPlaces}
+use Rattle.transport.specs.Securing.{applicationKeyPlaces, labelPlaces}
 use Rattle.node.specs.declared.setup.BoundKey.{BoundKey}
 use Rattle.node.specs.declared.setup.Setup.{Setup}
 use Rattle.node.specs.Setup.{every, boundWithin, keysValid, nextWithin, elementsValid, isGroup, groupsValid, indexValid, valid}
-use Rattle.node.specs.Setup.{networkKeyAt, materialAt, boundKeyAt, nextAt, groupAt, nodeOf, nextOf, making}
+use Rattle.node.specs.Setup.{networkKeyAt, materialAt, boundKeyAt, nextAt, groupAt, labelUuidAt, nodeOf, nextOf, making}
 use Rattle.node.specs.Made.{WellMade, NextWell, MakesWell, LocalIsUnicast}
 use Rattle.node.proofs.AddressesLaws.{local-bounds}
 use Rattle.node.proofs.EveryLaws.{every-each}
@@ -71,6 +71,10 @@ module _ (s : Setup) where
   unfolding boundKeyAt
   aid-used i h = simp (lt-ltb i (s .applications) h)
 
+  label-used : (i : ℕ) → i < s .labelled → labelUuidAt s i .address ≡ labelAddress (labelUuidAt s i .octets)
+  unfolding labelUuidAt
+  label-used i h = simp (lt-ltb i (s .labelled) h)
+
   bound-used : boundWithin s ≡ true → (i : ℕ) → i < s .applications → boundKeyAt s i .bound < s .networks
   unfolding boundWithin boundKeyAt
   bound-used v i h =
@@ -90,13 +94,14 @@ module _ (s : Setup) where
 
   -- ---- the node and its next SEQs
   module _ (v : valid s ≡ true) where
-    parts : (keysValid s ≡ true) × (elementsValid s ≡ true) × (groupsValid s ≡ true) × (indexValid s ≡ true)
+    parts : (keysValid s ≡ true) × (elementsValid s ≡ true) × (groupsValid s ≡ true) × (s .labelled ≤ labelPlaces) × (indexValid s ≡ true)
     unfolding valid
     parts =
         let a = both (keysValid s) _ v in
         let b = both (elementsValid s) _ (a .1) in
         let c = both (groupsValid s) _ (b .1) in
-        (a .0, b .0, c .0, c .1)
+        let d = both (leb (s .labelled) labelPlaces) _ (c .1) in
+        (a .0, b .0, c .0, leb-true (s .labelled) labelPlaces (d .0), d .1)
 
     pub node-well-made : WellMade (nodeOf s)
     unfolding nodeOf
@@ -111,19 +116,22 @@ module _ (s : Setup) where
           elements-least = e1;
           elements-most = e8;
           listened-most = l8;
+          labels-most = parts .3;
           netkeys-places = length-tab (networkKeyAt s) networkKeyPlaces;
           materials-places = length-tab (materialAt s) networkKeyPlaces;
           appkeys-places = length-tab (boundKeyAt s) applicationKeyPlaces;
           groups-places = length-tab (groupAt s) groupPlaces;
+          labels-places = length-tab (labelUuidAt s) labelPlaces;
           derived =
               λ i h.
               rw (getD-tab (materialAt s) networkKeyPlaces i _ (omega (arith, h, n4)), getD-tab (networkKeyAt s) networkKeyPlaces i _ (omega (arith, h, n4))) (keys-used i h);
           aid-derived = λ i h. rw (getD-tab (boundKeyAt s) applicationKeyPlaces i _ (omega (arith, h, a4))) (aid-used i h);
+          label-derived = λ i h. rw (getD-tab (labelUuidAt s) labelPlaces i _ (omega (arith, h, parts .3))) (label-used i h);
           bound = λ i h. rw (getD-tab (boundKeyAt s) applicationKeyPlaces i _ (omega (arith, h, a4))) (bound-used b i h);
           first-least = f1;
           last-most = omega (arith, f8);
           groups-only = λ i h. rw (getD-tab (groupAt s) groupPlaces i 0 (omega (arith, h, l8))) (group-used g i h);
-          index-least = index-allowed (parts .3);
+          index-least = index-allowed (parts .4);
         }
 
     pub next-well : NextWell (nodeOf s .elements) (nextOf s)

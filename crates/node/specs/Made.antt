@@ -1,13 +1,13 @@
--- Promise: a node that setup makes holds what document 01's table allows, and its derived keys are derived from the keys given; so a local address is unicast.
+-- Promise: a node that setup makes holds what document 01's table allows, and its derived keys and addresses are derived from the keys and labels given; so a local address is unicast.
 use mathlib.Core.Bool.{true}
 use mathlib.Core.List.{List, []}
 use mathlib.Core.Path.{_≡_}
 use Prim.Native.Nat.{ℕ, _+_, _≤_, _<_}
 use lib.ListN.{length, getD}
-use Rattle.keys.specs.Derivation.{k2, k4}
+use Rattle.keys.specs.Derivation.{k2, k4, labelAddress}
 use Rattle.network.specs.Address.{isUnicast}
 use Rattle.network.specs.Candidates.{networkKeyPlaces, keyAt}
-use Rattle.transport.specs.Securing.{applicationKeyPlaces, applicationKeyAt}
+use Rattle.transport.specs.Securing.{applicationKeyPlaces, applicationKeyAt, labelPlaces, labelAt}
 use Rattle.node.specs.declared.addresses.Node.{Node}
 use Rattle.node.specs.declared.setup.Setup.{Setup}
 use Rattle.node.specs.Addresses.{groupPlaces, elementPlaces, isLocal}
@@ -25,15 +25,20 @@ pub record WellMade (node : Node) : Type 0 where
   pub elements-most : node .elements ≤ elementPlaces
   -- group addresses listened to: 0 to 8
   pub listened-most : node .listened ≤ groupPlaces
+  -- labels: 0 to 4
+  pub labels-most : node .labelled ≤ labelPlaces
   -- each array has all its places
   pub netkeys-places : length (node .netkeys) ≡ networkKeyPlaces
   pub materials-places : length (node .materials) ≡ networkKeyPlaces
   pub appkeys-places : length (node .appkeys) ≡ applicationKeyPlaces
   pub groups-places : length (node .groups) ≡ groupPlaces
+  pub labels-places : length (node .labels) ≡ labelPlaces
   -- NID, encryption key and privacy key are derived from the network key
   pub derived : (i : ℕ) → i < node .networks → keyAt (node .materials) i ≡ k2 (getD (node .netkeys) i (record { octets = [] }) .octets)
   -- AID is derived from the application key
   pub aid-derived : (i : ℕ) → i < node .applications → applicationKeyAt (node .appkeys) i .aid ≡ k4 (applicationKeyAt (node .appkeys) i .key)
+  -- a label's address is derived from the label
+  pub label-derived : (i : ℕ) → i < node .labelled → labelAt (node .labels) i .address ≡ labelAddress (labelAt (node .labels) i .octets)
   -- each application key is bound to one network key
   pub bound : (i : ℕ) → i < node .applications → applicationKeyAt (node .appkeys) i .bound < node .networks
   -- consecutive unicast addresses, all at most 0x7FFF

@@ -1,4 +1,4 @@
--- Setup (document 01, "What the receiver holds"): what is outside the numbers of the table makes no node.
+-- Setup (document 01, "What the receiver holds"; document 02, W8): what is outside the numbers of the table makes no node.
 --   nothing      nothing is given; `withNetworkKey` and the others fill in what is
 --   valid s      everything is within the table
 --   nodeOf s     the node: unused places zero, derived keys worked out
@@ -13,14 +13,16 @@ use Rattle.common.specs.Choice.{if_then_else_}
 use Rattle.common.specs.Lists.{tab}
 use Rattle.common.specs.Search.{first}
 use Rattle.keys.specs.declared.NetworkKeys.{NetworkKeys}
-use Rattle.keys.specs.Derivation.{k2, k4}
+use Rattle.keys.specs.Derivation.{k2, k4, labelAddress}
 use Rattle.network.specs.declared.address.AddressKind.{AddressKind}
 use Rattle.network.specs.declared.address.AddressKind.the-variants.{Unassigned, Unicast, Virtual, Group, Reserved}
 use Rattle.network.specs.Address.{kindOf}
 use Rattle.network.specs.Candidates.{networkKeyPlaces}
 use Rattle.transport.specs.declared.securing.ApplicationKey.{ApplicationKey}
-use Rattle.transport.specs.Securing.{applicationKeyPlaces}
+use Rattle.transport.specs.declared.securing.LabelUuid.{LabelUuid}
+use Rattle.transport.specs.Securing.{applicationKeyPlaces, labelPlaces}
 use Rattle.node.specs.declared.addresses.Key.{Key}
+use Rattle.node.specs.declared.addresses.Label.{Label}
 use Rattle.node.specs.declared.addresses.Node.{Node}
 use Rattle.node.specs.declared.setup.BoundKey.{BoundKey}
 use Rattle.node.specs.declared.setup.Made.{Made}
@@ -33,6 +35,9 @@ zeroKey = record { octets = replicate 16 0 }
 
 abbrev pub zeroBoundKey : BoundKey
 zeroBoundKey = record { key = replicate 16 0; network = 0 }
+
+abbrev pub zeroLabel : Label
+zeroLabel = record { octets = replicate 16 0 }
 
 -- nothing is given: zeros, index 0 with flag 0, and relay off
 abbrev pub nothing : Setup
@@ -48,6 +53,8 @@ nothing =
       next = replicate elementPlaces 0;
       listened = 0;
       groups = replicate groupPlaces 0;
+      labelled = 0;
+      labels = replicate labelPlaces zeroLabel;
       iv = 0;
       flag = false;
       relay = false;
@@ -67,6 +74,8 @@ withKeys s networks netkeys applications appkeys device =
       next = s .next;
       listened = s .listened;
       groups = s .groups;
+      labelled = s .labelled;
+      labels = s .labels;
       iv = s .iv;
       flag = s .flag;
       relay = s .relay;
@@ -86,6 +95,29 @@ withAddresses s address elements next listened groups =
       next = next;
       listened = listened;
       groups = groups;
+      labelled = s .labelled;
+      labels = s .labels;
+      iv = s .iv;
+      flag = s .flag;
+      relay = s .relay;
+    }
+
+-- with other labels
+abbrev pub withLabels : Setup → ℕ → List Label → Setup
+withLabels s labelled labels =
+    record {
+      networks = s .networks;
+      netkeys = s .netkeys;
+      applications = s .applications;
+      appkeys = s .appkeys;
+      device = s .device;
+      first = s .first;
+      elements = s .elements;
+      next = s .next;
+      listened = s .listened;
+      groups = s .groups;
+      labelled = labelled;
+      labels = labels;
       iv = s .iv;
       flag = s .flag;
       relay = s .relay;
@@ -105,12 +137,14 @@ withIndex s iv flag relay =
       next = s .next;
       listened = s .listened;
       groups = s .groups;
+      labelled = s .labelled;
+      labels = s .labels;
       iv = iv;
       flag = flag;
       relay = relay;
     }
 
--- how keys, elements and groups are counted: one more than a count, which stops once it is above `most`
+-- how keys, elements, groups and labels are counted: one more than a count, which stops once it is above `most`
 abbrev pub counted : ℕ → ℕ → ℕ
 counted most n = if ltb most n then n else n + 1
 
@@ -135,6 +169,10 @@ withElements s address elements next = withAddresses s address elements next (s 
 -- with one more group address
 abbrev pub withGroup : Setup → ℕ → Setup
 withGroup s address = withAddresses s (s .first) (s .elements) (s .next) (counted groupPlaces (s .listened)) (set (s .groups) (s .listened) address)
+
+-- with one more label
+abbrev pub withLabel : Setup → List ℕ → Setup
+withLabel s label = withLabels s (counted labelPlaces (s .labelled)) (set (s .labels) (s .labelled) (record { octets = label }))
 
 -- none of the first n fails
 abbrev pub every : {A : Type 0} → (A → Bool) → ℕ → List A → Bool
@@ -175,8 +213,9 @@ groupsValid s = leb (s .listened) groupPlaces && every isGroup (s .listened) (s 
 unfoldable pub indexValid : Setup → Bool
 indexValid s = not (s .flag && eqb (s .iv) 0)
 
+-- and labels 0 to 4
 unfoldable pub valid : Setup → Bool
-valid s = keysValid s && (elementsValid s && (groupsValid s && indexValid s))
+valid s = keysValid s && (elementsValid s && (groupsValid s && (leb (s .labelled) labelPlaces && indexValid s)))
 
 -- zeros
 abbrev pub zeroMaterial : NetworkKeys
@@ -184,6 +223,9 @@ zeroMaterial = record { nid = 0; encryption = replicate 16 0; privacy = replicat
 
 abbrev pub zeroApplicationKey : ApplicationKey
 zeroApplicationKey = record { key = replicate 16 0; aid = 0; bound = 0 }
+
+abbrev pub zeroLabelUuid : LabelUuid
+zeroLabelUuid = record { octets = replicate 16 0; address = 0 }
 
 -- the places of each array: those used, and zeros behind them
 unfoldable pub networkKeyAt : Setup → ℕ → Key
@@ -206,6 +248,13 @@ nextAt s i = if ltb i (s .elements) then getD (s .next) i 0 else 0
 unfoldable pub groupAt : Setup → ℕ → ℕ
 groupAt s i = if ltb i (s .listened) then getD (s .groups) i 0 else 0
 
+-- a label's address is derived once, too
+unfoldable pub labelUuidAt : Setup → ℕ → LabelUuid
+labelUuidAt s i =
+    let label = getD (s .labels) i (record { octets = [] }) in
+    if ltb i (s .labelled) then record { octets = label .octets; address = labelAddress (label .octets) } else
+    zeroLabelUuid
+
 unfoldable pub nodeOf : Setup → Node
 nodeOf s =
     record {
@@ -219,6 +268,8 @@ nodeOf s =
       elements = s .elements;
       listened = s .listened;
       groups = tab (groupAt s) groupPlaces;
+      labelled = s .labelled;
+      labels = tab (labelUuidAt s) labelPlaces;
       iv = s .iv;
       flag = s .flag;
       relay = s .relay;
@@ -241,6 +292,8 @@ noNode =
       elements = 0;
       listened = 0;
       groups = replicate groupPlaces 0;
+      labelled = 0;
+      labels = replicate labelPlaces zeroLabelUuid;
       iv = 0;
       flag = false;
       relay = false;

@@ -1,3 +1,3 @@
-// What setup fixes, keys and what is derived from them, addresses, relay; and the IV Index with its flag.
+// What setup fixes, keys and labels and what is derived from them, addresses, relay; and the IV Index with its flag.
 pub mod addresses;
 pub mod setup;

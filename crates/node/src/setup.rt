@@ -1,16 +1,18 @@
 // A node is made from keys, addresses and the IV Index: everything unused is zero, and what is derived from keys is worked out once.
 use super::addresses::Key;
+use super::addresses::Label;
 use super::addresses::Node;
 use keys::NetworkKeys;
 use network::address::AddressKind;
 use transport::securing::ApplicationKey;
+use transport::securing::LabelUuid;
 ghost use mathlib.Core.Path.{_≡_};
 ghost use Prim.Native.Nat.{_<_, _≤_};
 ghost use Rattle.common.specs.Lists.{tab};
 ghost use Rattle.network.specs.Candidates.{networkKeyPlaces};
-ghost use Rattle.transport.specs.Securing.{applicationKeyPlaces};
-ghost use Rattle.node.specs.Setup.{nothing as nothingGiven, counted as countedTo, withNetworkKey, withApplicationKey};
-ghost use Rattle.node.specs.Setup.{groupKind, boundWithin, keysValid, nextWithin, elementsValid, groupsValid, indexValid, valid, networkKeyAt, materialAt, boundKeyAt, nextAt, groupAt, nodeOf, nextOf, noNode, making};
+ghost use Rattle.transport.specs.Securing.{applicationKeyPlaces, labelPlaces};
+ghost use Rattle.node.specs.Setup.{nothing as nothingGiven, counted as countedTo, withNetworkKey, withApplicationKey, withLabel};
+ghost use Rattle.node.specs.Setup.{groupKind, boundWithin, keysValid, nextWithin, elementsValid, groupsValid, indexValid, valid, networkKeyAt, materialAt, boundKeyAt, nextAt, groupAt, labelUuidAt, nodeOf, nextOf, noNode, making};
 ghost use Rattle.node.specs.Addresses.{groupPlaces, elementPlaces};
 
 // An application key, and the place of the network key that it is bound to.
@@ -34,6 +36,9 @@ pub struct Setup {
     // How many group addresses are listened to: 0 to 8.
     pub listened: usize,
     pub groups: [u16; super::addresses::GROUPS],
+    // How many labels there are: 0 to 4.
+    pub labelled: usize,
+    pub labels: [Label; transport::securing::LABELS],
     pub iv: u32,
     pub flag: bool,
     pub relay: bool,
@@ -65,6 +70,8 @@ pub fn nothing() -> Setup
         next: [0u32; super::addresses::ELEMENTS],
         listened: 0,
         groups: [0u16; super::addresses::GROUPS],
+        labelled: 0,
+        labels: [Label { octets: [0u8; 16] }; transport::securing::LABELS],
         iv: 0,
         flag: false,
         relay: false,
@@ -101,6 +108,20 @@ pub fn with_application_key(s: Setup, network: usize, key: [u8; 16]) -> Setup
     after.applications = counted(n, 4);
     if n < transport::securing::KEYS {
         after.appkeys[n] = BoundKey { key, network };
+        return after;
+    }
+    after
+}
+
+// The setup with one more label.
+pub fn with_label(s: Setup, octets: [u8; 16]) -> Setup
+    ensures { λ r. ⌜ r ≡ withLabel s octets ⌝ }
+{
+    let n = s.labelled;
+    let mut after = s;
+    after.labelled = counted(n, 4);
+    if n < transport::securing::LABELS {
+        after.labels[n] = Label { octets };
         return after;
     }
     after
@@ -223,6 +244,9 @@ fn is_valid(s: Setup) -> bool
     if !groups_valid(s) {
         return false;
     }
+    if transport::securing::LABELS < s.labelled {
+        return false;
+    }
     index_valid(s)
 }
 
@@ -291,6 +315,25 @@ fn group_at(s: Setup, i: usize) -> u16
     if i < s.listened { groups[i] } else { 0 }
 }
 
+fn label_at(s: Setup, i: usize) -> LabelUuid
+    requires { ⌜ i < labelPlaces ⌝ }
+    ensures { λ r. ⌜ r ≡ labelUuidAt s i ⌝ }
+{
+    let labels = s.labels;
+    if i < s.labelled {
+        let label = labels[i];
+        let octets = label.octets;
+        return LabelUuid {
+            octets,
+            address: keys::label_address(octets),
+        };
+    }
+    LabelUuid {
+        octets: [0u8; 16],
+        address: 0,
+    }
+}
+
 // The places of each array together.
 fn network_keys_of(s: Setup) -> [Key; network::opening::KEYS]
     ensures { λ r. ⌜ r ≡ tab (networkKeyAt s) networkKeyPlaces ⌝ }
@@ -340,6 +383,17 @@ fn groups_of(s: Setup) -> [u16; super::addresses::GROUPS]
     ]
 }
 
+fn labels_of(s: Setup) -> [LabelUuid; transport::securing::LABELS]
+    ensures { λ r. ⌜ r ≡ tab (labelUuidAt s) labelPlaces ⌝ }
+{
+    [
+        label_at(s, 0),
+        label_at(s, 1),
+        label_at(s, 2),
+        label_at(s, 3),
+    ]
+}
+
 fn node_of(s: Setup) -> Node
     ensures { λ r. ⌜ r ≡ nodeOf s ⌝ }
 {
@@ -355,6 +409,8 @@ fn node_of(s: Setup) -> Node
         elements: s.elements,
         listened: s.listened,
         groups: groups_of(s),
+        labelled: s.labelled,
+        labels: labels_of(s),
         iv: s.iv,
         flag: s.flag,
         relay: s.relay,
@@ -375,6 +431,10 @@ fn zero_node() -> Node
         aid: 0,
         bound: 0,
     };
+    let label = LabelUuid {
+        octets: [0u8; 16],
+        address: 0,
+    };
     Node {
         networks: 0,
         netkeys: [key; network::opening::KEYS],
@@ -386,6 +446,8 @@ fn zero_node() -> Node
         elements: 0,
         listened: 0,
         groups: [0u16; super::addresses::GROUPS],
+        labelled: 0,
+        labels: [label; transport::securing::LABELS],
         iv: 0,
         flag: false,
         relay: false,

@@ -1,4 +1,4 @@
--- `setup::is_valid` meets its contract: it asks the four parts of `valid` in their order, and each return is one of `valid-rules`.
+-- `setup::is_valid` meets its contract: it asks the parts of `valid` in their order, and each return is one of `valid-rules`.
 -- Assumes nothing.
 use borrow.Author.Needs.{needs}
 use Rattle.node.specs.Setup.{valid}
@@ -12,4 +12,4 @@ is-valid-spec =
     tie.close
     (tie.spec
     (λ c κs. search needs) (λ c. search valid-rules) (λ c κs. search needs) (λ c. search valid-rules) (λ c κs. search needs) (λ c. search valid-rules)
-    (λ c κs. search needs) (λ c. search valid-rules))
+    (λ c. search valid-rules) (λ c κs. search needs) (λ c. search valid-rules))

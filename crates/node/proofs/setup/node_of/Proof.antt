@@ -8,8 +8,14 @@ use Rattle.node.proofs.setup.node_of.Tie as tie
 returns : tie.Need-returns
 unfolding nodeOf
 returns c =
-    simp (c .before .before .before .network-keys-of .ensures, c .before .before .materials-of .ensures, c .before .application-keys-of .ensures, c .groups-of .ensures)
+    simp (
+      c .before .before .before .before .network-keys-of .ensures,
+      c .before .before .before .materials-of .ensures,
+      c .before .before .application-keys-of .ensures,
+      c .before .groups-of .ensures,
+      c .labels-of .ensures,
+    )
 
 pub node-of-spec : {M : Type 1} → statement M
 node-of-spec =
-    tie.close (tie.spec (λ c κs. search needs) (λ c κs. search needs) (λ c κs. search needs) (λ c κs. search needs) returns)
+    tie.close (tie.spec (λ c κs. search needs) (λ c κs. search needs) (λ c κs. search needs) (λ c κs. search needs) (λ c κs. search needs) returns)
