@@ -8,8 +8,8 @@ use lib.ListN.{getD}
 use Rattle.common.specs.Choice.{if_then_else_}
 use Rattle.common.specs.Paper.{Paper, Refusal, Given}
 use Rattle.common.proofs.PaperLaws.{told-apart}
-use Rattle.transport.specs.declared.securing.MessageKey.the-variants.{Application, Device}
-use Rattle.transport.proofs.PaperLaws.{keyAs}
+use Rattle.transport.specs.declared.securing.Opener.the-variants.{Application, Labelled, Device}
+use Rattle.transport.proofs.PaperLaws.{openerAs}
 use Rattle.memory.specs.declared.outgoing.Effect.{Effect}
 use Rattle.memory.specs.declared.outgoing.Effect.the-variants.{Nothing, Marked, Completed, Cancelled}
 use Rattle.memory.specs.declared.pair.Pair.{Pair}
@@ -75,7 +75,7 @@ abbrev read : Paper Word → Answer
 read (Refusal n v) = Refused (refusalOf n)
 read (Given stored v) = Stored (getD v 0 0) (pairAt v 1 2) (getD v 3 0)
 read (Given repeat v) = Repeated (getD v 0 0) (pairAt v 1 2) (getD v 3 0)
-read (Given access v) = Access (getD v 0 0) (getD v 1 0) (getD v 2 0) (keyAs (getD v 6 0) (getD v 7 0)) (pairAt v 3 4) (getD v 5 0)
+read (Given access v) = Access (getD v 0 0) (getD v 1 0) (getD v 2 0) (openerAs (getD v 6 0) (getD v 7 0) (getD v 8 0)) (pairAt v 3 4) (getD v 5 0)
 read (Given control v) = Control (getD v 0 0) (getD v 1 0) (getD v 2 0) (getD v 3 0) (pairAt v 4 5) (getD v 6 0)
 read (Given acknowledgement v) = Acknowledgement (getD v 0 0) (getD v 1 0) (effectOf (getD v 2 0))
 
@@ -84,6 +84,7 @@ back (Refused n) = ap Refused (refusal-back n)
 back (Stored src auth bits) = refl
 back (Repeated src auth bits) = refl
 back (Access src dst network (Application i) pair len) = refl
+back (Access src dst network (Labelled i j) pair len) = refl
 back (Access src dst network Device pair len) = refl
 back (Control src dst network opcode pair len) = refl
 back (Acknowledgement src bits Nothing) = refl

@@ -94,12 +94,12 @@ module _ (q : Receiver) (g : Good q) (h : Header) (c : Clear h) where
   ways msg =
       record {
         refuses = λ n trials l f. g;
-        access-whole = λ key trials len left. good-admitted q g h;
+        access-whole = λ opener trials len left. good-admitted q g h;
         control-whole = λ opcode. good-admitted q g h;
         acknowledges = λ obo seqZero bits. good-outgoing (admitted q h) (good-admitted q g h) _;
         repeats = λ auth bits. g;
         stores = good-stored;
-        access-gathered = λ seg slot before k key trials len left. good-upgraded (withSession q slot noSession) (good-freed q g slot) _;
+        access-gathered = λ seg slot before k opener trials len left. good-upgraded (withSession q slot noSession) (good-freed q g slot) _;
         control-gathered = λ seg slot before k. good-upgraded (withSession q slot noSession) (good-freed q g slot) _;
         frees = λ seg slot before k f trials. good-freed q g slot;
       }

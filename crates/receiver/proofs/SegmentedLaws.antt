@@ -14,9 +14,11 @@ use Rattle.common.specs.Lists.{onto}
 use Rattle.common.proofs.Parts.{take-own-length}
 use Rattle.network.specs.declared.header.Header.{Header}
 use Rattle.node.specs.declared.addresses.Node.{Node}
+use Rattle.node.specs.Addresses.{heldBy}
 use Rattle.transport.specs.declared.form.SegmentFields.{SegmentFields}
 use Rattle.transport.specs.declared.securing.Envelope.{Envelope}
-use Rattle.transport.specs.declared.securing.MessageKey.{MessageKey}
+use Rattle.transport.specs.declared.securing.Held.{Held}
+use Rattle.transport.specs.declared.securing.Opener.{Opener}
 use Rattle.transport.specs.declared.securing.Opened.{Opened}
 use Rattle.transport.specs.declared.securing.Opened.the-variants.{Message, NotOpened, ShortBuffer}
 use Rattle.transport.specs.declared.seq_auth.SeqAuth.{SeqAuth}
@@ -89,19 +91,19 @@ control-up r s msg n left e q eq =
 
 -- it is opened as it stands there
 pub message-opened :
-    (s : Session) (node : Node) (msg : List ℕ) (n : ℕ) → n ≡ length (messageOf s) → (e : Envelope) → e ≡ sessionEnvelope s
-    → (o : Opened) (left : List ℕ) → lent o left ≡ unsecuring (node .appkeys) (node .applications) (node .device) e (take n (s .bytes)) msg
-    → lent o left ≡ unsecuring (node .appkeys) (node .applications) (node .device) (sessionEnvelope s) (messageOf s) msg
-message-opened s node msg n en e ee o left eo = rw (← ee, ← message-part s n en) eo
+    (s : Session) (held : Held) (msg : List ℕ) (n : ℕ) → n ≡ length (messageOf s) → (e : Envelope) → e ≡ sessionEnvelope s
+    → (o : Opened) (left : List ℕ) → lent o left ≡ unsecuring held e (take n (s .bytes)) msg
+    → lent o left ≡ unsecuring held (sessionEnvelope s) (messageOf s) msg
+message-opened s held msg n en e ee o left eo = rw (← ee, ← message-part s n en) eo
 
 -- ---- 13, or handed up
 module _ (r : Receiver) (s : Session) (msg : List ℕ) (o : Opened) (left : List ℕ)
-    (e : lent o left ≡ unsecuring (r .node .appkeys) (r .node .applications) (r .node .device) (sessionEnvelope s) (messageOf s) msg) where
+    (e : lent o left ≡ unsecuring (heldBy (r .node)) (sessionEnvelope s) (messageOf s) msg) where
   pub up-message :
-      (key : MessageKey) (trials len : ℕ) → o ≡ Message key trials len → (q : Receiver) → q ≡ upgraded r s
-      → lent (record { answer = answer.Access (s .src) (s .terms .dst) (s .terms .key) key (s .auth) len; trials = trials; receiver = q }) left ≡ accessUp r s msg
+      (opener : Opener) (trials len : ℕ) → o ≡ Message opener trials len → (q : Receiver) → q ≡ upgraded r s
+      → lent (record { answer = answer.Access (s .src) (s .terms .dst) (s .terms .key) opener (s .auth) len; trials = trials; receiver = q }) left ≡ accessUp r s msg
   unfolding accessUp accessUpAs
-  up-message key trials len k q eq = rw (← e, k, eq)
+  up-message opener trials len k q eq = rw (← e, k, eq)
 
   pub up-not : (trials : ℕ) → o ≡ NotOpened trials → (t : Taken) → t ≡ refusedAt r refusal.NotOpened trials → lent t left ≡ accessUp r s msg
   unfolding accessUp accessUpAs

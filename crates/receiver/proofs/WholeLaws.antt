@@ -13,8 +13,10 @@ use Rattle.common.proofs.Parts.{part-of}
 use Rattle.network.specs.declared.header.Header.{Header}
 use Rattle.network.specs.Header.{transportOf}
 use Rattle.node.specs.declared.addresses.Node.{Node}
+use Rattle.node.specs.Addresses.{heldBy}
 use Rattle.transport.specs.declared.securing.Envelope.{Envelope}
-use Rattle.transport.specs.declared.securing.MessageKey.{MessageKey}
+use Rattle.transport.specs.declared.securing.Held.{Held}
+use Rattle.transport.specs.declared.securing.Opener.{Opener}
 use Rattle.transport.specs.declared.securing.Opened.{Opened}
 use Rattle.transport.specs.declared.securing.Opened.the-variants.{Message, NotOpened, ShortBuffer}
 use Rattle.transport.specs.Securing.{unsecuring}
@@ -76,7 +78,7 @@ module _ (r : Receiver) (h : Header) (a : Admission) (e : a ≡ admission (r .re
 
     pub access-admitted :
         a ≡ Admitted → (left : List ℕ)
-        → lent t left ≡ openedWhole r h (unsecuring (r .node .appkeys) (r .node .applications) (r .node .device) (wholeEnvelope h akf aid) (drop 1 (transportOf h)) msg)
+        → lent t left ≡ openedWhole r h (unsecuring (heldBy (r .node)) (wholeEnvelope h akf aid) (drop 1 (transportOf h)) msg)
         → lent t left ≡ wholeAccess r h akf aid msg
     unfolding wholeAccess
     access-admitted k left et = et ∙ unless-admitted _ _ e k
@@ -151,10 +153,10 @@ module _ (h : Header) (l : length (h .transport) ≡ 16) where
 -- they are opened as they stand there
 pub octets-opened :
     (h : Header) (node : Node) (akf : Bool) (aid : ℕ) (msg : List ℕ) (n : ℕ) → n ≡ 1 + length (drop 1 (transportOf h))
-    → (e : Envelope) → e ≡ wholeEnvelope h akf aid
-    → (o : Opened) (left : List ℕ) → lent o left ≡ unsecuring (node .appkeys) (node .applications) (node .device) e (take (n - 1) (drop 1 (h .transport))) msg
-    → lent o left ≡ unsecuring (node .appkeys) (node .applications) (node .device) (wholeEnvelope h akf aid) (drop 1 (transportOf h)) msg
-octets-opened h node akf aid msg n en e ee o left eo = rw (← ee, ← part-of 1 (h .len) n (h .transport) en) eo
+    → (e : Envelope) → e ≡ wholeEnvelope h akf aid → (held : Held) → held ≡ heldBy node
+    → (o : Opened) (left : List ℕ) → lent o left ≡ unsecuring held e (take (n - 1) (drop 1 (h .transport))) msg
+    → lent o left ≡ unsecuring (heldBy node) (wholeEnvelope h akf aid) (drop 1 (transportOf h)) msg
+octets-opened h node akf aid msg n en e ee held eh o left eo = rw (← eh, ← ee, ← part-of 1 (h .len) n (h .transport) en) eo
 
 pub control-up :
     (r : Receiver) (h : Header) (opcode : ℕ) (msg : List ℕ) (n : ℕ) (left : List ℕ)
@@ -168,10 +170,10 @@ control-up r h opcode msg n left e q eq =
 -- ---- 13, or handed up
 module _ (r : Receiver) (h : Header) {o : Opened} {left : List ℕ} {u : Lent Opened} (e : lent o left ≡ u) where
   pub opened-message :
-      (key : MessageKey) (trials len : ℕ) → o ≡ Message key trials len → (q : Receiver) → q ≡ admitted r h
-      → lent (record { answer = Access (h .src) (h .dst) (h .key) key (pairOf h) len; trials = trials; receiver = q }) left ≡ openedWhole r h u
+      (opener : Opener) (trials len : ℕ) → o ≡ Message opener trials len → (q : Receiver) → q ≡ admitted r h
+      → lent (record { answer = Access (h .src) (h .dst) (h .key) opener (pairOf h) len; trials = trials; receiver = q }) left ≡ openedWhole r h u
   unfolding openedWhole openedAs
-  opened-message key trials len k q eq = rw (← e, k, eq)
+  opened-message opener trials len k q eq = rw (← e, k, eq)
 
   pub opened-not : (trials : ℕ) → o ≡ NotOpened trials → (t : Taken) → t ≡ refusedAt r refusal.NotOpened trials → lent t left ≡ openedWhole r h u
   unfolding openedWhole openedAs

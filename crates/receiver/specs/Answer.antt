@@ -6,7 +6,7 @@ use Prim.Native.Nat.{ℕ}
 use Rattle.common.specs.Paper.{Paper, Refusal, Given, ToldApart}
 use Rattle.memory.specs.declared.outgoing.Effect.{Effect}
 use Rattle.memory.specs.declared.outgoing.Effect.the-variants.{Nothing, Marked, Completed, Cancelled}
-use Rattle.transport.specs.Securing.{keyValues}
+use Rattle.transport.specs.Securing.{openerValues}
 use Rattle.receiver.specs.declared.answer.Refusal as refusal
 use Rattle.receiver.specs.declared.answer.Refusal.the-variants.{ShortBuffer, WrongLength, NoCandidate, NotAuthentic, WrongAddress, OwnSource, Cached, NotForNode, WrongForm}
 use Rattle.receiver.specs.declared.answer.Refusal.the-variants.{NoSeqAuth, Replayed, Differs, NoEntryLeft, NoSlotLeft, NotOpened, OutsideRules, NoSeqLeft}
@@ -48,7 +48,7 @@ abbrev pub paper : Answer → Paper Word
 paper (Refused n) = Refusal (refusalNumber n) []
 paper (Stored src auth bits) = Given stored (src ∷ auth .iv ∷ auth .seq ∷ bits ∷ [])
 paper (Repeated src auth bits) = Given repeat (src ∷ auth .iv ∷ auth .seq ∷ bits ∷ [])
-paper (Access src dst network key pair len) = Given access (src ∷ dst ∷ network ∷ pair .iv ∷ pair .seq ∷ len ∷ keyValues key)
+paper (Access src dst network opener pair len) = Given access (src ∷ dst ∷ network ∷ pair .iv ∷ pair .seq ∷ len ∷ openerValues opener)
 paper (Control src dst network opcode pair len) = Given control (src ∷ dst ∷ network ∷ opcode ∷ pair .iv ∷ pair .seq ∷ len ∷ [])
 paper (Acknowledgement src bits effect) = Given acknowledgement (src ∷ bits ∷ effectNumber effect ∷ [])
 

@@ -26,6 +26,7 @@ use Rattle.memory.specs.declared.session.Session.{Session}
 use Rattle.memory.specs.Decision.{decision}
 use Rattle.memory.specs.Replay.{handedUp}
 use Rattle.memory.specs.Session.{sessionAt, noSession, begun, stored, complete, blockAck}
+use Rattle.node.specs.Addresses.{heldBy}
 use Rattle.receiver.specs.declared.answer.Answer.the-variants.{Stored, Repeated, Access, Control}
 use Rattle.receiver.specs.declared.answer.Refusal.the-variants as refusal
 use Rattle.receiver.specs.declared.answer.Taken.{Taken}
@@ -72,16 +73,16 @@ controlUp r s msg =
     (record { answer = Control (s .src) (s .terms .dst) (s .terms .key) (opcode (s .terms .first)) (s .auth) (length m); trials = 0; receiver = upgraded r s })
     (onto m msg)
 
--- access: opened; 13 where no fitting key does
+-- access: opened; 13 where no pair does
 unfoldable pub accessUpAs : Receiver → Session → Opened → Taken
-accessUpAs r s (Message key trials len) =
-    record { answer = Access (s .src) (s .terms .dst) (s .terms .key) key (s .auth) len; trials = trials; receiver = upgraded r s }
+accessUpAs r s (Message opener trials len) =
+    record { answer = Access (s .src) (s .terms .dst) (s .terms .key) opener (s .auth) len; trials = trials; receiver = upgraded r s }
 accessUpAs r s (NotOpened trials) = refusedAt r refusal.NotOpened trials
 accessUpAs r s ShortBuffer = refusedAt r refusal.ShortBuffer 0
 
 unfoldable pub accessUp : Receiver → Session → List ℕ → Lent Taken
 accessUp r s msg =
-    let o = unsecuring (r .node .appkeys) (r .node .applications) (r .node .device) (sessionEnvelope s) (messageOf s) msg in
+    let o = unsecuring (heldBy (r .node)) (sessionEnvelope s) (messageOf s) msg in
     lent (accessUpAs r s (o .answer)) (o .buffer)
 
 -- the last missing segment completes it, and the slot is freed, whatever becomes of the message; else it is stored

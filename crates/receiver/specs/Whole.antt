@@ -20,6 +20,7 @@ use Rattle.memory.specs.declared.pair.Pair.{Pair}
 use Rattle.memory.specs.declared.replay.Entry.{Entry}
 use Rattle.memory.specs.Replay.{lookUp, stale, hasRoom, accepted}
 use Rattle.memory.specs.Outgoing.{acknowledging}
+use Rattle.node.specs.Addresses.{heldBy}
 use Rattle.receiver.specs.declared.answer.Answer.the-variants.{Refused, Access, Control, Acknowledgement}
 use Rattle.receiver.specs.declared.answer.Refusal.{Refusal}
 use Rattle.receiver.specs.declared.answer.Refusal.the-variants as refusal
@@ -53,10 +54,10 @@ abbrev pub wholeEnvelope : Header → Bool → ℕ → Envelope
 wholeEnvelope h akf aid =
     record { network = h .key; akf = akf; aid = aid; szmic = false; iv = h .iv; seq = h .seq; src = h .src; dst = h .dst }
 
--- 13: no fitting key opens the message; else it is handed up
+-- 13: no pair opens the message; else it is handed up
 unfoldable pub openedAs : Receiver → Header → Opened → Taken
-openedAs r h (Message key trials len) =
-    record { answer = Access (h .src) (h .dst) (h .key) key (pairOf h) len; trials = trials; receiver = admitted r h }
+openedAs r h (Message opener trials len) =
+    record { answer = Access (h .src) (h .dst) (h .key) opener (pairOf h) len; trials = trials; receiver = admitted r h }
 openedAs r h (NotOpened trials) = refusedAt r refusal.NotOpened trials
 openedAs r h ShortBuffer = refusedAt r refusal.ShortBuffer 0
 
@@ -73,7 +74,7 @@ unless Admitted refuse t = t
 unfoldable pub wholeAccess : Receiver → Header → Bool → ℕ → List ℕ → Lent Taken
 wholeAccess r h akf aid msg =
     unless (admission (r .replay) h) (λ n. lent (refusedAt r n 0) msg)
-    (openedWhole r h (unsecuring (r .node .appkeys) (r .node .applications) (r .node .device) (wholeEnvelope h akf aid) (drop 1 (transportOf h)) msg))
+    (openedWhole r h (unsecuring (heldBy (r .node)) (wholeEnvelope h akf aid) (drop 1 (transportOf h)) msg))
 
 -- the parameters of a control message are handed up
 unfoldable pub wholeControlUp : Receiver → Header → ℕ → List ℕ → Lent Taken

@@ -2,7 +2,7 @@
 use super::state::Receiver;
 use memory::outgoing::Effect;
 use memory::pair::Pair;
-use transport::securing::MessageKey;
+use transport::securing::Opener;
 ghost use mathlib.Core.Path.{_≡_};
 ghost use Rattle.receiver.specs.Answer.{refusalNumber};
 
@@ -36,7 +36,7 @@ pub enum Refusal {
     NoEntryLeft,
     // 12: the segment would open a session and eight other sources hold all slots.
     NoSlotLeft,
-    // 13: no fitting key opens the message, or it is too short for payload and TransMIC.
+    // 13: no pair of a fitting key and label, or key alone, opens the message, or it is too short for payload and TransMIC.
     NotOpened,
     // 14: a request outside the rules.
     OutsideRules,
@@ -89,7 +89,7 @@ pub enum Answer {
         src: u16,
         dst: u16,
         network: usize,
-        key: MessageKey,
+        opener: Opener,
         pair: Pair,
         len: usize,
     },
@@ -110,7 +110,7 @@ pub enum Answer {
     },
 }
 
-// What became of a PDU behind the network layer, with the number of application keys tried.
+// What became of a PDU behind the network layer, with the number of pairs tried.
 pub struct Taken {
     pub answer: Answer,
     pub trials: usize,
@@ -119,7 +119,7 @@ pub struct Taken {
 
 pub struct Heard {
     pub answer: Answer,
-    // How many network keys and application keys were tried.
+    // How many network keys were tried, and pairs of an application key and a label, or of a key alone.
     pub network: usize,
     pub application: usize,
     // The octets of the forward buffer that were written: the PDU's length, or 0.

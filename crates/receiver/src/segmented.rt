@@ -13,6 +13,7 @@ use network::header::Header;
 use node::addresses::Node;
 use transport::form::SegmentFields;
 use transport::securing::Envelope;
+use transport::securing::Held;
 use transport::securing::Opened;
 use transport::seq_auth::SeqAuth;
 ghost use mathlib.Core.Path.{_≡_};
@@ -21,6 +22,7 @@ ghost use lib.ListN.{length};
 ghost use Rattle.common.specs.Lent.{lent};
 ghost use Rattle.common.specs.Lists.{onto};
 ghost use Rattle.transport.specs.Securing.{unsecuring};
+ghost use Rattle.node.specs.Addresses.{heldBy};
 ghost use Rattle.transport.specs.Segment.{messageOctets};
 ghost use Rattle.memory.specs.Session.{sessionSlots, sessionAt, stored};
 ghost use Rattle.receiver.specs.Segmented.{segmentOf, sessionEnvelope, messageOf, upgraded, controlUp, accessUp, gathered, placed, segmented};
@@ -120,25 +122,23 @@ fn envelope(s: Session) -> Envelope
     }
 }
 
-// Opens the message of a session into the message buffer.
-fn open(s: Session, node: Node, message: &mut [u8]) -> Opened
-    ensures { λ r. ⌜ lent r (now (message .exit)) ≡ unsecuring (node .appkeys) (node .applications) (node .device) (sessionEnvelope s) (messageOf s) (now (message .entry)) ⌝ }
+// Opens the message of a session into the message buffer, by what a node holds.
+fn open_by(s: Session, held: Held, message: &mut [u8]) -> Opened
+    ensures { λ r. ⌜ lent r (now (message .exit)) ≡ unsecuring held (sessionEnvelope s) (messageOf s) (now (message .entry)) ⌝ }
 {
     let bytes = s.bytes;
     let n = octets(s);
-    let appkeys = node.appkeys;
-    let device = node.device;
-    transport::securing::open(
-        appkeys,
-        node.applications,
-        device,
-        envelope(s),
-        &bytes[..n],
-        message,
-    )
+    transport::securing::open(held, envelope(s), &bytes[..n], message)
 }
 
-// An access message is opened by the keys that fit.
+// By what this node holds.
+fn open(s: Session, node: Node, message: &mut [u8]) -> Opened
+    ensures { λ r. ⌜ lent r (now (message .exit)) ≡ unsecuring (heldBy node) (sessionEnvelope s) (messageOf s) (now (message .entry)) ⌝ }
+{
+    open_by(s, node::addresses::held_by(node), message)
+}
+
+// An access message is opened by the keys and labels that fit.
 fn access_up(r: Receiver, s: Session, message: &mut [u8]) -> Taken
     ensures { λ t. ⌜ lent t (now (message .exit)) ≡ accessUp r s (now (message .entry)) ⌝ }
 {
@@ -146,12 +146,16 @@ fn access_up(r: Receiver, s: Session, message: &mut [u8]) -> Taken
     let auth = s.auth;
     let node = r.node;
     match open(s, node, message) {
-        Opened::Message { key, trials, len } => Taken {
+        Opened::Message {
+            opener,
+            trials,
+            len,
+        } => Taken {
             answer: Answer::Access {
                 src: s.src,
                 dst: terms.dst,
                 network: terms.key,
-                key,
+                opener,
                 pair: auth,
                 len,
             },

@@ -17,6 +17,7 @@ ghost use Rattle.common.specs.Lent.{lent};
 ghost use Rattle.common.specs.Lists.{onto};
 ghost use Rattle.network.specs.Header.{transportOf};
 ghost use Rattle.transport.specs.Securing.{unsecuring};
+ghost use Rattle.node.specs.Addresses.{heldBy};
 ghost use Rattle.transport.specs.Segment.{messageOctets};
 ghost use Rattle.receiver.specs.Whole.{refusedAt, admission, admitted, wholeEnvelope, openedWhole, wholeAccess, wholeControlUp, wholeControl, acted, wholeAcknowledgement};
 
@@ -98,28 +99,30 @@ fn envelope(h: Header, akf: bool, aid: u8) -> Envelope
 
 // Opens a whole access message into the message buffer.
 fn open(h: Header, node: Node, akf: bool, aid: u8, message: &mut [u8]) -> Opened
-    ensures { λ r. ⌜ lent r (now (message .exit)) ≡ unsecuring (node .appkeys) (node .applications) (node .device) (wholeEnvelope h akf aid) (drop 1 (transportOf h)) (now (message .entry)) ⌝ }
+    ensures { λ r. ⌜ lent r (now (message .exit)) ≡ unsecuring (heldBy node) (wholeEnvelope h akf aid) (drop 1 (transportOf h)) (now (message .entry)) ⌝ }
 {
     let t = h.transport;
     let n = octets_end(h);
-    let appkeys = node.appkeys;
-    let device = node.device;
     let e = envelope(h, akf, aid);
-    transport::securing::open(appkeys, node.applications, device, e, &t[1..n], message)
+    transport::securing::open(node::addresses::held_by(node), e, &t[1..n], message)
 }
 
 // An access message that may be accepted.
 fn open_access(r: Receiver, h: Header, akf: bool, aid: u8, message: &mut [u8]) -> Taken
-    ensures { λ t. ⌜ lent t (now (message .exit)) ≡ openedWhole r h (unsecuring (r .node .appkeys) (r .node .applications) (r .node .device) (wholeEnvelope h akf aid) (drop 1 (transportOf h)) (now (message .entry))) ⌝ }
+    ensures { λ t. ⌜ lent t (now (message .exit)) ≡ openedWhole r h (unsecuring (heldBy (r .node)) (wholeEnvelope h akf aid) (drop 1 (transportOf h)) (now (message .entry))) ⌝ }
 {
     let node = r.node;
     match open(h, node, akf, aid, message) {
-        Opened::Message { key, trials, len } => Taken {
+        Opened::Message {
+            opener,
+            trials,
+            len,
+        } => Taken {
             answer: Answer::Access {
                 src: h.src,
                 dst: h.dst,
                 network: h.key,
-                key,
+                opener,
                 pair: Pair {
                     iv: h.iv,
                     seq: h.seq,

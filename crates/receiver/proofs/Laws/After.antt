@@ -48,12 +48,12 @@ module _ (q : Receiver) (h : Header) (msg : List ℕ) (room : messageOctets ≤ 
   ways =
       record {
         refuses = λ n trials l f. (rw f refl, refl, l);
-        access-whole = λ key trials len left. tt {0};
+        access-whole = λ opener trials len left. tt {0};
         control-whole = λ opcode. tt {0};
         acknowledges = λ obo seqZero bits. tt {0};
         repeats = λ auth bits. tt {0};
         stores = λ seg slot before g e. tt {0};
-        access-gathered = λ seg slot before g key trials len left. tt {0};
+        access-gathered = λ seg slot before g opener trials len left. tt {0};
         control-gathered = λ seg slot before g. tt {0};
         frees = λ seg slot before g f trials. (rw f (ap (λ (i : ℕ). withSession q i noSession) (opens-slot (goes-opens g))), refl, refl);
       }

@@ -44,12 +44,12 @@ module _ (q : Receiver) (h : Header) (msg : List ℕ) where
   ways =
       record {
         refuses = λ n trials l f. written;
-        access-whole = λ key trials len left. written;
+        access-whole = λ opener trials len left. written;
         control-whole = λ opcode. written;
         acknowledges = λ obo seqZero bits. written;
         repeats = λ auth bits. written;
         stores = λ seg slot before g e. written;
-        access-gathered = λ seg slot before g key trials len left. written;
+        access-gathered = λ seg slot before g opener trials len left. written;
         control-gathered = λ seg slot before g. written;
         frees = λ seg slot before g f trials. written;
       }

@@ -11,13 +11,14 @@ use Rattle.network.specs.declared.header.Header.{Header}
 use Rattle.network.specs.Header.{transportOf}
 use Rattle.transport.specs.declared.form.Form.the-variants as form
 use Rattle.transport.specs.declared.form.SegmentFields.{SegmentFields}
-use Rattle.transport.specs.declared.securing.MessageKey.{MessageKey}
+use Rattle.transport.specs.declared.securing.Opener.{Opener}
 use Rattle.transport.specs.declared.securing.Opened.the-variants.{Message}
 use Rattle.transport.specs.Fields.{opcode}
 use Rattle.transport.specs.Form.{formOf}
 use Rattle.transport.specs.Securing.{unsecuring}
 use Rattle.memory.specs.Outgoing.{acknowledging}
 use Rattle.memory.specs.Replay.{accepted}
+use Rattle.node.specs.Addresses.{heldBy}
 use Rattle.receiver.specs.declared.answer.Answer.the-variants as answer
 use Rattle.receiver.specs.declared.state.Receiver.{Receiver}
 use Rattle.receiver.specs.declared.whole.Admission.the-variants as admission
@@ -39,13 +40,13 @@ module _ (r : Receiver) (h : Header) (msg : List ℕ) where
 
   -- a whole message that is admitted
   pub taken-access :
-      (akf : Bool) (aid trials len : ℕ) (key : MessageKey) (left : List ℕ) → formOf h ≡ form.Access akf aid → whole.admission (r .replay) h ≡ admission.Admitted
-      → unsecuring (r .node .appkeys) (r .node .applications) (r .node .device) (whole.wholeEnvelope h akf aid) (drop 1 (transportOf h)) msg
-      ≡ lent (Message key trials len) left
+      (akf : Bool) (aid trials len : ℕ) (opener : Opener) (left : List ℕ) → formOf h ≡ form.Access akf aid → whole.admission (r .replay) h ≡ admission.Admitted
+      → unsecuring (heldBy (r .node)) (whole.wholeEnvelope h akf aid) (drop 1 (transportOf h)) msg
+      ≡ lent (Message opener trials len) left
       → takenAs (formOf h) r h msg
-      ≡ lent (record { answer = answer.Access (h .src) (h .dst) (h .key) key (whole.pairOf h) len; trials = trials; receiver = whole.admitted r h }) left
+      ≡ lent (record { answer = answer.Access (h .src) (h .dst) (h .key) opener (whole.pairOf h) len; trials = trials; receiver = whole.admitted r h }) left
   unfolding takenAs whole.wholeAccess whole.unless whole.openedWhole whole.openedAs
-  taken-access akf aid trials len key left e a u = rw (e, a, u) refl
+  taken-access akf aid trials len opener left e a u = rw (e, a, u) refl
 
   pub taken-control :
       (opcode : ℕ) (parameters : List ℕ) → formOf h ≡ form.Control opcode → whole.admission (r .replay) h ≡ admission.Admitted → drop 1 (transportOf h) ≡ parameters

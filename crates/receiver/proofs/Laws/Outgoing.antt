@@ -22,12 +22,12 @@ module _ (P : Outgoing → Type 0) (r : Receiver) (none : P noOutgoing) (same : 
   ways h msg =
       record {
         refuses = λ n trials l f. same;
-        access-whole = λ key trials len left. same;
+        access-whole = λ opener trials len left. same;
         control-whole = λ opcode. same;
         acknowledges = λ obo seqZero bits. by-acknowledging P (r .out) h obo seqZero bits none same marked;
         repeats = λ auth bits. same;
         stores = λ seg slot before g e. same;
-        access-gathered = λ seg slot before g key trials len left. same;
+        access-gathered = λ seg slot before g opener trials len left. same;
         control-gathered = λ seg slot before g. same;
         frees = λ seg slot before g f trials. same;
       }

@@ -16,7 +16,7 @@ use Rattle.common.specs.Lent.{Lent, lent}
 use Rattle.common.specs.Lists.{onto}
 use Rattle.network.specs.declared.header.Header.{Header}
 use Rattle.transport.specs.declared.form.SegmentFields.{SegmentFields}
-use Rattle.transport.specs.declared.securing.MessageKey.{MessageKey}
+use Rattle.transport.specs.declared.securing.Opener.{Opener}
 use Rattle.transport.specs.declared.securing.Opened.the-variants.{Message}
 use Rattle.transport.specs.declared.seq_auth.SeqAuth.the-variants.{At}
 use Rattle.transport.specs.Fields.{opcode}
@@ -27,6 +27,7 @@ use Rattle.memory.specs.declared.session.Session.{Session}
 use Rattle.memory.specs.Replay.{lookUp, stale, hasRoom, isLast, handedUp}
 use Rattle.memory.specs.Session.{sessionSlots, noSession, sessionAt, segmentKey, sessionPlace, freePlace, begun, stored, complete}
 use Rattle.memory.proofs.Decided.{decide-last, decide-open, decide-repeat, decide-join}
+use Rattle.node.specs.Addresses.{heldBy}
 use Rattle.receiver.specs.declared.answer.Answer.the-variants as answer
 use Rattle.receiver.specs.declared.answer.Taken.{Taken}
 use Rattle.receiver.specs.declared.state.Receiver.{Receiver}
@@ -99,13 +100,13 @@ module _ (r : Receiver) (slot : ℕ) (s : Session) (msg : List ℕ) where
 
 module _ (r : Receiver) (s : Session) (msg : List ℕ) where
   pub access-up :
-      (key : MessageKey) (trials len : ℕ) (left : List ℕ)
-      → unsecuring (r .node .appkeys) (r .node .applications) (r .node .device) (sessionEnvelope s) (take (s .len) (s .bytes)) msg
-      ≡ lent (Message key trials len) left
+      (opener : Opener) (trials len : ℕ) (left : List ℕ)
+      → unsecuring (heldBy (r .node)) (sessionEnvelope s) (take (s .len) (s .bytes)) msg
+      ≡ lent (Message opener trials len) left
       → accessUp r s msg
-      ≡ lent (record { answer = answer.Access (s .src) (s .terms .dst) (s .terms .key) key (s .auth) len; trials = trials; receiver = upgraded r s }) left
+      ≡ lent (record { answer = answer.Access (s .src) (s .terms .dst) (s .terms .key) opener (s .auth) len; trials = trials; receiver = upgraded r s }) left
   unfolding accessUp accessUpAs messageOf
-  access-up key trials len left u = rw u refl
+  access-up opener trials len left u = rw u refl
 
   pub control-up :
       controlUp r s msg

@@ -82,12 +82,12 @@ module _ (P : ℕ → Type 0) (none : P 0) where
     ways msg =
         record {
           refuses = λ n trials late f. l;
-          access-whole = λ key trials len left. accepts;
+          access-whole = λ opener trials len left. accepts;
           control-whole = λ opcode. accepts;
           acknowledges = λ obo seqZero bits. accepts;
           repeats = λ auth bits. l;
           stores = λ seg slot before g e. lists-set q l slot _ (its-source seg slot before g);
-          access-gathered = λ seg slot before g key trials len left. hands-up seg slot before g;
+          access-gathered = λ seg slot before g opener trials len left. hands-up seg slot before g;
           control-gathered = hands-up;
           frees = λ seg slot before g f trials. lists-freed q l slot;
         }

@@ -26,7 +26,7 @@ use Rattle.transport.specs.declared.form.Form.{Form}
 use Rattle.transport.specs.declared.form.Form.the-variants as form
 use Rattle.transport.specs.declared.form.SegmentFields.{SegmentFields}
 use Rattle.transport.specs.declared.securing.Envelope.{Envelope}
-use Rattle.transport.specs.declared.securing.MessageKey.{MessageKey}
+use Rattle.transport.specs.declared.securing.Opener.{Opener}
 use Rattle.transport.specs.declared.securing.Opened.{Opened}
 use Rattle.transport.specs.declared.securing.Opened.the-variants.{Message, NotOpened, ShortBuffer}
 use Rattle.transport.specs.declared.seq_auth.SeqAuth.{SeqAuth}
@@ -48,7 +48,7 @@ use Rattle.memory.specs.Decision.{decision}
 use Rattle.memory.specs.Session.{sessionSlots, noSession, sessionAt, sessionKey, segmentKey, begun, stored, complete, blockAck}
 use Rattle.memory.proofs.SessionSlots.{session-key}
 use Rattle.memory.proofs.Within.{Joins, Opens, joins-opens, Within, decision-within}
-use Rattle.node.specs.Addresses.{forNode}
+use Rattle.node.specs.Addresses.{forNode, heldBy}
 use Rattle.receiver.specs.declared.answer.Answer.the-variants.{Stored, Repeated}
 use Rattle.receiver.specs.declared.answer.Refusal.{Refusal}
 use Rattle.receiver.specs.declared.answer.Refusal.the-variants as refusal
@@ -93,7 +93,7 @@ pub record Ways (q : Receiver) (h : Header) (msg : List ℕ) (P : Lent Taken →
   -- 6 to 13, and 13 of a whole message: nothing changed
   pub refuses : (n : Refusal) (trials : ℕ) → late n ≡ true → freesSlot h n ≡ false → P (lent (refusedAt q n trials) msg)
   -- a message in one PDU
-  pub access-whole : (key : MessageKey) (trials len : ℕ) (left : List ℕ) → P (lent (openedAs q h (Message key trials len)) left)
+  pub access-whole : (opener : Opener) (trials len : ℕ) (left : List ℕ) → P (lent (openedAs q h (Message opener trials len)) left)
   pub control-whole : (opcode : ℕ) → P (wholeControlUp q h opcode msg)
   pub acknowledges : (obo : Bool) (seqZero bits : ℕ) → P (lent (acted q h obo seqZero bits) msg)
   -- a segment that has come already, and one more
@@ -104,8 +104,8 @@ pub record Ways (q : Receiver) (h : Header) (msg : List ℕ) (P : Lent Taken →
       complete s ≡ false → P (lent (record { answer = Stored (s .src) (s .auth) (blockAck s); trials = 0; receiver = withSession q slot s }) msg))
   -- the session is complete, and its slot is freed
   pub access-gathered :
-      (seg : Segment) (slot : ℕ) (before : Session) → Goes q h seg slot before → (key : MessageKey) (trials len : ℕ) (left : List ℕ)
-      → P (lent (accessUpAs (withSession q slot noSession) (stored before h (seg .sego)) (Message key trials len)) left)
+      (seg : Segment) (slot : ℕ) (before : Session) → Goes q h seg slot before → (opener : Opener) (trials len : ℕ) (left : List ℕ)
+      → P (lent (accessUpAs (withSession q slot noSession) (stored before h (seg .sego)) (Message opener trials len)) left)
   pub control-gathered :
       (seg : Segment) (slot : ℕ) (before : Session) → Goes q h seg slot before
       → P (controlUp (withSession q slot noSession) (stored before h (seg .sego)) msg)
@@ -128,20 +128,20 @@ module _ (q : Receiver) (h : Header) (msg : List ℕ) (room : messageOctets ≤ 
   refused n = w .refuses n 0
 
   -- ---- a message is opened, or no key opens it
-  module _ (t : Opened → Taken) (opens : (key : MessageKey) (trials len : ℕ) (left : List ℕ) → P (lent (t (Message key trials len)) left))
+  module _ (t : Opened → Taken) (opens : (opener : Opener) (trials len : ℕ) (left : List ℕ) → P (lent (t (Message opener trials len)) left))
       (none : (trials : ℕ) → P (lent (t (NotOpened trials)) msg)) where
     by-opened : (o : Opened) (left : List ℕ) → (0 < numberOf (paper o) → left ≡ msg) → (o ≡ ShortBuffer → ⊥) → P (lent (t o) left)
-    by-opened (Message key trials len) left e n = opens key trials len left
+    by-opened (Message opener trials len) left e n = opens opener trials len left
     by-opened (NotOpened trials) left e n = subst (λ (b : List ℕ). P (lent (t (NotOpened trials)) b)) (sym (e (omega arith))) (none trials)
     by-opened ShortBuffer left e n = absurd (n refl)
 
     by-unsecuring :
         (e : Envelope) (c : List ℕ)
-        → (let u = unsecuring (q .node .appkeys) (q .node .applications) (q .node .device) e c msg in P (lent (t (u .answer)) (u .buffer)))
+        → (let u = unsecuring (heldBy (q .node)) e c msg in P (lent (t (u .answer)) (u .buffer)))
     by-unsecuring e c =
-        let u = unsecuring (q .node .appkeys) (q .node .applications) (q .node .device) e c msg in
-        by-opened (u .answer) (u .buffer) (unsecuring-refused-keeps (q .node .appkeys) (q .node .applications) (q .node .device) e c msg)
-        (λ s. omega (arith, unsecuring-short (q .node .appkeys) (q .node .applications) (q .node .device) e c msg s))
+        let u = unsecuring (heldBy (q .node)) e c msg in
+        by-opened (u .answer) (u .buffer) (unsecuring-refused-keeps (heldBy (q .node)) e c msg)
+        (λ s. omega (arith, unsecuring-short (heldBy (q .node)) e c msg s))
 
   -- ---- whole messages
   walk-access : (akf : Bool) (aid : ℕ) → isSegment (formOf h) ≡ false → P (wholeAccess q h akf aid msg)

@@ -8,5 +8,5 @@ use Rattle.receiver.proofs.whole.open.Tie as tie
 pub open-spec : {M : Type 1} → statement M
 open-spec =
     tie.close (tie.spec
-    (λ c κs. search needs) (λ c κs. search needs) (λ c. search needs) (λ c. search needs) (λ c. search (needs)) (λ c κs. search needs)
+    (λ c κs. search needs) (λ c κs. search needs) (λ c κs. search needs) (λ c. search needs) (λ c. search needs) (λ c. search needs) (λ c κs. search needs)
     (λ c. search needs) (λ c. search (octets-opened, needs)))
