@@ -2,25 +2,25 @@
 -- arrays that are filled. Assumes nothing.
 use mathlib.Core.Bool.{Bool, true, false, not}
 use mathlib.Core.List.{List, [], _∷_, _++_, append-nil}
-use mathlib.Core.Path.{_≡_, sym, ap, _∙_}
+use mathlib.Core.Path.{_≡_, sym, ap, _∙_, subst}
 use Prim.Native.Nat.{ℕ, suc, _+_, _-_, _*_, _/_, _≤_, _<_, min}
 use native.Mathlib.Nat.{add-div-right}
 use native.Mathlib.Omega.{arith}
 use borrow.Author.Tests.{not-true, not-false, lt-ltb, le-ltb, ltb-true, le-leb, lt-leb, leb-true}
 use lib.Dec.{eqb, leb, ltb}
-use lib.ListN.{length, replicate}
+use lib.ListN.{length, replicate, List·getD-eq-default}
 use Rattle.common.specs.Lent.{Lent, lent}
 use Rattle.common.specs.Lists.{padded, onto}
 use Rattle.common.proofs.Tests.{by-test, and-first, and-second}
-use Rattle.modes.specs.Ccm.{micOctets}
+use Rattle.modes.specs.Ccm.{micOctets, longestData}
 use Rattle.network.specs.declared.header.Header.{Header}
-use Rattle.network.specs.Address.{isUnicast}
 use Rattle.network.proofs.TrialLaws.{onto-zeros}
 use Rattle.network.specs.Pdu.{pduOctets}
 use Rattle.transport.specs.declared.securing.Envelope.{Envelope}
+use Rattle.transport.specs.declared.securing.LabelUuid.{LabelUuid}
 use Rattle.transport.specs.declared.securing.MessageKey.{MessageKey}
 use Rattle.transport.specs.declared.securing.MessageKey.the-variants.{Application, Device}
-use Rattle.transport.specs.Securing.{applicationKeyPlaces, transMic, applicationKeyAt, secured, securing}
+use Rattle.transport.specs.Securing.{applicationKeyPlaces, labelPlaces, transMic, applicationKeyAt, noLabel, labelAt, secured, securing}
 use Rattle.transport.specs.Segment.{messageOctets, fullOctets, accessOctet, lastSegment}
 use Rattle.transport.proofs.SecureOpen.{secured-length}
 use Rattle.memory.specs.declared.outgoing.Outgoing.{Outgoing}
@@ -30,11 +30,13 @@ use Rattle.receiver.specs.declared.answer.Refusal.the-variants as refusal
 use Rattle.receiver.specs.declared.state.Receiver.{Receiver}
 use Rattle.sending.specs.declared.access.KeyUsed.{KeyUsed}
 use Rattle.sending.specs.declared.answer.Spoken.{Spoken}
+use Rattle.sending.specs.declared.request.Destination.{Destination}
+use Rattle.sending.specs.declared.request.Destination.the-variants.{Address, Label}
 use Rattle.sending.specs.declared.request.Request.{Request}
 use Rattle.sending.specs.declared.transmission.Transmitted.{Transmitted}
 use Rattle.sending.specs.Answer.{refusedAt, spoken}
 use Rattle.sending.specs.Access.{keyed, keyAllowed, isWhole, sizeAllowed, accessAllowed, envelopeOf, wholePdu, wholeHeader, outgoingOf, sayingAccess, sendingAccess}
-use Rattle.sending.specs.Request.{ttlOf, requestAllowed}
+use Rattle.sending.specs.Request.{ttlOf, additionalFor, toUnicast, requestAllowed}
 use Rattle.sending.specs.Segment.{starting}
 use Rattle.sending.specs.Transmission.{transmitted}
 
@@ -63,7 +65,7 @@ module _ (node : Node) (key : MessageKey) where
         pub key-bound : i < node .applications → eqb (applicationKeyAt (node .appkeys) i .bound) (q .network) ≡ keyAllowed node q key
         key-bound n = rw (k, lt-ltb i (min (node .applications) applicationKeyPlaces) (omega arith))
 
-    pub key-device : key ≡ Device → (u : Bool) → u ≡ isUnicast (q .dst) → u ≡ keyAllowed node q key
+    pub key-device : key ≡ Device → (u : Bool) → u ≡ toUnicast (q .dst) → u ≡ keyAllowed node q key
     key-device k u e = rw (k, e)
 
 pub ruleset used-rules = (used-application, used-past, used-device)
@@ -183,14 +185,46 @@ module _ (ctl : Bool) (len : ℕ) where
 
 pub ruleset segments-rules = (segments-none, segments-eight, segments-twelve)
 
+-- there are no more labels than places
+label-past : (node : Node) (j : ℕ) → labelPlaces ≤ j → length (node .labels) ≡ labelPlaces → labelAt (node .labels) j ≡ noLabel
+label-past node j h l = List·getD-eq-default (node .labels) noLabel {n = j} (omega arith)
+
+-- what a payload is secured with besides: the octets of a label that has a place, else nothing
+module _ (node : Node) (d : Destination) (key : List ℕ) (e : Envelope) (payload buf : List ℕ) (ok : Bool) (left : List ℕ) where
+  abbrev Secures : List ℕ → Type 0
+  Secures additional = lent ok left ≡ securing key e additional payload buf
+
+  pub to-address : (a : ℕ) → d ≡ Address a → Secures [] → Secures (additionalFor node d)
+  to-address a k s = rw k s
+
+  module _ (j : ℕ) (k : d ≡ Label j) where
+    pub to-label : Secures (labelAt (node .labels) j .octets) → Secures (additionalFor node d)
+    to-label s = rw k s
+
+    pub to-none : labelPlaces ≤ j → length (node .labels) ≡ labelPlaces → Secures [] → Secures (additionalFor node d)
+    to-none h l s = rw k (subst (λ (x : LabelUuid). Secures (x .octets)) (sym (label-past node j h l)) s)
+
+-- and how long that is
+module _ (node : Node) (d : Destination) where
+  pub address-short : (a : ℕ) → d ≡ Address a → length (additionalFor node d) ≤ longestData
+  address-short a k = rw k (omega arith)
+
+  module _ (j : ℕ) (k : d ≡ Label j) where
+    pub label-short : length (labelAt (node .labels) j .octets) ≤ longestData → length (additionalFor node d) ≤ longestData
+    label-short h = rw k h
+
+    pub none-short : labelPlaces ≤ j → length (node .labels) ≡ labelPlaces → length (additionalFor node d) ≤ longestData
+    none-short h l = rw k (subst (λ (x : LabelUuid). length (x .octets) ≤ longestData) (sym (label-past node j h l)) (omega arith))
+
 -- what securing leaves where there is room
 secured-onto :
-    (key : List ℕ) (e : Envelope) (m buf : List ℕ) {ok : Bool} {left : List ℕ} → lent ok left ≡ securing key e m buf
-    → length m ≤ messageOctets → length m + micOctets (transMic (e .szmic)) ≤ length buf → left ≡ onto (secured key e m) buf
+    (key : List ℕ) (e : Envelope) (additional m buf : List ℕ) {ok : Bool} {left : List ℕ} → lent ok left ≡ securing key e additional m buf
+    → length additional ≤ longestData → length m ≤ messageOctets → length m + micOctets (transMic (e .szmic)) ≤ length buf
+    → left ≡ onto (secured key e additional m) buf
 unfolding securing
-secured-onto key e m buf q h g =
-    let done : securing key e m buf ≡ lent true (onto (secured key e m) buf) =
-    rw (le-ltb messageOctets (length m) h, le-ltb (length buf) (length m + micOctets (transMic (e .szmic))) g) in
+secured-onto key e additional m buf q d h g =
+    let done : securing key e additional m buf ≡ lent true (onto (secured key e additional m) buf) =
+    rw (le-ltb longestData (length additional) d, le-ltb messageOctets (length m) h, le-ltb (length buf) (length m + micOctets (transMic (e .szmic))) g) in
     ap (λ (u : Lent Bool). u .buffer) (q ∙ done)
 
 mic-least : (szmic : Bool) → 4 ≤ micOctets (transMic szmic)
@@ -209,42 +243,43 @@ secured-four szmic len t = rw t
 
 -- ---- the header of a whole message
 pub whole-header-is :
-    (e : Envelope) (q : Request) (k : KeyUsed) (payload : List ℕ) → e .szmic ≡ false → length payload ≤ 11
+    (e : Envelope) (q : Request) (k : KeyUsed) (additional payload : List ℕ) → e .szmic ≡ false → length payload ≤ 11
     → (first : ℕ) → first ≡ accessOctet false (k .akf) (k .aid)
-    → (ok : Bool) (left : List ℕ) → lent ok left ≡ securing (k .key) e payload (replicate 15 0) → (ttl : ℕ) → ttl ≡ ttlOf (q .ttl)
-    → record { key = q .network; iv = e .iv; ctl = false; ttl = ttl; seq = 0; src = 0; dst = q .dst; len = 5 + length payload; transport = first ∷ (left ++ []) }
-    ≡ wholeHeader e q k payload
+    → (ok : Bool) (left : List ℕ) → lent ok left ≡ securing (k .key) e additional payload (replicate 15 0) → length additional ≤ longestData
+    → (ttl : ℕ) → ttl ≡ ttlOf (q .ttl)
+    → record { key = q .network; iv = e .iv; ctl = false; ttl = ttl; seq = 0; src = 0; dst = e .dst; len = 5 + length payload; transport = first ∷ (left ++ []) }
+    ≡ wholeHeader e q k additional payload
 unfolding wholeHeader wholePdu
-whole-header-is e q k payload z h first ef ok left el ttl et =
+whole-header-is e q k additional payload z h first ef ok left el d ttl et =
     let m : length payload + micOctets (transMic (e .szmic)) ≡ length payload + 4 = rw z in
-    let s = secured (k .key) e payload in
-    let n : length s ≡ length payload + 4 = secured-length (k .key) e payload ∙ m in
-    let l = secured-onto (k .key) e payload (replicate 15 0) el (omega arith) (omega arith) in
+    let s = secured (k .key) e additional payload in
+    let n : length s ≡ length payload + 4 = secured-length (k .key) e additional payload ∙ m in
+    let l = secured-onto (k .key) e additional payload (replicate 15 0) el d (omega arith) (omega arith) in
     let t : left ++ [] ≡ padded 15 s = append-nil left ∙ l ∙ onto-zeros 15 s (omega arith) in
     let c : 5 + length payload ≡ suc (length s) = omega arith in
     rw (t, ef, et, c)
 
 -- ---- the message that is kept
 pub outgoing-is :
-    (e : Envelope) (q : Request) (k : KeyUsed) (payload : List ℕ) → length payload + micOctets (transMic (e .szmic)) ≤ messageOctets
-    → (ok : Bool) (left : List ℕ) → lent ok left ≡ securing (k .key) e payload (replicate messageOctets 0)
+    (e : Envelope) (q : Request) (k : KeyUsed) (additional payload : List ℕ) → length payload + micOctets (transMic (e .szmic)) ≤ messageOctets
+    → (ok : Bool) (left : List ℕ) → lent ok left ≡ securing (k .key) e additional payload (replicate messageOctets 0) → length additional ≤ longestData
     → (len : ℕ) → len ≡ length payload + micOctets (transMic (e .szmic)) → (first : ℕ) → first ≡ accessOctet true (k .akf) (k .aid)
     → (segN : ℕ) → segN ≡ lastSegment (fullOctets false) len → (ttl : ℕ) → ttl ≡ ttlOf (q .ttl)
     → record {
       src = e .src;
       auth = record { iv = e .iv; seq = e .seq };
-      terms = record { ctl = false; first = first; szmic = e .szmic; segn = segN; dst = q .dst; key = q .network };
+      terms = record { ctl = false; first = first; szmic = e .szmic; segn = segN; dst = e .dst; key = q .network };
       ttl = ttl;
       heard = 0;
       len = len;
       bytes = left;
     }
-    ≡ outgoingOf e q k payload
+    ≡ outgoingOf e q k additional payload
 unfolding outgoingOf
-outgoing-is e q k payload h ok left el len en first ef segN es ttl et =
-    let s = secured (k .key) e payload in
-    let n : length s ≡ len = secured-length (k .key) e payload ∙ sym en in
-    let l = secured-onto (k .key) e payload (replicate messageOctets 0) el (omega arith) h in
+outgoing-is e q k additional payload h ok left el d len en first ef segN es ttl et =
+    let s = secured (k .key) e additional payload in
+    let n : length s ≡ len = secured-length (k .key) e additional payload ∙ sym en in
+    let l = secured-onto (k .key) e additional payload (replicate messageOctets 0) el d (omega arith) h in
     let t : left ≡ padded messageOctets s = l ∙ onto-zeros messageOctets s (omega arith) in
     rw (t, ef, es, et, n)
 
@@ -269,13 +304,13 @@ pub ruleset send-rules = (send-short, send-outside, send-said)
 module _ (r : Receiver) (q : Request) (key : MessageKey) (szmic : Bool) (payload buf : List ℕ) (s : Spoken) (left : List ℕ)
     (k : KeyUsed) (ek : k ≡ keyed (r .node) key) (e : Envelope) (ee : e ≡ envelopeOf r q k szmic) (w : Bool) (ew : w ≡ isWhole szmic (length payload)) where
   pub say-whole :
-      w ≡ true → (d : Header) → d ≡ wholeHeader e q k payload → (t : Transmitted) → lent t left ≡ transmitted r (q .element) d buf → s ≡ spoken t
+      w ≡ true → (d : Header) → d ≡ wholeHeader e q k (additionalFor (r .node) (q .dst)) payload → (t : Transmitted) → lent t left ≡ transmitted r (q .element) d buf → s ≡ spoken t
       → lent s left ≡ sayingAccess r q key szmic payload buf
   unfolding sayingAccess
   say-whole tw d ed t et es = rw (← ew, tw, ← ek, ← ee, ← ed, ← et, es)
 
   pub say-begun :
-      w ≡ false → (o : Outgoing) → o ≡ outgoingOf e q k payload → lent s left ≡ starting r (q .element) o buf
+      w ≡ false → (o : Outgoing) → o ≡ outgoingOf e q k (additionalFor (r .node) (q .dst)) payload → lent s left ≡ starting r (q .element) o buf
       → lent s left ≡ sayingAccess r q key szmic payload buf
   unfolding sayingAccess
   say-begun tw o eo es = rw (← ew, tw, ← ek, ← ee, ← eo) es

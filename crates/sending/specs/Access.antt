@@ -1,7 +1,7 @@
--- Sending an access message (document 01, "Sending").
---   accessAllowed r q key szmic len        not 14
---   wholeHeader e q k payload              the header of one that goes in one PDU
---   outgoingOf e q k payload               the message that is kept of one that goes in segments
+-- Sending an access message (document 01, "Sending"; document 02, W8). To a label it is secured with the label's octets as additional data.
+--   accessAllowed r q key szmic len           not 14
+--   wholeHeader e q k additional payload      the header of one that goes in one PDU
+--   outgoingOf e q k additional payload       the message that is kept of one that goes in segments
 --   sendingAccess r q key szmic payload buf   what a call leaves
 use mathlib.Core.Bool.{Bool, true, false, _&&_, _||_, not}
 use mathlib.Core.List.{List, _∷_}
@@ -12,7 +12,6 @@ use Rattle.common.specs.Choice.{if_then_else_}
 use Rattle.common.specs.Lent.{Lent, lent}
 use Rattle.common.specs.Lists.{padded}
 use Rattle.network.specs.declared.header.Header.{Header}
-use Rattle.network.specs.Address.{isUnicast}
 use Rattle.network.specs.Pdu.{pduOctets}
 use Rattle.transport.specs.declared.securing.Envelope.{Envelope}
 use Rattle.transport.specs.declared.securing.MessageKey.{MessageKey}
@@ -27,7 +26,7 @@ use Rattle.sending.specs.declared.access.KeyUsed.{KeyUsed}
 use Rattle.sending.specs.declared.answer.Spoken.{Spoken}
 use Rattle.sending.specs.declared.request.Request.{Request}
 use Rattle.sending.specs.Answer.{refusedAt, spoken}
-use Rattle.sending.specs.Request.{ttlOf, requestAllowed}
+use Rattle.sending.specs.Request.{ttlOf, dstOf, additionalFor, toUnicast, requestAllowed}
 use Rattle.sending.specs.Segment.{starting}
 use Rattle.sending.specs.Transmission.{sendingIv, addressOf, nextSeq, transmitted}
 
@@ -38,10 +37,10 @@ keyed node (Application i) =
     record { akf = true; aid = 0; key = replicate 16 0 }
 keyed node Device = record { akf = false; aid = 0; key = node .device }
 
--- an application key that is there, bound to the network key named; the device key needs a unicast DST
+-- an application key that is there, bound to the network key named; the device key needs a unicast address
 abbrev pub keyAllowed : Node → Request → MessageKey → Bool
 keyAllowed node q (Application i) = ltb i (min (node .applications) applicationKeyPlaces) && eqb (applicationKeyAt (node .appkeys) i .bound) (q .network)
-keyAllowed node q Device = isUnicast (q .dst)
+keyAllowed node q Device = toUnicast (q .dst)
 
 -- 1 to 11 octets with the 4-octet TransMIC go unsegmented
 unfoldable pub isWhole : Bool → ℕ → Bool
@@ -67,16 +66,16 @@ envelopeOf r q k szmic =
       iv = sendingIv (r .node);
       seq = nextSeq r (q .element);
       src = addressOf (r .node) (q .element);
-      dst = q .dst;
+      dst = dstOf (r .node) (q .dst);
     }
 
 -- SEG 0, AKF, AID; then the secured message
-unfoldable pub wholePdu : Envelope → KeyUsed → List ℕ → List ℕ
-wholePdu e k payload = accessOctet false (k .akf) (k .aid) ∷ secured (k .key) e payload
+unfoldable pub wholePdu : Envelope → KeyUsed → List ℕ → List ℕ → List ℕ
+wholePdu e k additional payload = accessOctet false (k .akf) (k .aid) ∷ secured (k .key) e additional payload
 
 -- SEQ and SRC are stamped on when it is sent
-unfoldable pub wholeHeader : Envelope → Request → KeyUsed → List ℕ → Header
-wholeHeader e q k payload =
+unfoldable pub wholeHeader : Envelope → Request → KeyUsed → List ℕ → List ℕ → Header
+wholeHeader e q k additional payload =
     record {
       key = q .network;
       iv = e .iv;
@@ -84,20 +83,20 @@ wholeHeader e q k payload =
       ttl = ttlOf (q .ttl);
       seq = 0;
       src = 0;
-      dst = q .dst;
-      len = length (wholePdu e k payload);
-      transport = padded 16 (wholePdu e k payload);
+      dst = e .dst;
+      len = length (wholePdu e k additional payload);
+      transport = padded 16 (wholePdu e k additional payload);
     }
 
 -- the secured message, as it is kept: its SeqAuth is the SEQ of segment 0
-unfoldable pub outgoingOf : Envelope → Request → KeyUsed → List ℕ → Outgoing
-outgoingOf e q k payload =
-    let m = secured (k .key) e payload in
+unfoldable pub outgoingOf : Envelope → Request → KeyUsed → List ℕ → List ℕ → Outgoing
+outgoingOf e q k additional payload =
+    let m = secured (k .key) e additional payload in
     record {
       src = e .src;
       auth = record { iv = e .iv; seq = e .seq };
       terms =
-          record { ctl = false; first = accessOctet true (k .akf) (k .aid); szmic = e .szmic; segn = lastSegment 12 (length m); dst = q .dst; key = q .network };
+          record { ctl = false; first = accessOctet true (k .akf) (k .aid); szmic = e .szmic; segn = lastSegment 12 (length m); dst = e .dst; key = q .network };
       ttl = ttlOf (q .ttl);
       heard = 0;
       len = length m;
@@ -109,9 +108,10 @@ unfoldable pub sayingAccess : Receiver → Request → MessageKey → Bool → L
 sayingAccess r q key szmic payload buf =
     let k = keyed (r .node) key in
     let e = envelopeOf r q k szmic in
-    let t = transmitted r (q .element) (wholeHeader e q k payload) buf in
+    let additional = additionalFor (r .node) (q .dst) in
+    let t = transmitted r (q .element) (wholeHeader e q k additional payload) buf in
     if isWhole szmic (length payload) then lent (spoken (t .answer)) (t .buffer) else
-    starting r (q .element) (outgoingOf e q k payload) buf
+    starting r (q .element) (outgoingOf e q k additional payload) buf
 
 -- 16; 14; then it is said
 unfoldable pub sendingAccess : Receiver → Request → MessageKey → Bool → List ℕ → List ℕ → Lent Spoken

@@ -1,5 +1,6 @@
 // An access message is secured and sent, whole or in segments.
 use super::answer::Spoken;
+use super::request::Destination;
 use super::request::Request;
 use memory::outgoing::Outgoing;
 use memory::pair::Pair;
@@ -15,10 +16,11 @@ ghost use mathlib.Core.Path.{_≡_};
 ghost use Prim.Native.Nat.{_+_, _*_, _<_, _≤_};
 ghost use lib.ListN.{length};
 ghost use Rattle.common.specs.Lent.{lent};
-ghost use Rattle.modes.specs.Ccm.{micOctets};
-ghost use Rattle.transport.specs.Securing.{transMic};
+ghost use Rattle.modes.specs.Ccm.{micOctets, longestData};
+ghost use Rattle.transport.specs.Securing.{transMic, securing};
 ghost use Rattle.transport.specs.Segment.{messageOctets, fullOctets, lastSegment};
 ghost use Rattle.node.specs.Addresses.{elementPlaces};
+ghost use Rattle.sending.specs.Request.{additionalFor};
 ghost use Rattle.sending.specs.Access.{keyed, keyAllowed, isWhole, sizeAllowed, accessAllowed, envelopeOf, wholeHeader, outgoingOf, sayingAccess, sendingAccess};
 
 // The key that secures a message, and what octet 0 and the nonce say of it.
@@ -59,11 +61,12 @@ fn key_used(node: Node, key: MessageKey) -> KeyUsed
     }
 }
 
-// An application key must be bound to the network key; the device key needs a unicast DST.
+// An application key must be bound to the network key; the device key needs a unicast address.
 fn key_allowed(node: Node, q: Request, key: MessageKey) -> bool
     ensures { λ b. ⌜ b ≡ keyAllowed node q key ⌝ }
 {
     let appkeys = node.appkeys;
+    let d = q.dst;
     match key {
         MessageKey::Application(i) => {
             if transport::securing::KEYS <= i {
@@ -75,7 +78,7 @@ fn key_allowed(node: Node, q: Request, key: MessageKey) -> bool
             let s = appkeys[i];
             s.bound == q.network
         }
-        MessageKey::Device => network::address::is_unicast(q.dst),
+        MessageKey::Device => super::request::to_unicast(d),
     }
 }
 
@@ -127,6 +130,7 @@ fn envelope(r: Receiver, q: Request, k: KeyUsed, szmic: bool) -> Envelope
     let node = r.node;
     let next = r.next;
     let element = q.element;
+    let d = q.dst;
     Envelope {
         network: q.network,
         akf: k.akf,
@@ -135,19 +139,59 @@ fn envelope(r: Receiver, q: Request, k: KeyUsed, szmic: bool) -> Envelope
         iv: super::transmission::iv_of(node),
         seq: next[element],
         src: super::transmission::address_of(node, element),
-        dst: q.dst,
+        dst: super::request::dst_of(node, d),
+    }
+}
+
+// Secures a payload with a label's sixteen octets as additional data.
+fn secure_to_label(
+    key: [u8; 16],
+    e: Envelope,
+    label: [u8; 16],
+    payload: &[u8],
+    out: &mut [u8],
+) -> bool
+    ensures { λ r. ⌜ (lent r (now (out .exit)) ≡ securing key e label (now (payload .entry)) (now (out .entry))) × (length label ≤ longestData) ⌝ }
+{
+    transport::securing::secure(key, e, &label, payload, out)
+}
+
+// Secures a payload to a destination: to a label with its octets as additional data, to an address with none.
+fn secure_to(
+    node: Node,
+    d: Destination,
+    key: [u8; 16],
+    e: Envelope,
+    payload: &[u8],
+    out: &mut [u8],
+) -> bool
+    ensures { λ r. ⌜ (lent r (now (out .exit)) ≡ securing key e (additionalFor node d) (now (payload .entry)) (now (out .entry))) × (length (additionalFor node d) ≤ longestData) ⌝ }
+{
+    let labels = node.labels;
+    let none = [0u8; 0];
+    match d {
+        Destination::Address(_) => transport::securing::secure(key, e, &none, payload, out),
+        Destination::Label(j) => {
+            if j < transport::securing::LABELS {
+                let l = labels[j];
+                let octets = l.octets;
+                return secure_to_label(key, e, octets, payload, out);
+            }
+            transport::securing::secure(key, e, &none, payload, out)
+        }
     }
 }
 
 // The header of a whole access message; its SEQ and SRC are stamped on when it is sent.
-fn whole_header(e: Envelope, q: Request, k: KeyUsed, payload: &[u8]) -> Header
+fn whole_header(node: Node, e: Envelope, q: Request, k: KeyUsed, payload: &[u8]) -> Header
     requires { ⌜ (e .szmic ≡ false) × (length (now payload) ≤ 11) ⌝ }
-    ensures { λ h. ⌜ h ≡ wholeHeader e q k (now (payload .entry)) ⌝ }
+    ensures { λ h. ⌜ h ≡ wholeHeader e q k (additionalFor node (q .dst)) (now (payload .entry)) ⌝ }
 {
     let key = k.key;
+    let d = q.dst;
     let mut t = [0u8; 16];
     t[0] = transport::segment::access_octet(false, k.akf, k.aid);
-    transport::securing::secure(key, e, payload, &mut t[1..]);
+    secure_to(node, d, key, e, payload, &mut t[1..]);
     let ttl = q.ttl;
     Header {
         key: q.network,
@@ -156,7 +200,7 @@ fn whole_header(e: Envelope, q: Request, k: KeyUsed, payload: &[u8]) -> Header
         ttl: super::request::ttl_of(ttl),
         seq: 0,
         src: 0,
-        dst: q.dst,
+        dst: e.dst,
         len: 5 + payload.len(),
         transport: t,
     }
@@ -185,13 +229,14 @@ fn secured_len(szmic: bool, len: usize) -> usize
 }
 
 // The segmented message that is kept.
-fn outgoing(e: Envelope, q: Request, k: KeyUsed, payload: &[u8]) -> Outgoing
+fn outgoing(node: Node, e: Envelope, q: Request, k: KeyUsed, payload: &[u8]) -> Outgoing
     requires { ⌜ length (now payload) + micOctets (transMic (e .szmic)) ≤ messageOctets ⌝ }
-    ensures { λ o. ⌜ o ≡ outgoingOf e q k (now (payload .entry)) ⌝ }
+    ensures { λ o. ⌜ o ≡ outgoingOf e q k (additionalFor node (q .dst)) (now (payload .entry)) ⌝ }
 {
     let key = k.key;
+    let d = q.dst;
     let mut bytes = [0u8; transport::securing::MESSAGE];
-    transport::securing::secure(key, e, payload, &mut bytes);
+    secure_to(node, d, key, e, payload, &mut bytes);
     let len = secured_len(e.szmic, payload.len());
     let ttl = q.ttl;
     Outgoing {
@@ -205,7 +250,7 @@ fn outgoing(e: Envelope, q: Request, k: KeyUsed, payload: &[u8]) -> Outgoing
             first: transport::segment::access_octet(true, k.akf, k.aid),
             szmic: e.szmic,
             segn: last_segment(false, len),
-            dst: q.dst,
+            dst: e.dst,
             key: q.network,
         },
         ttl: super::request::ttl_of(ttl),
@@ -232,10 +277,10 @@ fn say(
     let e = envelope(r, q, k, szmic);
     let element = q.element;
     if is_whole(szmic, payload.len()) {
-        let h = whole_header(e, q, k, payload);
+        let h = whole_header(node, e, q, k, payload);
         return super::answer::speak(super::transmission::transmit(r, element, h, out));
     }
-    super::segment::start(r, element, outgoing(e, q, k, payload), out)
+    super::segment::start(r, element, outgoing(node, e, q, k, payload), out)
 }
 
 // Sends an access message; one that goes in segments is kept, and its segment 0 is sent.

@@ -22,6 +22,10 @@ fn is_allowed(r: Receiver, q: Request, opcode: u8, len: usize) -> bool
     if !super::request::is_allowed(node, q) {
         return false;
     }
+    let d = q.dst;
+    if !super::request::to_address(d) {
+        return false;
+    }
     if opcode < 1 {
         return false;
     }
@@ -38,9 +42,9 @@ fn is_allowed(r: Receiver, q: Request, opcode: u8, len: usize) -> bool
 }
 
 // The header of a whole control message; its SEQ and SRC are stamped on when it is sent.
-fn whole_header(iv: u32, q: Request, opcode: u8, parameters: &[u8]) -> Header
+fn whole_header(iv: u32, q: Request, dst: u16, opcode: u8, parameters: &[u8]) -> Header
     requires { ⌜ length (now parameters) ≤ 11 ⌝ }
-    ensures { λ h. ⌜ h ≡ wholeHeader iv q opcode (now (parameters .entry)) ⌝ }
+    ensures { λ h. ⌜ h ≡ wholeHeader iv q dst opcode (now (parameters .entry)) ⌝ }
 {
     let mut t = [0u8; 16];
     t[0] = transport::segment::control_octet(false, opcode);
@@ -53,7 +57,7 @@ fn whole_header(iv: u32, q: Request, opcode: u8, parameters: &[u8]) -> Header
         ttl: super::request::ttl_of(ttl),
         seq: 0,
         src: 0,
-        dst: q.dst,
+        dst,
         len: 1 + parameters.len(),
         transport: t,
     }
@@ -70,6 +74,7 @@ fn outgoing(r: Receiver, q: Request, opcode: u8, parameters: &[u8]) -> Outgoing
     let mut bytes = [0u8; transport::securing::MESSAGE];
     common::copy(parameters, &mut bytes);
     let ttl = q.ttl;
+    let d = q.dst;
     Outgoing {
         src: super::transmission::address_of(node, element),
         auth: Pair {
@@ -81,7 +86,7 @@ fn outgoing(r: Receiver, q: Request, opcode: u8, parameters: &[u8]) -> Outgoing
             first: transport::segment::control_octet(true, opcode),
             szmic: false,
             segn: super::access::last_segment(true, parameters.len()),
-            dst: q.dst,
+            dst: super::request::dst_of(node, d),
             key: q.network,
         },
         ttl: super::request::ttl_of(ttl),
@@ -99,7 +104,9 @@ fn say(r: Receiver, q: Request, opcode: u8, parameters: &[u8], out: &mut [u8]) -
     let node = r.node;
     let element = q.element;
     if parameters.len() <= 11 {
-        let h = whole_header(super::transmission::iv_of(node), q, opcode, parameters);
+        let d = q.dst;
+        let dst = super::request::dst_of(node, d);
+        let h = whole_header(super::transmission::iv_of(node), q, dst, opcode, parameters);
         return super::answer::speak(super::transmission::transmit(r, element, h, out));
     }
     super::segment::start(r, element, outgoing(r, q, opcode, parameters), out)

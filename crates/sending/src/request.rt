@@ -2,7 +2,7 @@
 use network::address::AddressKind;
 use node::addresses::Node;
 ghost use mathlib.Core.Path.{_≡_};
-ghost use Rattle.sending.specs.Request.{ttlOf, ttlAllowed, sendableKind, requestAllowed};
+ghost use Rattle.sending.specs.Request.{ttlOf, ttlAllowed, sendableKind, dstOf, destinationAllowed, toUnicast, toAddress, requestAllowed};
 
 // A TTL, or none named.
 pub enum Ttl {
@@ -10,10 +10,18 @@ pub enum Ttl {
     Named(u8),
 }
 
+// Where a message goes.
+pub enum Destination {
+    // To a unicast address or a group.
+    Address(u16),
+    // To the label at this place, from 0: the DST is its address.
+    Label(usize),
+}
+
 pub struct Request {
     // The element's number, from 0.
     pub element: usize,
-    pub dst: u16,
+    pub dst: Destination,
     pub ttl: Ttl,
     // The network key's number, from 0.
     pub network: usize,
@@ -52,6 +60,58 @@ fn sendable(kind: AddressKind) -> bool
     }
 }
 
+// The DST that a PDU goes out with; past the places of labels there is none.
+pub(crate) fn dst_of(node: Node, d: Destination) -> u16
+    ensures { λ r. ⌜ r ≡ dstOf node d ⌝ }
+{
+    let labels = node.labels;
+    match d {
+        Destination::Address(a) => a,
+        Destination::Label(j) => {
+            if j < transport::securing::LABELS {
+                let l = labels[j];
+                return l.address;
+            }
+            0
+        }
+    }
+}
+
+// An address must be of a kind that may be sent to; a label must be held.
+fn destination_allowed(node: Node, d: Destination) -> bool
+    ensures { λ r. ⌜ r ≡ destinationAllowed node d ⌝ }
+{
+    match d {
+        Destination::Address(a) => sendable(network::address::kind(a)),
+        Destination::Label(j) => {
+            if transport::securing::LABELS <= j {
+                return false;
+            }
+            j < node.labelled
+        }
+    }
+}
+
+// Whether a destination is a unicast address.
+pub(crate) fn to_unicast(d: Destination) -> bool
+    ensures { λ r. ⌜ r ≡ toUnicast d ⌝ }
+{
+    match d {
+        Destination::Address(a) => network::address::is_unicast(a),
+        Destination::Label(_) => false,
+    }
+}
+
+// Whether a destination is an address, and no label.
+pub(crate) fn to_address(d: Destination) -> bool
+    ensures { λ r. ⌜ r ≡ toAddress d ⌝ }
+{
+    match d {
+        Destination::Address(_) => true,
+        Destination::Label(_) => false,
+    }
+}
+
 // Whether a request is within the rules that all of them share.
 pub fn is_allowed(node: Node, q: Request) -> bool
     ensures { λ r. ⌜ r ≡ requestAllowed node q ⌝ }
@@ -68,7 +128,8 @@ pub fn is_allowed(node: Node, q: Request) -> bool
     if node.networks <= q.network {
         return false;
     }
-    if !sendable(network::address::kind(q.dst)) {
+    let d = q.dst;
+    if !destination_allowed(node, d) {
         return false;
     }
     let ttl = q.ttl;

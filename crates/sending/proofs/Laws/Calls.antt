@@ -20,6 +20,7 @@ use Rattle.network.specs.Address.{isUnicast}
 use Rattle.network.specs.Pdu.{pduOctets}
 use Rattle.network.specs.Candidates.{networkKeyPlaces}
 use Rattle.transport.specs.declared.securing.MessageKey.{MessageKey}
+use Rattle.memory.specs.declared.outgoing.Outgoing.{Outgoing}
 use Rattle.memory.specs.declared.replay.Entry.{Entry}
 use Rattle.memory.specs.declared.session.Session.{Session}
 use Rattle.memory.specs.Replay.{lookUp}
@@ -35,13 +36,20 @@ use Rattle.sending.specs.Access.{keyed, isWhole, accessAllowed, envelope
 use Rattle.sending.specs.Acknowledge.{noChoice, chosen, acknowledgementHeader, sayingAcknowledgement, acknowledging}
 use Rattle.sending.specs.Answer.{refusedAt}
 use Rattle.sending.specs.Control as control
+use Rattle.sending.specs.Request.{dstOf, additionalFor}
 use Rattle.sending.specs.Segment.{segmentHeader, starting, elementOf, segmentAllowed, sendingSegment}
 use Rattle.sending.specs.Transmission.{sendingIv}
 use Rattle.sending.proofs.Laws.Transmitted.{checked, saying}
 
--- what an access message is sent as: whole, or begun
+-- what a message is sent as: an access message whole, or begun; a control message whole
 abbrev pub accessHeader : Receiver → Request → MessageKey → Bool → List ℕ → Header
-accessHeader r q key szmic payload = let k = keyed (r .node) key in wholeHeader (envelopeOf r q k szmic) q k payload
+accessHeader r q key szmic payload = let k = keyed (r .node) key in wholeHeader (envelopeOf r q k szmic) q k (additionalFor (r .node) (q .dst)) payload
+
+abbrev pub accessOutgoing : Receiver → Request → MessageKey → Bool → List ℕ → Outgoing
+accessOutgoing r q key szmic payload = let k = keyed (r .node) key in outgoingOf (envelopeOf r q k szmic) q k (additionalFor (r .node) (q .dst)) payload
+
+abbrev pub controlHeader : Receiver → Request → ℕ → List ℕ → Header
+controlHeader r q opcode parameters = control.wholeHeader (sendingIv (r .node)) q (dstOf (r .node) (q .dst)) opcode parameters
 
 module _ (r : Receiver) (buf : List ℕ) (P : Lent Spoken → Type 0) (refused : (n : Refusal) → checked n ≡ true → P (lent (refusedAt r n) buf)) where
   abbrev short : Lent Spoken
@@ -59,16 +67,14 @@ module _ (r : Receiver) (buf : List ℕ) (P : Lent Spoken → Type 0) (refused :
 
     pub walk-access :
         (allowed ≡ true → whole ≡ true → P (saying r (q .element) (accessHeader r q key szmic payload) buf))
-        → (allowed ≡ true → whole ≡ false
-        → (let k = keyed (r .node) key in P (starting r (q .element) (outgoingOf (envelopeOf r q k szmic) q k payload) buf)))
+        → (allowed ≡ true → whole ≡ false → P (starting r (q .element) (accessOutgoing r q key szmic payload) buf))
         → P (sendingAccess r q key szmic payload buf)
     unfolding sendingAccess sayingAccess
     walk-access said started =
-        let k = keyed (r .node) key in
         by-choice P (ltb (length buf) pduOctets) {x = short} {y = if allowed then sayingAccess r q key szmic payload buf else outside} (λ _. refused refusal.ShortBuffer refl)
         (λ _. by-choice P allowed {x = sayingAccess r q key szmic payload buf} {y = outside}
         (λ a. by-choice P whole {x = saying r (q .element) (accessHeader r q key szmic payload) buf}
-        {y = starting r (q .element) (outgoingOf (envelopeOf r q k szmic) q k payload) buf} (said a) (started a))
+        {y = starting r (q .element) (accessOutgoing r q key szmic payload) buf} (said a) (started a))
         (λ _. refused refusal.OutsideRules refl))
 
   module _ (q : Request) (opcode : ℕ) (parameters : List ℕ) where
@@ -76,12 +82,12 @@ module _ (r : Receiver) (buf : List ℕ) (P : Lent Spoken → Type 0) (refused :
     fine = control.controlAllowed r q opcode (length parameters)
 
     pub walk-control :
-        (fine ≡ true → leb (length parameters) 11 ≡ true → P (saying r (q .element) (control.wholeHeader (sendingIv (r .node)) q opcode parameters) buf))
+        (fine ≡ true → leb (length parameters) 11 ≡ true → P (saying r (q .element) (controlHeader r q opcode parameters) buf))
         → (fine ≡ true → leb (length parameters) 11 ≡ false → P (starting r (q .element) (control.outgoingOf r q opcode parameters) buf))
         → P (control.sendingControl r q opcode parameters buf)
     unfolding control.sendingControl control.sayingControl
     walk-control said started =
-        let h = control.wholeHeader (sendingIv (r .node)) q opcode parameters in
+        let h = controlHeader r q opcode parameters in
         by-choice P (ltb (length buf) pduOctets) {x = short} {y = if fine then control.sayingControl r q opcode parameters buf else outside} (λ _. refused refusal.ShortBuffer refl)
         (λ _. by-choice P fine {x = control.sayingControl r q opcode parameters buf} {y = outside}
         (λ a. by-choice P (leb (length parameters) 11) {x = saying r (q .element) h buf} {y = starting r (q .element) (control.outgoingOf r q opcode parameters) buf}
@@ -130,14 +136,14 @@ module _ (r : Receiver) (buf : List ℕ) (wide : pduOctets ≤ length buf) where
 
     pub access-begun :
         isWhole szmic (length payload) ≡ false
-        → (let k = keyed (r .node) key in sendingAccess r q key szmic payload buf ≡ starting r (q .element) (outgoingOf (envelopeOf r q k szmic) q k payload) buf)
+        → sendingAccess r q key szmic payload buf ≡ starting r (q .element) (accessOutgoing r q key szmic payload) buf
     unfolding sendingAccess sayingAccess
     access-begun w = rw (le-ltb (length buf) pduOctets wide, a, w) refl
 
   module _ (q : Request) (opcode : ℕ) (parameters : List ℕ) (a : control.controlAllowed r q opcode (length parameters) ≡ true) where
     pub control-whole :
         leb (length parameters) 11 ≡ true
-        → control.sendingControl r q opcode parameters buf ≡ saying r (q .element) (control.wholeHeader (sendingIv (r .node)) q opcode parameters) buf
+        → control.sendingControl r q opcode parameters buf ≡ saying r (q .element) (controlHeader r q opcode parameters) buf
     unfolding control.sendingControl control.sayingControl
     control-whole w = rw (le-ltb (length buf) pduOctets wide, a, w) refl
 

@@ -25,6 +25,7 @@ use Rattle.sending.specs.declared.access.KeyUsed.{KeyUsed}
 use Rattle.sending.specs.declared.request.Request.{Request}
 use Rattle.sending.specs.Access.{keyed, isWhole, accessAllowed, envelopeOf, outgoingOf}
 use Rattle.sending.specs.Control as control
+use Rattle.sending.specs.Request.{additionalFor}
 use Rattle.sending.specs.Sendable.{Sendable}
 use Rattle.sending.proofs.Laws.Allowed.{access-allows, control-allows}
 use Rattle.sending.proofs.Laws.Shapes.{Keeps, keeps-access, keeps-control, envelope-is}
@@ -73,17 +74,18 @@ most-access = refl
 pub access-sendable :
     (r : Receiver) (q : Request) (key : MessageKey) (szmic : Bool) (payload : List ℕ)
     → accessAllowed r q key szmic (length payload) ≡ true → isWhole szmic (length payload) ≡ false
-    → (let k = keyed (r .node) key in Sendable (outgoingOf (envelopeOf r q k szmic) q k payload))
+    → (let k = keyed (r .node) key in Sendable (outgoingOf (envelopeOf r q k szmic) q k (additionalFor (r .node) (q .dst)) payload))
 access-sendable r q key szmic payload a w =
     let k = keyed (r .node) key in
     let e = envelopeOf r q k szmic in
-    let m = secured (k .key) e payload in
+    let additional = additionalFor (r .node) (q .dst) in
+    let m = secured (k .key) e additional payload in
     let z : e .szmic ≡ szmic = rw (envelope-is r q k szmic) refl in
-    let long : length m ≡ length payload + micOctets (transMic szmic) = secured-length (k .key) e payload ∙ rw z refl in
+    let long : length m ≡ length payload + micOctets (transMic szmic) = secured-length (k .key) e additional payload ∙ rw z refl in
     let p = access-allows r q key szmic (length payload) a in
     let low : length m ≤ messageOctets = rw long (p .payload-most) in
     let enough : least false szmic ≤ length m = rw long (long-enough szmic (length payload) (p .some-payload) w) in
-    sendable-kept (outgoingOf e q k payload) _ _ _ _ m (keeps-access e q k payload) low
+    sendable-kept (outgoingOf e q k additional payload) _ _ _ _ m (keeps-access e q k additional payload) low
     (record {
       octet-fits = keyed-octet (r .node) key;
       bit-fits = bit-access (e .szmic);

@@ -33,7 +33,7 @@ use Rattle.sending.specs.declared.request.Request.{Request}
 use Rattle.sending.specs.Access.{envelopeOf, wholePdu, wholeHeader, outgoingOf}
 use Rattle.sending.specs.Acknowledge.{acknowledgementHeader}
 use Rattle.sending.specs.Control as control
-use Rattle.sending.specs.Request.{unnamedTtl, ttlOf}
+use Rattle.sending.specs.Request.{unnamedTtl, ttlOf, dstOf}
 use Rattle.sending.specs.Segment.{segmentPdu, segmentHeader}
 use Rattle.sending.specs.Transmission.{sendingIv, addressOf, nextSeq, stamped}
 
@@ -66,19 +66,19 @@ module _ (r : Receiver) (element : ℕ) where
 
   -- SEG 0, AKF, AID; then the secured message
   pub whole-access :
-      (e : Envelope) (q : Request) (k : KeyUsed) (payload : List ℕ)
-      → stamped r element (wholeHeader e q k payload)
-      ≡ headerSent (q .network) (e .iv) false (ttlOf (q .ttl)) (q .dst) (accessOctet false (k .akf) (k .aid) ∷ secured (k .key) e payload)
+      (e : Envelope) (q : Request) (k : KeyUsed) (additional payload : List ℕ)
+      → stamped r element (wholeHeader e q k additional payload)
+      ≡ headerSent (q .network) (e .iv) false (ttlOf (q .ttl)) (e .dst) (accessOctet false (k .akf) (k .aid) ∷ secured (k .key) e additional payload)
   unfolding stamped wholeHeader wholePdu
-  whole-access e q k payload = refl
+  whole-access e q k additional payload = refl
 
   -- SEG 0, opcode; then the parameters
   pub whole-control :
-      (iv : ℕ) (q : Request) (opcode : ℕ) (parameters : List ℕ)
-      → stamped r element (control.wholeHeader iv q opcode parameters)
-      ≡ headerSent (q .network) iv true (ttlOf (q .ttl)) (q .dst) (controlOctet false opcode ∷ parameters)
+      (iv : ℕ) (q : Request) (dst opcode : ℕ) (parameters : List ℕ)
+      → stamped r element (control.wholeHeader iv q dst opcode parameters)
+      ≡ headerSent (q .network) iv true (ttlOf (q .ttl)) dst (controlOctet false opcode ∷ parameters)
   unfolding stamped control.wholeHeader
-  whole-control iv q opcode parameters = refl
+  whole-control iv q dst opcode parameters = refl
 
   -- octet 0, SZMIC, SeqZero, SegO, SegN; then chunk SegO of what is kept
   pub segment-out :
@@ -120,20 +120,20 @@ padded-long m = length-tab (λ i. getD m i 0) messageOctets
 
 -- SegN is one less than the chunks of 12
 pub keeps-access :
-    (e : Envelope) (q : Request) (k : KeyUsed) (payload : List ℕ)
-    → (let m = secured (k .key) e payload in
-    Keeps (outgoingOf e q k payload) (e .src) (record { iv = e .iv; seq = e .seq })
+    (e : Envelope) (q : Request) (k : KeyUsed) (additional payload : List ℕ)
+    → (let m = secured (k .key) e additional payload in
+    Keeps (outgoingOf e q k additional payload) (e .src) (record { iv = e .iv; seq = e .seq })
     (record {
       ctl = false;
       first = accessOctet true (k .akf) (k .aid);
       szmic = e .szmic;
       segn = lastSegment 12 (length m);
-      dst = q .dst;
+      dst = e .dst;
       key = q .network;
     }) (ttlOf (q .ttl)) m)
 unfolding outgoingOf
-keeps-access e q k payload =
-    let m = secured (k .key) e payload in
+keeps-access e q k additional payload =
+    let m = secured (k .key) e additional payload in
     record { src-is = refl; auth-is = refl; terms-is = refl; ttl-is = refl; unheard = refl; len-is = refl; places = padded-long m; octets-are = take-padded messageOctets m }
 
 -- or of 8
@@ -145,7 +145,7 @@ pub keeps-control :
       first = controlOctet true opcode;
       szmic = false;
       segn = lastSegment 8 (length parameters);
-      dst = q .dst;
+      dst = dstOf (r .node) (q .dst);
       key = q .network;
     }) (ttlOf (q .ttl)) parameters
 unfolding control.outgoingOf
@@ -165,7 +165,7 @@ pub envelope-is :
       iv = sendingIv (r .node);
       seq = nextSeq r (q .element);
       src = addressOf (r .node) (q .element);
-      dst = q .dst;
+      dst = dstOf (r .node) (q .dst);
     }
 unfolding envelopeOf
 envelope-is r q k szmic = refl

@@ -8,5 +8,5 @@ use Rattle.sending.proofs.control.is_allowed.Tie as tie
 pub is-allowed-spec : {M : Type 1} → statement M
 is-allowed-spec =
     tie.close (tie.spec
-    (λ c κs. search needs) (λ c. search allowed-rules) (λ c. search allowed-rules) (λ c. search allowed-rules) (λ c. search allowed-rules)
-    (λ c. search allowed-rules) (λ c. search allowed-rules))
+    (λ c κs. search needs) (λ c. search allowed-rules) (λ c κs. search needs) (λ c. search allowed-rules) (λ c. search allowed-rules)
+    (λ c. search allowed-rules) (λ c. search allowed-rules) (λ c. search allowed-rules) (λ c. search allowed-rules))

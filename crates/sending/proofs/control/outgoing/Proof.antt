@@ -9,4 +9,4 @@ pub outgoing-spec : {M : Type 1} → statement M
 outgoing-spec =
     tie.close (tie.spec
     (λ c. search needs) (λ c κs. search needs) (λ c κs. search needs) (λ c κs. search needs) (λ c. search needs) (λ c. search needs)
-    (λ c κs. search needs) (λ c κs. search needs) (λ c κs. search needs) (λ c. search (outgoing-is, needs)))
+    (λ c κs. search needs) (λ c κs. search needs) (λ c κs. search needs) (λ c κs. search needs) (λ c. search (outgoing-is, needs)))

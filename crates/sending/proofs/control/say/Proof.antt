@@ -8,5 +8,5 @@ use Rattle.sending.proofs.control.say.Tie as tie
 pub say-spec : {M : Type 1} → statement M
 say-spec =
     tie.close (tie.spec
-    (λ c κs. search needs) (λ c κs. search needs) (λ c κs. search needs) (λ c κs. search needs) (λ c. search needs) (λ c. search say-rules)
-    (λ c κs. search needs) (λ c κs. search needs) (λ c. search needs) (λ c. search say-rules))
+    (λ c κs. search needs) (λ c κs. search needs) (λ c κs. search needs) (λ c κs. search needs) (λ c κs. search needs) (λ c. search needs)
+    (λ c. search say-rules) (λ c κs. search needs) (λ c κs. search needs) (λ c. search needs) (λ c. search say-rules))

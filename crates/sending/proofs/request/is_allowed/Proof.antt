@@ -9,4 +9,4 @@ pub is-allowed-spec : {M : Type 1} → statement M
 is-allowed-spec =
     tie.close (tie.spec
     (λ c. search request-rules) (λ c. search request-rules) (λ c. search request-rules) (λ c. search request-rules) (λ c κs. search needs)
-    (λ c κs. search needs) (λ c. search request-rules) (λ c κs. search needs) (λ c. search request-rules))
+    (λ c. search request-rules) (λ c κs. search needs) (λ c. search request-rules))
