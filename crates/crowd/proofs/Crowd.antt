@@ -3,7 +3,7 @@
 use mathlib.Core.Bool.{Bool, true, false, _&&_}
 use mathlib.Core.List.{List, [], _∷_}
 use mathlib.Core.Logic.{_⊎_, inl, inr}
-use mathlib.Core.Path.{_≡_, refl, ap, _∙_}
+use mathlib.Core.Path.{_≡_, refl, ap, _∙_, sym}
 use Prim.Native.Nat.{ℕ, zero, suc, _+_, _-_, _%_, _≤_, _<_}
 use native.Mathlib.Omega.{arith}
 use borrow.Author.Tests.{eq-eqb, eqb-true, leb-true}
@@ -27,7 +27,7 @@ use Rattle.network.specs.Trial.{tried}
 use Rattle.transport.specs.declared.securing.MessageKey.{MessageKey}
 use Rattle.transport.specs.declared.securing.MessageKey.the-variants.{Application, Device}
 use Rattle.transport.specs.LeadsBack.{SegmentOf}
-use Rattle.transport.specs.Securing.{transMic, applicationKeyAt}
+use Rattle.transport.specs.Securing.{transMic, applicationKeyAt, isVirtual}
 use Rattle.transport.specs.Segment.{messageOctets, controlOctet, segmentNumber, segmentFront, lastSegment}
 use Rattle.transport.proofs.SecureOpen.{secured-length}
 use Rattle.node.specs.Addresses.{isLocal, listens, answersTo, forNode}
@@ -43,6 +43,7 @@ use Rattle.demands.specs.Speech.{Access, Speech, keyOf, envelopeOf, octetsOf, l
 use Rattle.crowd.proofs.CrowdKeys.{firstKeys, first-is, secondKeys, second-is, pdu0, sealed-0, pdu1, sealed-1, tried-0, tried-1, forged-first, forged-second}
 use Rattle.demands.proofs.InOrder.{_then_, each-table, each-below}
 use Rattle.demands.proofs.SpeechCut.{cut-is, last-low}
+use Rattle.demands.proofs.OpenerLaws.{plain-read, plain-label}
 
 ready : settingUp hall .answer ≡ Ready
 unfolding settingUp making valid keysValid boundWithin elementsValid nextWithin groupsValid indexValid first kindOf
@@ -90,7 +91,7 @@ secured-octets :
     (s : Speech) (key : MessageKey) (szmic : Bool) (payload : List ℕ) → s .words ≡ Access key szmic payload
     → length (octetsOf node s) ≡ length payload + micOctets (transMic szmic)
 secured-octets s key szmic payload e =
-    rw (cut-is node s (Access key szmic payload) e) (secured-length (keyOf node key) (envelopeOf node s key szmic) payload)
+    rw (cut-is node s (Access key szmic payload) e) (secured-length (keyOf node key) (envelopeOf node s key szmic) (s .label) payload)
 
 segn-is : (k : ℕ) → k < 8 → lastOf node (speechAt crowd k) ≡ lasts k
 unfolding lastOf lastSegment octetsOf
@@ -109,20 +110,14 @@ segn-is k h =
 
 -- of a message under the application key and the first network key, of a length that fits
 by-application :
-    (s : Speech) (szmic : Bool) (payload : List ℕ) → s .words ≡ Access (Application 0) szmic payload → s .network ≡ 0 → 1 ≤ length payload
+    (s : Speech) (szmic : Bool) (payload : List ℕ) → s .words ≡ Access (Application 0) szmic payload → s .network ≡ 0 → isVirtual (s .dst) ≡ false → s .label ≡ [] → 1 ≤ length payload
     → length payload + micOctets (transMic szmic) ≤ messageOctets → WordsRead node s (Access (Application 0) szmic payload)
-by-application s szmic payload e n some most =
+by-application s szmic payload e n plain bare some most =
     let a = holds .one-application in
-    let long = secured-octets s (Application 0) szmic payload e in
-    let aid = applicationKeyAt (node .appkeys) 0 .aid in (
+    let long = secured-octets s (Application 0) szmic payload e in (
       record { some = some; enough = omega arith },
-      λ msg room.
-          record {
-            akf-set = refl;
-            held = omega arith;
-            fitting = rw (eq-eqb aid aid refl, holds .bound-there, n) refl;
-            none-before = λ j h. absurd (omega arith);
-          },
+      λ msg room. plain-read node s szmic (octetsOf node s) msg plain (omega arith) (holds .bound-there ∙ sym n),
+      plain-label node s plain bare,
     )
 
 -- who may speak so
@@ -141,27 +136,27 @@ spoken s from here wide key near words =
     }
 
 speaks : (k : ℕ) → k < 8 → Speakable node (speechAt crowd k)
-unfolding isUnicast kindOf
+unfolding isUnicast isVirtual kindOf
 speaks k h =
     let here = holds .here in
     let all = holds .of-all in
     let long = secured-octets (speechAt crowd 4) Device false (replicate 20 0x44) refl in
     each-below (λ (n : ℕ). Speakable node (speechAt crowd n)) 0 8
     (spoken (speechAt crowd 0) refl here (omega arith) (omega arith) (inl refl)
-    (by-application (speechAt crowd 0) false (replicate 380 0x5a) refl refl (omega arith) (omega arith))
+    (by-application (speechAt crowd 0) false (replicate 380 0x5a) refl refl refl refl (omega arith) (omega arith))
     then spoken (speechAt crowd 1) refl here (omega arith) (omega arith) (inl refl)
-    (by-application (speechAt crowd 1) true (replicate 4 0x11) refl refl (omega arith) (omega arith))
+    (by-application (speechAt crowd 1) true (replicate 4 0x11) refl refl refl refl (omega arith) (omega arith))
     then spoken (speechAt crowd 2) refl (holds .in-group) (omega arith) (omega arith) (inl refl)
-    (by-application (speechAt crowd 2) false (replicate 20 0x22) refl refl (omega arith) (omega arith))
+    (by-application (speechAt crowd 2) false (replicate 20 0x22) refl refl refl refl (omega arith) (omega arith))
     then spoken (speechAt crowd 3) refl all (omega arith) (omega arith) (inl refl)
-    (record { some = omega arith; enough = omega arith }, record { not-zero = omega arith; opcode-fits = omega arith })
-    then spoken (speechAt crowd 4) refl here (omega arith) (omega arith) (inl refl) (record { some = omega arith; enough = omega arith }, refl)
+    (record { some = omega arith; enough = omega arith }, record { not-zero = omega arith; opcode-fits = omega arith }, refl)
+    then spoken (speechAt crowd 4) refl here (omega arith) (omega arith) (inl refl) (record { some = omega arith; enough = omega arith }, refl, refl)
     then spoken (speechAt crowd 5) refl here (omega arith) (omega arith) (inl refl)
-    (record { some = omega arith; enough = omega arith }, record { not-zero = omega arith; opcode-fits = omega arith })
+    (record { some = omega arith; enough = omega arith }, record { not-zero = omega arith; opcode-fits = omega arith }, refl)
     then spoken (speechAt crowd 6) refl here (omega arith) (omega arith) (inl refl)
-    (record { some = omega arith; enough = omega arith }, record { not-zero = omega arith; opcode-fits = omega arith })
+    (record { some = omega arith; enough = omega arith }, record { not-zero = omega arith; opcode-fits = omega arith }, refl)
     then spoken (speechAt crowd 7) refl here (omega arith) (omega arith) (inr refl)
-    (by-application (speechAt crowd 7) false (replicate 20 0x66) refl refl (omega arith) (omega arith))
+    (by-application (speechAt crowd 7) false (replicate 20 0x66) refl refl refl refl (omega arith) (omega arith))
     then tt {0})
     k (omega arith) h
 

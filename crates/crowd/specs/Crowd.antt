@@ -36,10 +36,10 @@ hall =
 -- ---- the speakers
 -- a message under the current IV Index, and under the one before
 abbrev pub said : (src dst network seq : ℕ) → Words → Speech
-said src dst network seq words = record { src = src; dst = dst; network = network; auth = record { iv = 0x12345678; seq = seq }; words = words }
+said src dst network seq words = record { src = src; dst = dst; label = []; network = network; auth = record { iv = 0x12345678; seq = seq }; words = words }
 
 abbrev pub saidBefore : (src dst network seq : ℕ) → Words → Speech
-saidBefore src dst network seq words = record { src = src; dst = dst; network = network; auth = record { iv = 0x12345677; seq = seq }; words = words }
+saidBefore src dst network seq words = record { src = src; dst = dst; label = []; network = network; auth = record { iv = 0x12345677; seq = seq }; words = words }
 
 -- the TTL that their segments come with
 abbrev pub boxTtl : ℕ

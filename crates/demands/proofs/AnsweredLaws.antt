@@ -22,11 +22,11 @@ use Rattle.demands.specs.Interleaved.{isLastMissing, handedAs, handed, i
 use Rattle.demands.specs.Speech.{Words, Access, Control, Speech, lastOf, handUpAs, handUp, networkPlace, applicationPlace}
 
 -- what is handed up is no other answer, and its octets are read back
-handed-up : (s : Speech) (ws : Words) (msg : List ℕ) → handedAs (Heard (handUpAs s ws .answer)) (onto (handUpAs s ws .octets) msg) ≡ handUpAs s ws ∷ []
-handed-up s (Access key szmic payload) msg =
-    ap (λ (l : List ℕ). record { answer = handUpAs s (Access key szmic payload) .answer; octets = l } ∷ []) (take-append-seam payload _)
-handed-up s (Control code parameters) msg =
-    ap (λ (l : List ℕ). record { answer = handUpAs s (Control code parameters) .answer; octets = l } ∷ []) (take-append-seam parameters _)
+handed-up : (node : Node) (s : Speech) (ws : Words) (msg : List ℕ) → handedAs (Heard (handUpAs node s ws .answer)) (onto (handUpAs node s ws .octets) msg) ≡ handUpAs node s ws ∷ []
+handed-up node s (Access key szmic payload) msg =
+    ap (λ (l : List ℕ). record { answer = handUpAs node s (Access key szmic payload) .answer; octets = l } ∷ []) (take-append-seam payload _)
+handed-up node s (Control code parameters) msg =
+    ap (λ (l : List ℕ). record { answer = handUpAs node s (Control code parameters) .answer; octets = l } ∷ []) (take-append-seam parameters _)
 
 -- a segment that had not come is the last that was missing where all have come with it
 last-missing : (bits i segN : ℕ) → hasBit bits i ≡ false → (all : Bool) → eqb (withBit bits i) (allBits segN) ≡ all → isLastMissing bits i segN ≡ all
@@ -76,7 +76,7 @@ module _ (node : Node) (s : Speech) (bits i : ℕ) (msg : List ℕ) where
           }
 
       pub is-up :
-          eqb (withBit bits i) (allBits (lastOf node s)) ≡ true → o .answer ≡ Heard (handUp s .answer) → o .message ≡ onto (handUp s .octets) msg
+          eqb (withBit bits i) (allBits (lastOf node s)) ≡ true → o .answer ≡ Heard (handUp node s .answer) → o .message ≡ onto (handUp node s .octets) msg
           → Counts (applicationPlace node s (s .words)) → Says o
       is-up f a m c =
           let yes = last-missing bits i (lastOf node s) fresh true f in
@@ -104,15 +104,15 @@ module _ (node : Node) (s : Speech) (bits i : ℕ) (msg : List ℕ) where
     as-told : {a : Answer} → o .answer ≡ a → handed o ≡ handedAs a (o .message)
     as-told e = ap (λ (a : Answer). handedAs a (o .message)) e
 
-    pub answered-hands : handed o ≡ (if isLast then handUp s ∷ [] else [])
+    pub answered-hands : handed o ≡ (if isLast then handUp node s ∷ [] else [])
     answered-hands =
         by-test (hasBit bits i)
         (λ b. let no = not-missing bits i (lastOf node s) b in rw no (⊎-elim (λ e. as-told e) (λ e. as-told e) (x .repeats b)))
         (λ b. by-test (eqb (withBit bits i) (allBits (lastOf node s)))
         (λ f.
         let yes = last-missing bits i (lastOf node s) b true f in
-        let m : o .message ≡ onto (handUp s .octets) msg = x .message-is ∙ rw yes refl in
-        rw yes (as-told (x .completes yes) ∙ ap (handedAs (Heard (handUp s .answer))) m ∙ handed-up s (s .words) msg))
+        let m : o .message ≡ onto (handUp node s .octets) msg = x .message-is ∙ rw yes refl in
+        rw yes (as-told (x .completes yes) ∙ ap (handedAs (Heard (handUp node s .answer))) m ∙ handed-up node s (s .words) msg))
         (λ f. let no = last-missing bits i (lastOf node s) b false f in rw no (as-told (x .stored b f))))
 
     pub answered-stores : hasBit bits i ≡ false → eqb (withBit bits i) (allBits (lastOf node s)) ≡ false → isStored (o .answer) ≡ true

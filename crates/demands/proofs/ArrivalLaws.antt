@@ -274,7 +274,7 @@ module _ (node : Node) (speeches : List Speech) (spent : Spent) where
   -- what is due at an event
   abbrev pub dueOf : (ℕ → ℕ) → Event → List Handed
   dueOf filled (Segment k i seq ttl) =
-      if isLastMissing (filled k) i (lastOf node (speechAt speeches k)) then handUp (speechAt speeches k) ∷ [] else
+      if isLastMissing (filled k) i (lastOf node (speechAt speeches k)) then handUp node (speechAt speeches k) ∷ [] else
       []
   dueOf filled (Foreign pdu) = []
   dueOf filled (Ask net src) = []

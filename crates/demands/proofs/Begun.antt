@@ -39,7 +39,7 @@ use Rattle.demands.specs.ReadBack.{sayCall, goesWhole, saidBy, pduMade, 
 use Rattle.demands.specs.Speech.{Words, Speech, isControl, lastOf, headerOf}
 use Rattle.demands.proofs.Invariant.{good-step}
 use Rattle.demands.proofs.Pieces.{Of, Laws, Holds, can-told, pdu-told, pieces-told, holds-behind, kept-behind, segment-goes}
-use Rattle.demands.proofs.SaidLaws.{request-of, fits-of, held, Kept, kept}
+use Rattle.demands.proofs.SaidLaws.{request-of, fits-of, held, Kept, kept, address-if-control}
 use Rattle.demands.proofs.SentLaws.{StartedBy, keptAs, sendingAs, step-is}
 use Rattle.demands.proofs.SpeechCut.{Cut, cut-fits, cut-low}
 use Rattle.demands.proofs.SpeechSegment.{cut-sealable}
@@ -98,7 +98,7 @@ module _ (sender : Receiver) (good : Good sender) (node : Node) (shared : Shared
     pub can-begun : (n seq : ℕ) → n ≤ lastOf node s → seq ≤ 0xFFFFFF → sealable (keyAt (node .materials) (q .network)) (headerOf node s n seq ttl) ≡ true
     can-begun n seq last fits =
         let low = key-low in
-        let destination = sendable-allowed (kindOf (q .dst)) (isControl words) (asked .sendable) in
+        let destination = sendable-allowed (sender .node) own (q .dst) (isControl words) (address-if-control sender node shared q words a) (asked .sendable) in
         cut-sealable node s n cut last well (omega arith) from-unicast destination seq ttl fits ttl-fits
 
     pub goes-begun :

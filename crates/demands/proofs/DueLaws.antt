@@ -34,7 +34,7 @@ module _ (node : Node) (speeches : List Speech) (k : ℕ) where
 
   -- what is due at an event, where these segments have come
   pub dueWith : ℕ → Event → List Handed
-  dueWith bits (Segment j i seq ttl) = if eqb j k then (if isLastMissing bits i (lastOf node s) then handUp s ∷ [] else []) else []
+  dueWith bits (Segment j i seq ttl) = if eqb j k then (if isLastMissing bits i (lastOf node s) then handUp node s ∷ [] else []) else []
   dueWith bits (Foreign pdu) = []
   dueWith bits (Ask net src) = []
   dueWith bits (Own d) = []
@@ -46,7 +46,7 @@ module _ (node : Node) (speeches : List Speech) (k : ℕ) where
   -- ---- it is due once
   -- not yet complete: it becomes so, or it is not handed up
   abbrev Turns : ℕ → Event → Type 0
-  Turns bits e = ((comeWith k bits e ≡ full) × (dueWith bits e ≡ handUp s ∷ [])) ⊎ ((comeWith k bits e ≡ full → ⊥) × (dueWith bits e ≡ []))
+  Turns bits e = ((comeWith k bits e ≡ full) × (dueWith bits e ≡ handUp node s ∷ [])) ⊎ ((comeWith k bits e ≡ full → ⊥) × (dueWith bits e ≡ []))
 
   turns-by : (bits : ℕ) → (bits ≡ full → ⊥) → (e : Event) → Turns bits e
   unfolding dueWith
@@ -88,7 +88,7 @@ module _ (node : Node) (speeches : List Speech) (k : ℕ) where
         let f = full-stays (a .event) (e .0 .comes) in
         rw (f .0, f .1) (none-more l (e .1))
 
-    pub once-due : (bits : ℕ) → (bits ≡ full → ⊥) → (l : List Arrival) → Each (Arrives node speeches spent) l → comeFrom k bits l ≡ full → dueBehind bits l ≡ handUp s ∷ []
+    pub once-due : (bits : ℕ) → (bits ≡ full → ⊥) → (l : List Arrival) → Each (Arrives node speeches spent) l → comeFrom k bits l ≡ full → dueBehind bits l ≡ handUp node s ∷ []
     unfolding dueBehind
     once-due bits n [] e c = absurd (n c)
     once-due bits n (a ∷ l) e c =
@@ -98,14 +98,14 @@ module _ (node : Node) (speeches : List Speech) (k : ℕ) where
         (turns-by bits n (a .event))
 
   -- ---- by its source
-  source-is : (o : Speech) (ws : Words) → sourceOf (handUpAs o ws .answer) ≡ o .src
+  source-is : (o : Speech) (ws : Words) → sourceOf (handUpAs node o ws .answer) ≡ o .src
   source-is o (Access key szmic payload) = refl
   source-is o (Control code parameters) = refl
 
   abbrev own : Handed → Bool
   own m = eqb (sourceOf (m .answer)) (s .src)
 
-  picked-one : (o : Speech) → picked own (handUp o ∷ []) ≡ (if eqb (o .src) (s .src) then handUp o ∷ [] else [])
+  picked-one : (o : Speech) → picked own (handUp node o ∷ []) ≡ (if eqb (o .src) (s .src) then handUp node o ∷ [] else [])
   unfolding picked
   picked-one o = rw (source-is o (o .words)) refl
 

@@ -27,9 +27,9 @@ use Rattle.network.proofs.SealOpen.{open-seal}
 use Rattle.transport.specs.Segment.{messageOctets}
 use Rattle.memory.specs.Cache.{seenOf, seen}
 use Rattle.memory.specs.Remembered.{lastEntries}
-use Rattle.node.specs.Addresses.{isLocal, listens, answersTo, forNode}
+use Rattle.node.specs.Addresses.{isLocal, listens, answersTo, forNode, holdsLabel}
 use Rattle.node.specs.Made.{WellMade}
-use Rattle.node.specs.Setup.{boundWithin, keysValid, nextWithin, elementsValid, groupsValid, indexValid, valid, groupAt, nodeOf, making}
+use Rattle.node.specs.Setup.{boundWithin, keysValid, nextWithin, elementsValid, groupsValid, indexValid, valid, groupAt, nodeOf, making, labelUuidAt}
 use Rattle.receiver.specs.declared.answer.Refusal.the-variants.{NotForNode}
 use Rattle.receiver.specs.declared.state.Receiver.{Receiver}
 use Rattle.receiver.specs.Fresh.{settingUp}
@@ -119,7 +119,8 @@ reserved-met = ((met-to 0xFF00 (omega arith) refl refl, refl), (met-to 0xFFFB (o
 -- ---- to another box
 -- it is not for the shed
 elsewhere : forNode node 0x0003 ≡ false
-unfolding settingUp making valid keysValid boundWithin elementsValid nextWithin groupsValid indexValid first kindOf isReserved nodeOf groupAt answersTo forNode isLocal listens
+unfolding settingUp making valid keysValid boundWithin elementsValid nextWithin groupsValid indexValid first kindOf isReserved nodeOf groupAt answersTo forNode isLocal listens holdsLabel
+    labelUuidAt
 elsewhere = refl
 
 may-three : destinationKind true (kindOf 0x0003) ≡ true

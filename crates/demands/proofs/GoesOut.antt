@@ -37,10 +37,10 @@ use Rattle.sending.specs.declared.answer.Answer as said-answer
 use Rattle.sending.specs.declared.answer.Spoken.{Spoken}
 use Rattle.sending.specs.declared.request.Request.{Request}
 use Rattle.sending.specs.Access as access
-use Rattle.sending.specs.Request.{ttlOf}
+use Rattle.sending.specs.Request.{ttlOf, toAddress}
 use Rattle.sending.specs.Segment.{segmentHeader, starting}
 use Rattle.sending.specs.Transmission.{nextSeq, stamped}
-use Rattle.sending.proofs.Laws.Allowed.{Asked, whole-short, sendable-allowed}
+use Rattle.sending.proofs.Laws.Allowed.{Asked, whole-short, sendable-allowed, control-allows}
 use Rattle.sending.proofs.Laws.Calls.{access-whole, access-begun, control-whole, control-begun}
 use Rattle.sending.proofs.Laws.Stamped.{stamps}
 use Rattle.sending.proofs.Laws.Transmitted.{saying, Sends, saying-is, starting-is}
@@ -94,20 +94,21 @@ module _ (sender : Receiver) (good : Good sender) (q : Request) (words : Words) 
 
   -- ---- whole
   whole-can :
-      (ctl : Bool) (pdu : List ℕ) → first ≤ 0xFFFFFF → 1 ≤ length pdu → length pdu ≤ mostTransport ctl → sealable (keyAt (node .materials) (q .network)) (wholeHeader s ctl ttl pdu) ≡ true
-  whole-can ctl pdu left-seq some most =
+      (ctl : Bool) (pdu : List ℕ) → (ctl ≡ true → toAddress (q .dst) ≡ true) → first ≤ 0xFFFFFF → 1 ≤ length pdu → length pdu ≤ mostTransport ctl
+      → sealable (keyAt (node .materials) (q .network)) (wholeHeader s ctl ttl pdu) ≡ true
+  whole-can ctl pdu plain left-seq some most =
       let n = asked .network-there in
       let nid : keyAt (node .materials) (q .network) .nid ≤ 127 = rw (well .derived (q .network) (omega arith)) (nid-low _) in
-      let allowed = addresses-allowed ctl (s .src) (q .dst) (from-unicast sender good node shared q words a) (sendable-allowed (kindOf (q .dst)) ctl (asked .sendable)) in
+      let allowed = addresses-allowed ctl (s .src) (s .dst) (from-unicast sender good node shared q words a) (sendable-allowed node well (q .dst) ctl plain (asked .sendable)) in
       sealable-where (keyAt (node .materials) (q .network)) (wholeHeader s ctl ttl pdu) nid (ttl-fits sender good node shared q words a) left-seq allowed some most
 
   whole-made :
-      (h : Header) (ctl : Bool) (pdu : List ℕ) → first ≤ 0xFFFFFF → stamped sender (q .element) h ≡ wholeHeader s ctl ttl pdu → 1 ≤ length pdu
+      (h : Header) (ctl : Bool) (pdu : List ℕ) → (ctl ≡ true → toAddress (q .dst) ≡ true) → first ≤ 0xFFFFFF → stamped sender (q .element) h ≡ wholeHeader s ctl ttl pdu → 1 ≤ length pdu
       → length pdu ≤ mostTransport ctl → madeBy (saying sender (q .element) h buf .answer .answer) ≡ true
-  whole-made h ctl pdu left-seq e some most =
+  whole-made h ctl pdu plain left-seq e some most =
       let k = key-low in
       let ek : h .key ≡ q .network = sym (stamps sender (q .element) h .key-stays) ∙ ap (λ (x : Header). x .key) e in
-      let own-header = subst (λ (x : Header). sealable (keyAt (node .materials) (q .network)) x ≡ true) (sym e) (whole-can ctl pdu left-seq some most) in
+      let own-header = subst (λ (x : Header). sealable (keyAt (node .materials) (q .network)) x ≡ true) (sym e) (whole-can ctl pdu plain left-seq some most) in
       let own-key = subst (λ (n : ℕ). sealable (keyAt (node .materials) n) (stamped sender (q .element) h) ≡ true) (sym ek) own-header in
       let c : Sends sender (q .element) h buf = record { seq-left = left-seq; key-there = omega arith; wide = wide; can = own-key } in
       ap (λ (x : Lent Spoken). madeBy (x .answer .answer)) (saying-is sender (q .element) h buf c)
@@ -184,8 +185,9 @@ module _ (sender : Receiver) (good : Good sender) (q : Request) (buf : List ℕ)
       let s = saidBy sender q words in
       let short = whole-short false (length payload) w .1 in
       let l : length (octetsOf node s) ≡ length payload + 4 =
-      rw (cut-is node s words refl) (secured-length (keyOf node key) (envelopeOf node s key false) payload) in
-      whole-made sender good q words buf a wide (headerAs sender q words) false (accessOctet false (akfOf key) (aidOf node key) ∷ octetsOf node s) left-seq
+      rw (cut-is node s words refl) (secured-length (keyOf node key) (envelopeOf node s key false) (s .label) payload) in
+      whole-made sender good q words buf a wide (headerAs sender q words) false (accessOctet false (akfOf key) (aidOf node key) ∷ octetsOf node s)
+      (λ f. absurd (true≢false (sym f))) left-seq
       (access-stamped sender node (shared-itself node) q key payload a) (omega arith) (omega arith)
 
   abbrev Enough : Words → Type 0
@@ -212,7 +214,7 @@ module _ (sender : Receiver) (good : Good sender) (q : Request) (buf : List ℕ)
       let left-seq : nextSeq sender (q .element) + 1 ≤ 0x1000000 = rw w at enough in
       rw (control-whole sender buf wide q code parameters a w)
       (said-all (q .element) (headerAs sender q words)
-      (whole-made sender good q words buf a wide (headerAs sender q words) true (controlOctet false code ∷ parameters) (omega arith)
+      (whole-made sender good q words buf a wide (headerAs sender q words) true (controlOctet false code ∷ parameters) (λ _. control-allows sender q code (length parameters) a .no-label) (omega arith)
       (control-stamped sender (sender .node) (shared-itself (sender .node)) q code parameters) (omega arith) (omega arith))))
       (λ w.
       let words = Control code parameters in

@@ -19,7 +19,7 @@ use Rattle.network.specs.Address.{kindOf, isUnicast, isReserved}
 use Rattle.network.specs.Opening.{opening}
 use Rattle.transport.specs.declared.securing.MessageKey.the-variants.{Application}
 use Rattle.transport.specs.LeadsBack.{SegmentOf}
-use Rattle.transport.specs.Securing.{applicationKeyAt}
+use Rattle.transport.specs.Securing.{applicationKeyAt, isVirtual}
 use Rattle.transport.specs.Segment.{lastSegment}
 use Rattle.transport.proofs.SecureOpen.{secured-length}
 use Rattle.node.specs.Addresses.{isLocal, answersTo, forNode}
@@ -33,6 +33,7 @@ use Rattle.demands.specs.Interleaved.{Event, Segment, Foreign, Ask, Own,
 use Rattle.demands.specs.Refusal.{noKeyOpens}
 use Rattle.demands.specs.Speech.{Access, keyOf, envelopeOf, octetsOf, lastOf, headerOf, Speakable}
 use Rattle.demands.proofs.SpeechCut.{cut-is}
+use Rattle.demands.proofs.OpenerLaws.{plain-read, plain-label}
 
 pub ready : settingUp shed .answer ≡ Ready
 unfolding settingUp making valid keysValid boundWithin elementsValid nextWithin groupsValid indexValid first kindOf
@@ -57,7 +58,7 @@ holds = record { one-network = refl; one-application = refl; bound-there = refl;
 humidity-octets : length (octetsOf node humidity) ≡ 24
 humidity-octets =
     rw (cut-is node humidity (Access (Application 0) false (replicate 20 0x5a)) refl)
-    (secured-length (keyOf node (Application 0)) (envelopeOf node humidity (Application 0) false) (replicate 20 0x5a))
+    (secured-length (keyOf node (Application 0)) (envelopeOf node humidity (Application 0) false) [] (replicate 20 0x5a))
 
 humidity-last : lastOf node humidity ≡ 1
 unfolding lastOf lastSegment
@@ -68,7 +69,7 @@ unfolding lastOf lastSegment octetsOf
 temperature-last = refl
 
 speaks-humidity : Speakable node humidity
-unfolding isUnicast kindOf
+unfolding isUnicast isVirtual kindOf
 speaks-humidity =
     let n = holds .one-network in
     let a = holds .one-application in
@@ -81,18 +82,13 @@ speaks-humidity =
       near = inl (sym (holds .index));
       words-read = (
         record { some = omega arith; enough = omega arith },
-        λ msg room.
-            record {
-              akf-set = refl;
-              held = omega arith;
-              fitting = rw (eq-eqb (applicationKeyAt (node .appkeys) 0 .aid) (applicationKeyAt (node .appkeys) 0 .aid) refl, holds .bound-there) refl;
-              none-before = λ j h. absurd (omega arith);
-            },
+        λ msg room. plain-read node humidity false (octetsOf node humidity) msg refl (omega arith) (holds .bound-there),
+        plain-label node humidity refl refl,
       );
     }
 
 speaks-temperature : Speakable node temperature
-unfolding isUnicast kindOf
+unfolding isUnicast isVirtual kindOf
 speaks-temperature =
     let n = holds .one-network in
     record {
@@ -101,7 +97,7 @@ speaks-temperature =
       dst-fits = omega arith;
       held = omega arith;
       near = inr (sym (holds .index));
-      words-read = (record { some = omega arith; enough = omega arith }, record { not-zero = omega arith; opcode-fits = omega arith });
+      words-read = (record { some = omega arith; enough = omega arith }, record { not-zero = omega arith; opcode-fits = omega arith }, refl);
     }
 
 others : (k : ℕ) → k < 2 → isLocal node (speechAt boxes k .src) ≡ false

@@ -145,7 +145,7 @@ module _ (setup : Setup) (speeches : List Speech) where
       ended : Over node well speeches (c .eight-at-most) (c .speakable) (c .sources-differ) (c .spent) (behind setup speeches l) (λ k. come k l) seen k hk (λ i. all k i hk)
       ended = over node well speeches (c .eight-at-most) (c .speakable) (c .sources-differ) (c .spent) (behind setup speeches l) (λ k. come k l) seen k hk (λ i. all k i hk)
 
-      one-message : messages (speakerOf speeches k) (run (start setup) (calls node speeches l)) ≡ handUp (speechAt speeches k) ∷ []
+      one-message : messages (speakerOf speeches k) (run (start setup) (calls node speeches l)) ≡ handUp node (speechAt speeches k) ∷ []
       one-message =
           let m = messages-are node well speeches (c .eight-at-most) (c .speakable) (c .sources-differ) (c .spent) k hk (start setup) (λ _. 0)
           (begins setup (c .ready) speeches (c .spent) (c .speakable) (c .others)) l (c .arrives) in

@@ -6,7 +6,7 @@
 --   walk-said, walk-step   so it holds of what the call leaves
 use mathlib.Core.Bool.{Bool, true, false, false≢true}
 use mathlib.Core.List.{List}
-use mathlib.Core.Path.{_≡_, refl, ap}
+use mathlib.Core.Path.{_≡_, refl, ap, _∙_}
 use Prim.Native.Nat.{ℕ, _≤_, _<_}
 use lib.ListN.{length}
 use Rattle.common.specs.Lent.{Lent}
@@ -29,15 +29,17 @@ use Rattle.sending.specs.Transmission.{nextSeq}
 use Rattle.sending.proofs.Laws.Allowed.{Asked, access-allows, control-allows, access-alone, control-alone}
 use Rattle.sending.proofs.Laws.Calls.{walk-access, walk-control, walk-segment, walk-acknowledge}
 use Rattle.sending.proofs.Laws.Sendable.{access-sendable, control-sendable}
-use Rattle.sending.proofs.Laws.Shapes.{keeps-access, keeps-control}
+use Rattle.sending.proofs.Laws.Shapes.{keeps-access, keeps-control, envelope-is}
 use Rattle.sending.proofs.Laws.Transmitted.{used, saying, by-saying, by-starting, by-stopping}
 use Rattle.demands.specs.Call.{Call, Hear, GiveUp, SendAccess, SendControl, SendSegment, Acknowledge, Stop, step}
+use Rattle.sending.specs.Request.{dstOf, additionalFor}
+use Rattle.transport.specs.declared.securing.Envelope.{Envelope}
 
 -- none is kept, and one that is asked for and allowed will be: it can be sent in segments
 pub record Begins (r : Receiver) (o : Outgoing) : Type 0 where
   pub request : Request
   pub asks : Asked (r .node) request
-  pub to-whom : o .terms .dst ≡ request .dst
+  pub to-whom : o .terms .dst ≡ dstOf (r .node) (request .dst)
   pub alone : r .out .src ≡ 0
   pub sendable : Sendable o
 
@@ -82,7 +84,9 @@ module _ (r : Receiver) (P : Receiver → Type 0) where
         (record {
           request = q;
           asks = access-allows r q key szmic (length payload) a .asks;
-          to-whom = ap (λ (t : Terms). t .dst) (keeps-access (envelopeOf r q k szmic) q k payload .terms-is);
+          to-whom =
+              ap (λ (t : Terms). t .dst) (keeps-access (envelopeOf r q k szmic) q k (additionalFor (r .node) (q .dst)) payload .terms-is)
+              ∙ ap (λ (v : Envelope). v .dst) (envelope-is r q k szmic);
           alone = access-alone r q key szmic (length payload) a i;
           sendable = access-sendable r q key szmic payload a i;
         }))

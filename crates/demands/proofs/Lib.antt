@@ -7,6 +7,7 @@ pub mod Left
 pub mod Invariant
 pub mod NeverTwice
 pub mod SpeechCut
+pub mod OpenerLaws
 pub mod SpeechMessage
 pub mod SpeechSegment
 pub mod SpeechSession

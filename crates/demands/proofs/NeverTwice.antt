@@ -48,6 +48,7 @@ use Rattle.sending.proofs.Laws.Transmitted.{checked, used, used-own, used-rises
 use Rattle.demands.specs.Call.{Call, Hear, GiveUp, SendAccess, SendControl, SendSegment, Acknowledge, Stop, lentFor, Outcome, lengthBy, leftSaid, step}
 use Rattle.demands.specs.NeverTwice.{Use, speaker, indexSent, addressee, uses, Carried, AllAbove, Rising, NoneEqual, Distinct, Rise, NeverTwice}
 use Rattle.demands.proofs.Invariant.{good-step}
+use Rattle.sending.specs.Request.{dstOf, additionalFor}
 
 -- ---- one call
 module _ (r : Receiver) (element iv to : ℕ) (buf : List ℕ) where
@@ -127,20 +128,23 @@ speaks r (SendAccess q key szmic payload buf) =
     let e = q .element in
     let low : accessAllowed r q key szmic (length payload) ≡ true → e < elementPlaces = λ a. element-low r q (access-allows r q key szmic (length payload) a .asks) in
     let iv = sendingIv (r .node) in
+    let to = dstOf (r .node) (q .dst) in
     let k = keyed (r .node) key in
     let under = ap (λ (v : Envelope). v .iv) (envelope-is r q k szmic) in
-    let kept = keeps-access (envelopeOf r q k szmic) q k payload in
-    walk-access r buf (Speaking r e iv (q .dst) buf) (refused r e iv (q .dst) buf) q key szmic payload
-    (λ a _. said r e iv (q .dst) buf (low a) _ (whole-access r e (envelopeOf r q k szmic) q k payload) under refl)
-    (λ a _. started r e iv (q .dst) buf (low a) _ (ap (λ (p : Pair). p .iv) (kept .auth-is) ∙ under) (ap (λ (t : Terms). t .dst) (kept .terms-is)))
+    let to-is = ap (λ (v : Envelope). v .dst) (envelope-is r q k szmic) in
+    let kept = keeps-access (envelopeOf r q k szmic) q k (additionalFor (r .node) (q .dst)) payload in
+    walk-access r buf (Speaking r e iv to buf) (refused r e iv to buf) q key szmic payload
+    (λ a _. said r e iv to buf (low a) _ (whole-access r e (envelopeOf r q k szmic) q k (additionalFor (r .node) (q .dst)) payload) under to-is)
+    (λ a _. started r e iv to buf (low a) _ (ap (λ (p : Pair). p .iv) (kept .auth-is) ∙ under) (ap (λ (t : Terms). t .dst) (kept .terms-is) ∙ to-is))
 speaks r (SendControl q opcode parameters buf) =
     let e = q .element in
     let low : control.controlAllowed r q opcode (length parameters) ≡ true → e < elementPlaces = λ a. element-low r q (control-allows r q opcode (length parameters) a .asks) in
     let iv = sendingIv (r .node) in
+    let to = dstOf (r .node) (q .dst) in
     let kept = keeps-control r q opcode parameters in
-    walk-control r buf (Speaking r e iv (q .dst) buf) (refused r e iv (q .dst) buf) q opcode parameters
-    (λ a _. said r e iv (q .dst) buf (low a) _ (whole-control r e iv q opcode parameters) refl refl)
-    (λ a _. started r e iv (q .dst) buf (low a) _ (ap (λ (p : Pair). p .iv) (kept .auth-is)) (ap (λ (t : Terms). t .dst) (kept .terms-is)))
+    walk-control r buf (Speaking r e iv to buf) (refused r e iv to buf) q opcode parameters
+    (λ a _. said r e iv to buf (low a) _ (whole-control r e iv q to opcode parameters) refl refl)
+    (λ a _. started r e iv to buf (low a) _ (ap (λ (p : Pair). p .iv) (kept .auth-is)) (ap (λ (t : Terms). t .dst) (kept .terms-is)))
 speaks r (SendSegment n buf) =
     let e = elementOf (r .node) (r .out .src) in
     let iv = r .out .auth .iv in

@@ -83,7 +83,7 @@ module _ (sender : Receiver) (setup : Setup) (q : Request) (words : Words) (buf 
           dst-fits = b .dst-fits;
           held = held sender node (b .shared) q words a;
           near = near sender node (b .shared) q (b .good .node-made);
-          words-read = words-of sender node (b .shared) q words a w (b .own-message-first);
+          words-read = words-of sender node (b .shared) q (b .good .node-made) (good-fresh setup (b .ready) .node-made) words a w (b .holds-label) (b .own-message-first);
         }
 
     abbrev ps : List Piece
@@ -161,9 +161,9 @@ module _ (sender : Receiver) (setup : Setup) (q : Request) (buf : List ℕ) (l :
       let s = saidBy sender q words in
       let few = whole-short false (length payload) w .1 in
       let made = good-fresh setup (b .ready) .node-made in
-      let read = access-read sender node (b .shared) q key false payload a (b .own-message-first) in
+      let read = access-read sender node (b .shared) q (b .good .node-made) made key false payload a (b .holds-label) (b .own-message-first) in
       let long : length (octetsOf node s) ≡ length payload + 4 =
-      rw (cut-is node s words refl) (secured-length (keyOf node key) (envelopeOf node s key false) payload) in
+      rw (cut-is node s words refl) (secured-length (keyOf node key) (envelopeOf node s key false) (s .label) payload) in
       read-one sender setup q words buf b l a g false (accessOctet false (akfOf key) (aidOf node key)) (octetsOf node s) (omega arith)
       (access-stamped sender node (b .shared) q key payload a)
       (λ ready t fwd msg p. access-whole setup ready s t fwd msg made key payload refl read few p)

@@ -41,7 +41,7 @@ module _ (node : Node) (s : Speech) (ps : List Piece) (segN : ℕ) (low : segN <
   -- ---- one hearing
   -- what is due at segment i, and at what is heard
   abbrev dueAt : ℕ → ℕ → List Handed
-  dueAt bits i = if isLastMissing bits i segN then handUp s ∷ [] else []
+  dueAt bits i = if isLastMissing bits i segN then handUp node s ∷ [] else []
 
   abbrev dueAs : ℕ → Incoming → List Handed
   dueAs bits (Made i) = dueAt bits (pieceAt ps i .segment)
@@ -55,7 +55,7 @@ module _ (node : Node) (s : Speech) (ps : List Piece) (segN : ℕ) (low : segN <
 
   -- not yet complete: it becomes so, or it is not handed up
   abbrev Turns : ℕ → List Handed → Type 0
-  Turns more due = ((more ≡ full) × (due ≡ handUp s ∷ [])) ⊎ ((more ≡ full → ⊥) × (due ≡ []))
+  Turns more due = ((more ≡ full) × (due ≡ handUp node s ∷ [])) ⊎ ((more ≡ full → ⊥) × (due ≡ []))
 
   turns-at : (bits i : ℕ) → (bits ≡ full → ⊥) → Turns (withBit bits i) (dueAt bits i)
   turns-at bits i n =
@@ -100,7 +100,7 @@ module _ (node : Node) (s : Speech) (ps : List Piece) (segN : ℕ) (low : segN <
 
   once-more :
       (l : List Hearing) (r : Receiver) (bits : ℕ) → (bits ≡ full → ⊥) → AllWithin ps segN l → ReadsEach node s ps segN r bits l → cameFrom bits l ≡ full
-      → allHanded (run r (calls l)) ≡ handUp s ∷ []
+      → allHanded (run r (calls l)) ≡ handUp node s ∷ []
   once-more [] r bits n v e c = absurd (n c)
   once-more (h ∷ l) r bits n v e c =
       let q = step r (hearCall node s ps h) .receiver in
@@ -162,5 +162,5 @@ module _ (node : Node) (s : Speech) (ps : List Piece) (segN : ℕ) (low : segN <
 
   pub read-once :
       (l : List Hearing) (r : Receiver) → AllWithin ps segN l → ReadsEach node s ps segN r 0 l → ((i : ℕ) → i ≤ segN → brings ps i l ≡ true)
-      → allHanded (run r (calls l)) ≡ handUp s ∷ []
+      → allHanded (run r (calls l)) ≡ handUp node s ∷ []
   read-once l r v e each = once-more l r 0 none-yet v e (all-come l v each)

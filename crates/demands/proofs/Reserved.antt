@@ -41,8 +41,12 @@ use Rattle.demands.specs.NeverTwice.{addressee}
 use Rattle.demands.specs.Reserved.{ForNobody, GoesOn, NoneListened, NoneAsked, NoneSentTo}
 use Rattle.demands.specs.Speech.{Access, Control}
 use Rattle.demands.proofs.Forwarding.{forwards-exactly}
-use Rattle.demands.proofs.Invariant.{good-after}
+use Rattle.demands.proofs.Invariant.{good-after, good-step}
 use Rattle.demands.proofs.Left.{walk-step}
+use Rattle.sending.specs.Request.{dstOf}
+use Rattle.sending.specs.Access.{accessAllowed}
+use Rattle.sending.specs.Control.{controlAllowed}
+use Rattle.receiver.proofs.Good.{good-fresh}
 
 -- ---- heard
 pub for-nobody : ForNobody
@@ -69,12 +73,16 @@ none-listened s e i h = group-spared (getD (s .groups) i 0) (groups-given s (rea
 
 -- ---- asked for
 pub none-asked : NoneAsked
-none-asked r q (Access key szmic payload) buf =
-    walk-access r buf (λ (s : Lent Spoken). madeBy (s .answer .answer) ≡ true → isReserved (q .dst) ≡ false) (λ _ _ m. absurd (false≢true m)) q key szmic payload
-    (λ a _ _. asked-spared (access-allows r q key szmic (length payload) a .asks)) (λ a _ _. asked-spared (access-allows r q key szmic (length payload) a .asks))
-none-asked r q (Control opcode parameters) buf =
-    walk-control r buf (λ (s : Lent Spoken). madeBy (s .answer .answer) ≡ true → isReserved (q .dst) ≡ false) (λ _ _ m. absurd (false≢true m)) q opcode parameters
-    (λ a _ _. asked-spared (control-allows r q opcode (length parameters) a .asks)) (λ a _ _. asked-spared (control-allows r q opcode (length parameters) a .asks))
+none-asked r q (Access key szmic payload) buf made =
+    let P : Lent Spoken → Type 0 = λ s. madeBy (s .answer .answer) ≡ true → isReserved (dstOf (r .node) (q .dst)) ≡ false in
+    let spared : accessAllowed r q key szmic (length payload) ≡ true → isReserved (dstOf (r .node) (q .dst)) ≡ false =
+    λ a. asked-spared made (access-allows r q key szmic (length payload) a .asks) in
+    walk-access r buf P (λ _ _ m. absurd (false≢true m)) q key szmic payload (λ a _ _. spared a) (λ a _ _. spared a)
+none-asked r q (Control opcode parameters) buf made =
+    let P : Lent Spoken → Type 0 = λ s. madeBy (s .answer .answer) ≡ true → isReserved (dstOf (r .node) (q .dst)) ≡ false in
+    let spared : controlAllowed r q opcode (length parameters) ≡ true → isReserved (dstOf (r .node) (q .dst)) ≡ false =
+    λ a. asked-spared made (control-allows r q opcode (length parameters) a .asks) in
+    walk-control r buf P (λ _ _ m. absurd (false≢true m)) q opcode parameters (λ a _ _. spared a) (λ a _ _. spared a)
 
 -- ---- sent to
 -- no reserved address is listed, and no message to one is kept
@@ -93,8 +101,8 @@ unicast-spared a u = by-test (isReserved a) (λ t. absurd (true≢false (sym u �
 spares-fresh : (s : Setup) → Spares (settingUp s .receiver)
 spares-fresh s = rw (fresh-is s) (lists-fresh Spared zero-spared (making s .node) (making s .next), zero-spared)
 
-spares-step : (r : Receiver) (c : Call) → Spares r → Spares (step r c .receiver)
-spares-step r c s =
+spares-step : (r : Receiver) (c : Call) → Good r → Spares r → Spares (step r c .receiver)
+spares-step r c g s =
     walk-step r Spares
     (record {
       hears = λ pdu fwd msg. (
@@ -103,12 +111,12 @@ spares-step r c s =
       );
       frees = λ slot _. (lists-freed Spared zero-spared r (s .0) slot, s .1);
       speaks =
-          record { stays = s; sends = λ _ _. s; begins = λ _ _ o b. (s .0, rw (b .to-whom) (asked-spared (b .asks))); ends = (s .0, zero-spared) };
+          record { stays = s; sends = λ _ _. s; begins = λ _ _ o b. (s .0, rw (b .to-whom) (asked-spared (λ _. g .node-made) (b .asks))); ends = (s .0, zero-spared) };
     }) c
 
-spares-after : (r : Receiver) (l : List Call) → Spares r → Spares (after r l)
-spares-after r [] s = s
-spares-after r (c ∷ l) s = spares-after (step r c .receiver) l (spares-step r c s)
+spares-after : (r : Receiver) (l : List Call) → Good r → Spares r → Spares (after r l)
+spares-after r [] g s = s
+spares-after r (c ∷ l) g s = spares-after (step r c .receiver) l (good-step r c g) (spares-step r c g s)
 
 -- a source that is not listed is not acknowledged
 unanswered : (r : Receiver) → Good r → Lists Spared r → (net src : ℕ) (buf : List ℕ) → isReserved src ≡ true → step r (Acknowledge net src buf) .made ≡ true → ⊥
@@ -123,11 +131,11 @@ unanswered r good s net src buf t =
 spared : (r : Receiver) → Good r → Spares r → (c : Call) → step r c .made ≡ true → Spared (addressee r c)
 spared r g s (Hear pdu fwd msg) m = absurd (false≢true m)
 spared r g s (GiveUp src) m = absurd (false≢true m)
-spared r g s (SendAccess q key szmic payload buf) m = none-asked r q (Access key szmic payload) buf m
-spared r g s (SendControl q opcode parameters buf) m = none-asked r q (Control opcode parameters) buf m
+spared r g s (SendAccess q key szmic payload buf) m = none-asked r q (Access key szmic payload) buf (λ _. g .node-made) m
+spared r g s (SendControl q opcode parameters buf) m = none-asked r q (Control opcode parameters) buf (λ _. g .node-made) m
 spared r g s (SendSegment n buf) m = s .1
 spared r g s (Acknowledge net src buf) m = by-test (isReserved src) (λ t. absurd (unanswered r g (s .0) net src buf t m)) (λ t. t)
 spared r g s Stop m = absurd (false≢true m)
 
 pub none-sent-to : NoneSentTo
-none-sent-to s l c e = spared (after (settingUp s .receiver) l) (good-after s l e) (spares-after (settingUp s .receiver) l (spares-fresh s)) c
+none-sent-to s l c e = spared (after (settingUp s .receiver) l) (good-after s l e) (spares-after (settingUp s .receiver) l (good-fresh s e) (spares-fresh s)) c

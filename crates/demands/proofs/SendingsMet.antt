@@ -41,6 +41,7 @@ use Rattle.demands.specs.Call.{Hear, step}
 use Rattle.demands.specs.GoesOut.{outcomes, accepted, pduCount, restOf}
 use Rattle.demands.specs.Instance.{shed, bench, toShed, report, lentPdu, hearing, Told, overheard, short}
 use Rattle.demands.specs.Instance.{heardTwice, command, heardBackwards, updating, toBox, greeting, greeted, inUse, SendingsMet}
+use Rattle.demands.specs.Interleaved as scene
 use Rattle.demands.specs.Interleaved.{start, isLastMissing, Each, handed}
 use Rattle.demands.specs.ReadBack.{sayCall, goesWhole, saidBy, Piece, madeOf, segNAs, Incoming, Made, Relayed, Unopened}
 use Rattle.demands.specs.ReadBack.{pieceAt, isPiece, brings, Shared, OwnMessageFirst, Between, OneOf, ComesAs, Hears, Telling}
@@ -55,6 +56,8 @@ use Rattle.demands.proofs.Pieces.{Row}
 use Rattle.demands.proofs.ReadBack.{read-back}
 use Rattle.demands.proofs.SentLaws.{sendingAs, Way, Whole, Begun, way}
 use Rattle.demands.proofs.SpeechCut.{cut-is}
+use Rattle.transport.specs.Securing.{applicationKeyAt, isVirtual}
+use Rattle.demands.proofs.OpenerLaws.{plain-first}
 
 -- ---- what is heard, by the places of what was made
 -- these are places up to n, TTLs of 7 bits, or PDUs that no key opens
@@ -158,6 +161,14 @@ box-here : forNode (start bench .node) 0x0002 ≡ true
 unfolding settingUp making valid keysValid boundWithin elementsValid nextWithin groupsValid indexValid first kindOf nodeOf isReserved answersTo forNode isLocal
 box-here = refl
 
+box-bound : applicationKeyAt (start bench .node .appkeys) 0 .bound ≡ 0
+unfolding settingUp making valid keysValid boundWithin elementsValid nextWithin groupsValid indexValid first kindOf nodeOf boundKeyAt
+box-bound = refl
+
+box-application : start bench .node .applications ≡ 1
+unfolding settingUp making valid keysValid boundWithin elementsValid nextWithin groupsValid indexValid first kindOf nodeOf
+box-application = refl
+
 -- each is another node to the one that hears it
 record Apart : Type 0 where
   bench-other : isLocal node (addressOf (start bench .node) 0) ≡ false
@@ -213,7 +224,7 @@ unfolding lastOf lastSegment
 report-last sender =
     let s = saidBy sender toShed report in
     let own = sender .node in
-    rw (cut-is own s report refl, secured-length (keyOf own (Application 0)) (envelopeOf own s (Application 0) true) (replicate 20 0x5a)) refl
+    rw (cut-is own s report refl, secured-length (keyOf own (Application 0)) (envelopeOf own s (Application 0) true) [] (replicate 20 0x5a)) refl
 
 command-last : (sender : Receiver) → lastOf (sender .node) (saidBy sender toShed command) ≡ 1
 unfolding lastOf lastSegment octetsOf
@@ -228,13 +239,20 @@ OtherNode sender = isLocal node (addressOf (sender .node) 0) ≡ false
 to-shed :
     (sender : Receiver) (words : Words) → Good sender → Shared (sender .node) node → OtherNode sender → OwnMessageFirst node (saidBy sender toShed words) words
     → Between sender shed toShed words
+unfolding isVirtual kindOf
 to-shed sender words good shared other own =
-    record { good = good; ready = ready; shared = shared; other-node = other; for-here = holds .here; dst-fits = omega arith; own-message-first = own }
+    record { good = good; ready = ready; shared = shared; other-node = other; for-here = holds .here; dst-fits = omega arith; holds-label = λ t. absurd (true≢false (sym t)); own-message-first = own }
+
+-- the shed's address is not virtual
+shed-plain : isVirtual 0x0001 ≡ false
+unfolding isVirtual kindOf
+shed-plain = refl
 
 -- a report in three segments, from any sender
 module _ (sender : Receiver) (good : Good sender) (shared : Shared (sender .node) node) (other : OtherNode sender) (a : accepted sender toShed report ≡ true) (low : nextSeq sender 0 ≤ 1) where
   report-between : Between sender shed toShed report
-  report-between = to-shed sender report good shared other (λ msg j h. absurd (omega arith))
+  report-between = to-shed sender report good shared other
+      (λ msg j h. let a = holds .one-application in let z = plain-first node (saidBy sender toShed report) true shed-plain (omega arith) (holds .bound-there) in absurd (omega arith))
 
   report-segN : segNAs (step sender (sayCall toShed report lentPdu) .answer) ≡ 2
   report-segN =
@@ -250,7 +268,8 @@ module _ (sender : Receiver) (good : Good sender) (shared : Shared (sender .node
 -- eight octets in one PDU, from any sender
 module _ (sender : Receiver) (good : Good sender) (shared : Shared (sender .node) node) (other : OtherNode sender) (a : accepted sender toShed short ≡ true) (low : nextSeq sender 0 ≤ 1) where
   short-between : Between sender shed toShed short
-  short-between = to-shed sender short good shared other (λ msg j h. absurd (omega arith))
+  short-between = to-shed sender short good shared other
+      (λ msg j h. let a = holds .one-application in let z = plain-first node (saidBy sender toShed short) false shed-plain (omega arith) (holds .bound-there) in absurd (omega arith))
 
   short-made : step sender (sayCall toShed short lentPdu) .made ≡ true
   short-made = in-full sender shed toShed short short-between a low .0
@@ -280,6 +299,7 @@ command-told =
 
 -- ---- a box that was used: it hears a message of the shed's
 to-box : Between (start shed) bench toBox short
+unfolding isVirtual kindOf
 to-box =
     record {
       good = good-fresh shed ready;
@@ -288,7 +308,8 @@ to-box =
       other-node = apart .shed-other;
       for-here = box-here;
       dst-fits = omega arith;
-      own-message-first = λ msg j h. absurd (omega arith);
+      holds-label = λ t. absurd (true≢false (sym t));
+      own-message-first = λ msg j h. let a = box-application in let z = plain-first (start bench .node) (saidBy (start shed) toBox short) false refl (omega arith) box-bound in absurd (omega arith);
     }
 
 shed-made : step (start shed) (sayCall toBox short lentPdu) .made ≡ true
@@ -313,7 +334,7 @@ missing : isLastMissing 0 0 0 ≡ true
 unfolding hasBit withBit allBits
 missing = refl
 
-message-heard : handed greeted ≡ handUp (saidBy (start shed) toBox short) ∷ []
+message-heard : handed greeted ≡ handUp (scene.nodeOf bench) (saidBy (start shed) toBox short) ∷ []
 message-heard =
     let last = whole-answered (start shed) toBox short lentPdu shed-made (ways .short-whole) in
     read-back (start shed) bench toBox short lentPdu [] (hearing (Made 0) ∷ []) telling .each .0 .hands ∙ rw (last, missing) refl

@@ -24,8 +24,8 @@ use Rattle.sending.specs.declared.request.Request.{Request}
 use Rattle.sending.specs.Access as access
 use Rattle.sending.specs.Control as control
 use Rattle.sending.specs.Segment.{segmentHeader, starting}
-use Rattle.sending.specs.Transmission.{sendingIv, stamped}
-use Rattle.sending.proofs.Laws.Calls.{accessHeader, walk-access, walk-control}
+use Rattle.sending.specs.Transmission.{stamped}
+use Rattle.sending.proofs.Laws.Calls.{accessHeader, accessOutgoing, controlHeader, walk-access, walk-control}
 use Rattle.sending.proofs.Laws.Transmitted.{used, saying, pduBy, Sends, by-saying, by-starting}
 use Rattle.demands.specs.Call.{madeBy, leftSaid, step}
 use Rattle.demands.specs.GoesOut.{accepted}
@@ -69,10 +69,10 @@ module _ (r : Receiver) (element : ℕ) (buf : List ℕ) where
 module _ (r : Receiver) (q : Request) where
   abbrev pub headerAs : Words → Header
   headerAs (Access key szmic payload) = accessHeader r q key szmic payload
-  headerAs (Control code parameters) = control.wholeHeader (sendingIv (r .node)) q code parameters
+  headerAs (Control code parameters) = controlHeader r q code parameters
 
   abbrev pub keptAs : Words → Outgoing
-  keptAs (Access key szmic payload) = let k = access.keyed (r .node) key in access.outgoingOf (access.envelopeOf r q k szmic) q k payload
+  keptAs (Access key szmic payload) = accessOutgoing r q key szmic payload
   keptAs (Control code parameters) = control.outgoingOf r q code parameters
 
   abbrev pub sendingAs : Words → List ℕ → Lent Spoken

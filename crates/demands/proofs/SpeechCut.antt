@@ -43,15 +43,15 @@ module _ (node : Node) (s : Speech) where
   cut-is ws e = ap (cutOf node s) e
 
   -- a secured message is longer than its payload
-  secured-some : (key : List ℕ) (e : Envelope) (payload : List ℕ) → 1 ≤ length payload → 1 ≤ length (secured key e payload)
-  secured-some key e payload h = let l = secured-length key e payload in omega arith
+  secured-some : (key : List ℕ) (e : Envelope) (label payload : List ℕ) → 1 ≤ length payload → 1 ≤ length (secured key e label payload)
+  secured-some key e label payload h = let l = secured-length key e label payload in omega arith
 
   cut-as : (ws : Words) → s .words ≡ ws → WordsFit node s ws → Cut node s
   cut-as (Access key szmic payload) e w =
       let c = cut-is (Access key szmic payload) e in
       let m = w .enough in
       record {
-        some = rw c (secured-some _ _ payload (w .some));
+        some = rw c (secured-some _ _ _ payload (w .some));
         most = m;
         few = rw (ap (λ (x : Words). fullOctets (isControl x)) e) (omega arith);
       }

@@ -6,7 +6,7 @@
 --   segment-sealable            it can be sealed, and so can one that is sent (`cut-sealable`)
 --   segment-taken               a header of the speech is taken as segment i
 --   segment-placed              and placed by the speech's SeqAuth
-use mathlib.Core.Bool.{Bool, true, false}
+use mathlib.Core.Bool.{Bool, true, false, false≢true}
 use mathlib.Core.List.{List, _++_, append-assoc}
 use mathlib.Core.Path.{_≡_, refl, sym, ap, _∙_, subst}
 use Prim.Native.Nat.{ℕ, _+_, _%_, _≤_, _<_}
@@ -57,6 +57,7 @@ use Rattle.receiver.proofs.Laws.Segment.{segmented-placed}
 use Rattle.demands.specs.Speech.{Words, Access, Control, Speech, isControl, szmicOf, aidOf, akfOf, firstOf, sizeOf, lastOf, segmentOf, headerOf, WordsRead, Speakable}
 use Rattle.demands.proofs.SpeechCut.{Cut, size-bounds, cut, last-low, cut-bounds, part, part-bounds, part-full}
 use Rattle.demands.proofs.SpeechMessage.{message-opens}
+use Rattle.transport.specs.Securing.{isVirtual}
 
 -- what the segments of a speech have in common
 abbrev pub termsOf : Node → Speech → Terms
@@ -137,11 +138,16 @@ module _ (node : Node) (s : Speech) (w : Speakable node s) (i : ℕ) (there : i 
     unfolding headerOf
     formed = record { dst-fits = w .dst-fits; zeros-behind = ap (padded 16) transport-is }
 
+    -- a control message has no virtual DST
+    not-virtual : (words : Words) → WordsRead node s words → isControl words ≡ true → isVirtual (s .dst) ≡ false
+    not-virtual (Access key szmic payload) r c = absurd (false≢true c)
+    not-virtual (Control code parameters) r c = r .2
+
     -- it can be sealed: every number has its bits, and a DST that is for a node may be sent to
     pub segment-sealable : WellMade node → seq ≤ 0xFFFFFF → ttl ≤ 127 → sealable (keyAt (node .materials) (s .network)) h ≡ true
     segment-sealable made eseq ettl =
         let held = w .held in
-        let destination = for-allowed node made (s .dst) (isControl (s .words)) (w .for-here) in
+        let destination = for-allowed node made (s .dst) (isControl (s .words)) (not-virtual (s .words) (w .words-read)) (w .for-here) in
         cut-sealable node s i (cut node s w) there made (omega arith) (w .from-unicast) destination seq ttl eseq ettl
 
     carries : (ctl : Bool) → isControl (s .words) ≡ ctl → Carries h ctl front

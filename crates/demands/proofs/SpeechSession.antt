@@ -19,6 +19,7 @@ use Rattle.transport.specs.Securing.{unsecuring}
 use Rattle.transport.proofs.ReadsBack.{akf-access, aid-access, opcode-control}
 use Rattle.transport.specs.Segment.{messageOctets}
 use Rattle.memory.specs.declared.session.Session.{Session}
+use Rattle.node.specs.Addresses.{heldBy}
 use Rattle.node.specs.declared.addresses.Node.{Node}
 use Rattle.node.specs.Index.{SameFixed}
 use Rattle.node.specs.Made.{WellMade}
@@ -27,7 +28,8 @@ use Rattle.receiver.specs.declared.state.Receiver.{Receiver}
 use Rattle.receiver.specs.declared.answer.Answer.the-variants as answer
 use Rattle.receiver.specs.Segmented as segments
 use Rattle.receiver.proofs.Laws.Segment.{access-up, control-up}
-use Rattle.demands.specs.Speech.{Words, Access, Control, Speech, isControl, szmicOf, aidOf, akfOf, firstOf, envelopeOf, octetsOf, WordsRead, Speakable, handUpAs, handUp, applicationPlace}
+use Rattle.demands.specs.Speech.{Words, Access, Control, Speech, isControl, szmicOf, aidOf, akfOf}
+use Rattle.demands.specs.Speech.{firstOf, envelopeOf, octetsOf, WordsRead, Speakable, handUpAs, handUp, applicationPlace, openerOf}
 use Rattle.demands.proofs.SpeechCut.{cut-is}
 use Rattle.demands.proofs.SpeechMessage.{Opens, message-opens}
 use Rattle.demands.proofs.SpeechSegment.{termsOf}
@@ -47,7 +49,7 @@ module _ (node : Node) (made : WellMade node) (s : Speech) (w : Speakable node s
   abbrev pub Up : List ℕ → Type 0
   Up msg =
       up msg
-      ≡ lent (record { answer = handUp s .answer; trials = applicationPlace node s (s .words); receiver = segments.upgraded r session }) (onto (handUp s .octets) msg)
+      ≡ lent (record { answer = handUp node s .answer; trials = applicationPlace node s (s .words); receiver = segments.upgraded r session }) (onto (handUp node s .octets) msg)
 
   module _ (msg : List ℕ) (room : messageOctets ≤ length msg) (all : take len bytes ≡ octetsOf node s) where
     envelope-is :
@@ -59,7 +61,7 @@ module _ (node : Node) (made : WellMade node) (s : Speech) (w : Speakable node s
     -- what is handed up of these words
     abbrev handing : Words → Lent Taken
     handing ws =
-        lent (record { answer = handUpAs s ws .answer; trials = applicationPlace node s ws; receiver = segments.upgraded r session }) (onto (handUpAs s ws .octets) msg)
+        lent (record { answer = handUpAs node s ws .answer; trials = applicationPlace node s ws; receiver = segments.upgraded r session }) (onto (handUpAs node s ws .octets) msg)
 
     -- access or control, by the words
     abbrev either : Bool → Lent Taken
@@ -69,10 +71,10 @@ module _ (node : Node) (made : WellMade node) (s : Speech) (w : Speakable node s
         (key : MessageKey) (szmic : Bool) (payload : List ℕ) → s .words ≡ Access key szmic payload → Opens node s key szmic payload msg → Up msg
     opened-up key szmic payload e o =
         let u :
-        unsecuring (r .node .appkeys) (r .node .applications) (r .node .device) (segments.sessionEnvelope session) (take len bytes) msg
-        ≡ lent (Message key (applicationPlace node s (Access key szmic payload)) (length payload)) (onto payload msg) =
-        rw (ap (λ (x : Node). x .appkeys) same, ap (λ (x : Node). x .applications) same, ap (λ (x : Node). x .device) same, envelope-is key szmic payload e (o .aid-fits), all) (o .opens-to) in
-        ap either (ap isControl e) ∙ access-up r session msg key (applicationPlace node s (Access key szmic payload)) (length payload) (onto payload msg) u
+        unsecuring (heldBy (r .node)) (segments.sessionEnvelope session) (take len bytes) msg
+        ≡ lent (Message (openerOf node s key) (applicationPlace node s (Access key szmic payload)) (length payload)) (onto payload msg) =
+        rw (ap heldBy same, envelope-is key szmic payload e (o .aid-fits), all) (o .opens-to) in
+        ap either (ap isControl e) ∙ access-up r session msg (openerOf node s key) (applicationPlace node s (Access key szmic payload)) (length payload) (onto payload msg) u
         ∙ ap handing (sym e)
 
     control-handed : (code : ℕ) (parameters : List ℕ) → s .words ≡ Control code parameters → OpcodeInRange code → Up msg

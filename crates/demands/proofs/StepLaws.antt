@@ -145,7 +145,7 @@ module _ (node : Node) (made : WellMade node) (s : Speech) (w : Speakable node s
       -- complete
       -- the message is handed up, which leaves q
       abbrev handing : Receiver → Lent Taken
-      handing q = lent (record { answer = handUp s .answer; trials = applicationPlace node s (s .words); receiver = q }) (onto (handUp s .octets) msg)
+      handing q = lent (record { answer = handUp node s .answer; trials = applicationPlace node s (s .words); receiver = q }) (onto (handUp node s .octets) msg)
 
       up-step :
           eqb filled (allBits (lastOf node s)) ≡ true

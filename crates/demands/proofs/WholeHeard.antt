@@ -13,14 +13,14 @@ use Rattle.common.specs.Lists.{onto}
 use Rattle.network.specs.declared.header.Header.{Header}
 use Rattle.network.specs.Header.{transportOf}
 use Rattle.transport.specs.declared.form.Form.the-variants as form
-use Rattle.transport.specs.declared.securing.MessageKey.{MessageKey}
+use Rattle.transport.specs.declared.securing.Opener.{Opener}
 use Rattle.transport.specs.declared.securing.Opened.the-variants.{Message}
 use Rattle.transport.specs.Form.{formOf}
 use Rattle.transport.specs.Securing.{unsecuring}
 use Rattle.memory.specs.Cache.{seenOf, seen, remembered}
 use Rattle.memory.proofs.CacheLaws.{seen-new}
 use Rattle.node.specs.declared.setup.Setup.{Setup}
-use Rattle.node.specs.Addresses.{forNode}
+use Rattle.node.specs.Addresses.{forNode, heldBy}
 use Rattle.receiver.specs.declared.answer.Answer.the-variants as answer
 use Rattle.receiver.specs.declared.answer.Taken.{Taken}
 use Rattle.receiver.specs.declared.fresh.Answer.the-variants.{Ready}
@@ -69,18 +69,18 @@ module _ (setup : Setup) (ready : settingUp setup .answer ≡ Ready) (h : Header
 
   -- ---- an access message
   pub access-heard :
-      (akf : Bool) (aid trials : ℕ) (key : MessageKey) (payload : List ℕ) → formOf h ≡ form.Access akf aid
+      (akf : Bool) (aid trials : ℕ) (opener : Opener) (payload : List ℕ) → formOf h ≡ form.Access akf aid
       → (let node = nodeOf setup in
-      unsecuring (node .appkeys) (node .applications) (node .device) (whole.wholeEnvelope h akf aid) (drop 1 (transportOf h)) msg
-      ≡ lent (Message key trials (length payload)) (onto payload msg))
-      → HandsUp setup h pdu fwd msg (record { answer = answer.Access (h .src) (h .dst) (h .key) key (whole.pairOf h) (length payload); octets = payload })
+      unsecuring (heldBy node) (whole.wholeEnvelope h akf aid) (drop 1 (transportOf h)) msg
+      ≡ lent (Message opener trials (length payload)) (onto payload msg))
+      → HandsUp setup h pdu fwd msg (record { answer = answer.Access (h .src) (h .dst) (h .key) opener (whole.pairOf h) (length payload); octets = payload })
       (record { network = place; application = trials })
-  access-heard akf aid trials key payload f u =
-      let x = heard-whole _ (taken-access q h msg akf aid trials (length payload) key (onto payload msg) f (fresh-admits setup h) u) in
+  access-heard akf aid trials opener payload f u =
+      let x = heard-whole _ (taken-access q h msg akf aid trials (length payload) opener (onto payload msg) f (fresh-admits setup h) u) in
       record {
         hands =
             x .hands-as
-            ∙ ap (λ (l : List ℕ). record { answer = answer.Access (h .src) (h .dst) (h .key) key (whole.pairOf h) (length payload); octets = l } ∷ []) (take-append-seam payload _);
+            ∙ ap (λ (l : List ℕ). record { answer = answer.Access (h .src) (h .dst) (h .key) opener (whole.pairOf h) (length payload); octets = l } ∷ []) (take-append-seam payload _);
         counts = x .tried-as;
         caches = cached-by (x .left-as);
       }

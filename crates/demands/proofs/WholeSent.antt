@@ -33,7 +33,7 @@ use Rattle.receiver.specs.declared.fresh.Answer.the-variants.{Ready}
 use Rattle.receiver.specs.Fresh.{settingUp}
 use Rattle.receiver.specs.Passing.{Passes}
 use Rattle.demands.specs.Interleaved.{start, nodeOf}
-use Rattle.demands.specs.Speech.{Words, Access, Control, Speech, keyOf, aidOf, akfOf, envelopeOf, octetsOf, WordsRead, handUp, networkPlace, applicationPlace}
+use Rattle.demands.specs.Speech.{Words, Access, Control, Speech, keyOf, aidOf, akfOf, envelopeOf, octetsOf, WordsRead, handUp, networkPlace, applicationPlace, openerOf}
 use Rattle.demands.proofs.SpeechCut.{cut-is}
 use Rattle.demands.proofs.SpeechMessage.{message-opens}
 use Rattle.demands.proofs.WholeHeard.{HandsUp, access-heard, control-heard}
@@ -65,7 +65,7 @@ module _ (setup : Setup) (ready : settingUp setup .answer ≡ Ready) (s : Speech
   -- the message is handed up, each of its keys tried at its place
   abbrev pub Heard : Header → Type 0
   Heard h =
-      HandsUp setup h (pduOf (keyAt (node .materials) (s .network)) h) fwd msg (handUp s)
+      HandsUp setup h (pduOf (keyAt (node .materials) (s .network)) h) fwd msg (handUp node s)
       (record { network = networkPlace node s; application = applicationPlace node s (s .words) })
 
   -- ---- a transport PDU in its header
@@ -107,7 +107,7 @@ module _ (setup : Setup) (ready : settingUp setup .answer ≡ Ready) (s : Speech
     secured-octets = octetsOf node s
 
     octets-long : length secured-octets ≡ length payload + 4
-    octets-long = rw (cut-is node s (Access key false payload) e) (secured-length (keyOf node key) (envelopeOf node s key false) payload)
+    octets-long = rw (cut-is node s (Access key false payload) e) (secured-length (keyOf node key) (envelopeOf node s key false) (s .label) payload)
 
     fits-one : length (octet ∷ secured-octets) ≤ 16
     fits-one = let l = octets-long in omega arith
@@ -139,7 +139,7 @@ module _ (setup : Setup) (ready : settingUp setup .answer ≡ Ready) (s : Speech
         let l = octets-long in
         let x =
         access-heard setup ready h _ fwd msg _ (p .passes) (p .here)
-        (akfOf key) (aidOf node key) (applicationPlace node s (Access key false payload)) key payload
+        (akfOf key) (aidOf node key) (applicationPlace node s (Access key false payload)) (openerOf node s key) payload
         (access-reads-back h (akfOf key) (aidOf node key) (carries false octet secured-octets fits-one) range (omega arith))
         (rw (body-is false octet secured-octets fits-one) (o .opens-to)) in
         record {

@@ -31,6 +31,7 @@ use Rattle.receiver.specs.declared.state.Receiver.{Receiver}
 use Rattle.receiver.specs.Fresh.{settingUp}
 use Rattle.receiver.specs.Good.{Good}
 use Rattle.receiver.specs.Passing.{Opens, Ours, Passes}
+use Rattle.sending.specs.declared.request.Destination.the-variants.{Address}
 use Rattle.sending.specs.declared.request.Request.{Request}
 use Rattle.sending.specs.declared.request.Ttl.the-variants.{Unnamed}
 use Rattle.demands.specs.Acknowledged.{Speaker, Hears}
@@ -67,11 +68,11 @@ shed = nodeAt 0x0001
 -- one box says 20 octets under the application key, the other a control message of 12; each goes in two segments
 abbrev pub humidity : Speech
 humidity =
-    record { src = 0x0002; dst = 0x0001; network = 0; auth = record { iv = 0x12345678; seq = 0x000100 }; words = Access (Application 0) false (replicate 20 0x5a) }
+    record { src = 0x0002; dst = 0x0001; label = []; network = 0; auth = record { iv = 0x12345678; seq = 0x000100 }; words = Access (Application 0) false (replicate 20 0x5a) }
 
 abbrev pub temperature : Speech
 temperature =
-    record { src = 0x0003; dst = 0x0001; network = 0; auth = record { iv = 0x12345677; seq = 0x000200 }; words = Control 0x11 (replicate 12 0x3c) }
+    record { src = 0x0003; dst = 0x0001; label = []; network = 0; auth = record { iv = 0x12345677; seq = 0x000200 }; words = Control 0x11 (replicate 12 0x3c) }
 
 abbrev pub boxes : List Speech
 boxes = humidity ∷ temperature ∷ []
@@ -81,7 +82,7 @@ arrival e = record { event = e; forward = replicate pduOctets 0; message = repli
 
 -- the shed sends the first box eight octets under the application key, in one PDU
 abbrev pub order : Call
-order = SendAccess (record { element = 0; dst = 0x0002; ttl = Unnamed; network = 0 }) (Application 0) false (replicate 8 0x21) (replicate pduOctets 0)
+order = SendAccess (record { element = 0; dst = Address 0x0002; ttl = Unnamed; network = 0 }) (Application 0) false (replicate 8 0x21) (replicate pduOctets 0)
 
 -- what comes before the request to acknowledge, and behind it
 abbrev pub soFar : List Arrival
@@ -114,7 +115,7 @@ abbrev pub bench : Setup
 bench = nodeAt 0x0002
 
 abbrev pub toShed : Request
-toShed = record { element = 0; dst = 0x0001; ttl = Unnamed; network = 0 }
+toShed = record { element = 0; dst = Address 0x0001; ttl = Unnamed; network = 0 }
 
 -- 20 octets under the application key with a TransMIC of 8: three segments
 abbrev pub report : Words
@@ -159,7 +160,7 @@ updating = withIndex bench 0x12345678 true true
 
 -- the shed sends the box a message whole
 abbrev pub toBox : Request
-toBox = record { element = 0; dst = 0x0002; ttl = Unnamed; network = 0 }
+toBox = record { element = 0; dst = Address 0x0002; ttl = Unnamed; network = 0 }
 
 abbrev pub greeting : List ℕ
 greeting = pduMade (step (start shed) (sayCall toBox short lentPdu))
@@ -181,7 +182,7 @@ pub record SendingsMet : Type 0 where
   pub index-before : saidBy (start updating) toShed report .auth .iv ≡ 0x12345677
   -- one that was used before: a message was handed up, and its next SEQ is 1
   pub in-use : Told inUse report overheard
-  pub message-heard : handed greeted ≡ handUp (saidBy (start shed) toBox short) ∷ []
+  pub message-heard : handed greeted ≡ handUp (nodeOf bench) (saidBy (start shed) toBox short) ∷ []
   pub number-used : saidBy inUse toShed report .auth .seq ≡ 1
 
 -- ---- an acknowledgement that is read

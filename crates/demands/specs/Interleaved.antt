@@ -77,7 +77,7 @@ pub record Arrival : Type 0 where
 
 -- speech number k
 abbrev pub none : Speech
-none = record { src = 0; dst = 0; network = 0; auth = record { iv = 0; seq = 0 }; words = Control 0 [] }
+none = record { src = 0; dst = 0; label = []; network = 0; auth = record { iv = 0; seq = 0 }; words = Control 0 [] }
 
 abbrev pub speechAt : List Speech → ℕ → Speech
 speechAt speeches k = getD speeches k none
@@ -215,7 +215,7 @@ isStored (Ended a) = false
 
 abbrev pub dueAs : Node → List Speech → List Arrival → Event → List Handed
 dueAs node speeches before (Segment k i seq ttl) =
-    if isLastMissing (come k before) i (lastOf node (speechAt speeches k)) then handUp (speechAt speeches k) ∷ [] else
+    if isLastMissing (come k before) i (lastOf node (speechAt speeches k)) then handUp node (speechAt speeches k) ∷ [] else
     []
 dueAs node speeches before (Foreign pdu) = []
 dueAs node speeches before (Ask net src) = []
@@ -237,13 +237,13 @@ pub record SegmentAnswered (node : Node) (s : Speech) (bits i : ℕ) (msg : List
   pub stored :
       hasBit bits i ≡ false → eqb (withBit bits i) (allBits (lastOf node s)) ≡ false → o .answer ≡ Heard (answer.Stored (s .src) (s .auth) (withBit bits i))
   -- it is the last that was missing: the message is handed up
-  pub completes : isLastMissing bits i (lastOf node s) ≡ true → o .answer ≡ Heard (handUp s .answer)
+  pub completes : isLastMissing bits i (lastOf node s) ≡ true → o .answer ≡ Heard (handUp node s .answer)
   -- it had come: a repeat, or 5 where the PDU is in the cache
   pub repeats :
       hasBit bits i ≡ true
       → (o .answer ≡ Heard (answer.Repeated (s .src) (s .auth) bits)) ⊎ (o .answer ≡ Heard (answer.Refused refusal.Cached))
   -- a message handed up fills the first octets of the message buffer, and the rest stays; a stored segment or a repeat writes none of it
-  pub message-is : o .message ≡ (if isLastMissing bits i (lastOf node s) then onto (handUp s .octets) msg else msg)
+  pub message-is : o .message ≡ (if isLastMissing bits i (lastOf node s) then onto (handUp node s .octets) msg else msg)
   -- its network key is tried at its place, and application keys where the message is handed up
   pub tried-is :
       o .tried
@@ -351,10 +351,10 @@ pub record Alike (setup : Setup) (speeches : List Speech) (l : List Arrival) : T
   -- one message of each source, and it is the same
   pub once :
       (k : ℕ) → k < length speeches
-      → messages (speechAt speeches k .src) (run (start setup) (calls (nodeOf setup) speeches l)) ≡ handUp (speechAt speeches k) ∷ []
+      → messages (speechAt speeches k .src) (run (start setup) (calls (nodeOf setup) speeches l)) ≡ handUp (nodeOf setup) (speechAt speeches k) ∷ []
   pub once-in-turn :
       (k : ℕ) → k < length speeches
-      → messages (speechAt speeches k .src) (run (start setup) (calls (nodeOf setup) speeches (turns speeches l))) ≡ handUp (speechAt speeches k) ∷ []
+      → messages (speechAt speeches k .src) (run (start setup) (calls (nodeOf setup) speeches (turns speeches l))) ≡ handUp (nodeOf setup) (speechAt speeches k) ∷ []
 
 abbrev pub EndsAlike : Type 0
 EndsAlike =

@@ -19,6 +19,7 @@ use Rattle.network.specs.Sealing.{sealing}
 use Rattle.receiver.specs.declared.state.Receiver.{Receiver}
 use Rattle.receiver.specs.Good.{Good}
 use Rattle.sending.specs.Acknowledge.{chosen}
+use Rattle.sending.specs.Request.{dstOf}
 use Rattle.sending.specs.Segment.{elementOf}
 use Rattle.sending.specs.Transmission.{sendingIv, addressOf, nextSeq}
 use Rattle.demands.specs.Call.{Call, Hear, GiveUp, SendAccess, SendControl, SendSegment, Acknowledge, Stop, lentFor, step}
@@ -53,8 +54,8 @@ indexSent r Stop = 0
 abbrev pub addressee : Receiver → Call → ℕ
 addressee r (Hear pdu fwd msg) = 0
 addressee r (GiveUp src) = 0
-addressee r (SendAccess q key szmic payload buf) = q .dst
-addressee r (SendControl q opcode parameters buf) = q .dst
+addressee r (SendAccess q key szmic payload buf) = dstOf (r .node) (q .dst)
+addressee r (SendControl q opcode parameters buf) = dstOf (r .node) (q .dst)
 addressee r (SendSegment n buf) = r .out .terms .dst
 addressee r (Acknowledge net src buf) = src
 addressee r Stop = 0

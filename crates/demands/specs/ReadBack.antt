@@ -1,5 +1,6 @@
--- Demand 2: a message that one node sends in full, to a DST that is for a fresh node with the same keys and IV Index, that fresh node reads back byte for byte, if no key tried earlier
--- opens it too. The sender's own operations send it, whole or in segments, with any calls of the sender between; the fresh receiver's `hear` hears what was made of it in any order,
+-- Demand 2: a message that one node sends in full, to a DST that is for a fresh node with the same keys and IV Index, or to a label that it holds, that fresh node reads back byte for
+-- byte, if no network key tried earlier opens a PDU of it, and no pair tried earlier the message.
+-- The sender's own operations send it, whole or in segments, with any calls of the sender between; the fresh receiver's `hear` hears what was made of it in any order,
 -- repeated, passed on by relays, and mixed with PDUs that no key opens.
 --   sayCall q words buf           the call that sends a message
 --   madeOf sender q words buf l   the PDUs made of it, by that call and by the calls l behind it
@@ -20,11 +21,12 @@ use Rattle.network.specs.Opening.{opening}
 use Rattle.network.specs.Pdu.{pduOctets, pduOf}
 use Rattle.network.specs.Trial.{tried}
 use Rattle.transport.specs.declared.securing.MessageKey.the-variants.{Application, Device}
-use Rattle.transport.specs.Securing.{applicationKeyAt, fitsKey, openedBy}
+use Rattle.transport.specs.SecureOpen.{placeOf, pairAt}
+use Rattle.transport.specs.Securing.{isVirtual, opensMessage}
 use Rattle.transport.specs.Segment.{messageOctets}
 use Rattle.node.specs.declared.addresses.Node.{Node}
 use Rattle.node.specs.declared.setup.Setup.{Setup}
-use Rattle.node.specs.Addresses.{isLocal, forNode}
+use Rattle.node.specs.Addresses.{isLocal, forNode, heldBy}
 use Rattle.receiver.specs.declared.answer.Answer.the-variants as heard-answer
 use Rattle.receiver.specs.declared.answer.Refusal.the-variants.{Cached}
 use Rattle.receiver.specs.declared.fresh.Answer.the-variants.{Ready}
@@ -34,11 +36,12 @@ use Rattle.receiver.specs.Good.{Good}
 use Rattle.sending.specs.declared.answer.Answer.the-variants.{Sent, Started, Refused}
 use Rattle.sending.specs.declared.request.Request.{Request}
 use Rattle.sending.specs.Access.{isWhole}
+use Rattle.sending.specs.Request.{dstOf, additionalFor}
 use Rattle.sending.specs.Transmission.{sendingIv, addressOf, nextSeq}
 use Rattle.demands.specs.Call.{Call, Hear, GiveUp, SendAccess, SendControl, SendSegment, Acknowledge, Stop, Answer, Heard, Said, Ended, Outcome, step, run}
 use Rattle.demands.specs.Interleaved.{start, nodeOf, isLastMissing, Each, handed, isStored}
 use Rattle.demands.specs.Refusal.{noKeyOpens}
-use Rattle.demands.specs.Speech.{Words, Access, Control, Speech, envelopeOf, octetsOf, Handed, handUp, networkPlace, applicationPlace}
+use Rattle.demands.specs.Speech.{Words, Access, Control, Speech, envelopeOf, octetsOf, HoldsLabel, openerOf, Handed, handUp, networkPlace, applicationPlace}
 
 -- ---- the sender
 -- the call that sends a message
@@ -51,12 +54,13 @@ abbrev pub goesWhole : Words → Bool
 goesWhole (Access key szmic payload) = isWhole szmic (length payload)
 goesWhole (Control opcode parameters) = leb (length parameters) 11
 
--- what is said: the element speaks, with its next SEQ
+-- what is said, to the address or the label that the request names: the element speaks, with its next SEQ
 abbrev pub saidBy : Receiver → Request → Words → Speech
 saidBy sender q words =
     record {
       src = addressOf (sender .node) (q .element);
-      dst = q .dst;
+      dst = dstOf (sender .node) (q .dst);
+      label = additionalFor (sender .node) (q .dst);
       network = q .network;
       auth = record { iv = sendingIv (sender .node); seq = nextSeq sender (q .element) };
       words = words;
@@ -183,12 +187,11 @@ abbrev pub OwnKeyFirst : Node → Speech → List ℕ → Type 0
 OwnKeyFirst node s pdu =
     (j : ℕ) → j < s .network → keyAt (node .materials) j .nid ≡ keyAt (node .materials) (s .network) .nid → opens (node .materials) (s .auth .iv) pdu j ≡ false
 
--- nor an application key before its own the message
+-- nor a pair before its own the message
 abbrev pub OwnMessageFirst : Node → Speech → Words → Type 0
 OwnMessageFirst node s (Access (Application i) szmic payload) =
     (msg : List ℕ) (j : ℕ) → (let e = envelopeOf node s (Application i) szmic in
-    j < i → fitsKey e (applicationKeyAt (node .appkeys) j) ≡ true
-    → openedBy (applicationKeyAt (node .appkeys) j .key) e (octetsOf node s) msg .answer ≡ false)
+    j < placeOf (heldBy node) e (openerOf node s (Application i)) → opensMessage (heldBy node) e (octetsOf node s) msg (pairAt (heldBy node) e j) ≡ false)
 OwnMessageFirst node s (Access Device szmic payload) = Unit {0}
 OwnMessageFirst node s (Control opcode parameters) = Unit {0}
 
@@ -200,8 +203,10 @@ pub record Between (sender : Receiver) (setup : Setup) (q : Request) (words : Wo
   -- the element that speaks is another node's
   pub other-node : isLocal (nodeOf setup) (addressOf (sender .node) (q .element)) ≡ false
   -- DST, of 16 bits, is for the receiver
-  pub for-here : forNode (nodeOf setup) (q .dst) ≡ true
-  pub dst-fits : q .dst < 65536
+  pub for-here : forNode (nodeOf setup) (dstOf (sender .node) (q .dst)) ≡ true
+  pub dst-fits : dstOf (sender .node) (q .dst) < 65536
+  -- and where it is virtual, the receiver holds the label
+  pub holds-label : isVirtual (dstOf (sender .node) (q .dst)) ≡ true → HoldsLabel (nodeOf setup) (additionalFor (sender .node) (q .dst))
   pub own-message-first : OwnMessageFirst (nodeOf setup) (saidBy sender q words) words
 
 -- this PDU, as it was made or passed on, is the one at place i; no network key tried earlier opens it
@@ -231,12 +236,12 @@ pub record Telling (sender : Receiver) (setup : Setup) (q : Request) (words : Wo
 -- segment i of a message is heard, where these have come
 pub record Reads (node : Node) (s : Speech) (segN bits i : ℕ) (o : Outcome) : Type 0 where
   -- the message is handed up where this was the last segment that was missing, and nothing elsewhere
-  pub hands : handed o ≡ (if isLastMissing bits i segN then handUp s ∷ [] else [])
+  pub hands : handed o ≡ (if isLastMissing bits i segN then handUp node s ∷ [] else [])
   -- one that is new is stored where another is missing
   pub stores : hasBit bits i ≡ false → isLastMissing bits i segN ≡ false → isStored (o .answer) ≡ true
   -- a message that went whole is refused 5 when it comes again
   pub again : goesWhole (s .words) ≡ true → hasBit bits i ≡ true → o .answer ≡ Heard (heard-answer.Refused Cached)
-  -- network keys are tried up to the message's own, and application keys likewise where it is handed up
+  -- network keys are tried up to the message's own, and pairs likewise where it is handed up
   pub counts :
       o .tried ≡ record { network = networkPlace node s; application = if isLastMissing bits i segN then applicationPlace node s (s .words) else 0 }
 
@@ -264,7 +269,7 @@ pub record ReadInFull (setup : Setup) (s : Speech) (ps : List Piece) (segN : ℕ
   -- once each segment has come the message was handed up, once, and nothing else was
   pub once :
       ((i : ℕ) → i ≤ segN → brings ps i heard ≡ true)
-      → allHanded (run (start setup) (map (hearCall (nodeOf setup) s ps) heard)) ≡ handUp s ∷ []
+      → allHanded (run (start setup) (map (hearCall (nodeOf setup) s ps) heard)) ≡ handUp (nodeOf setup) s ∷ []
 
 abbrev pub ReadBack : Type 0
 ReadBack =

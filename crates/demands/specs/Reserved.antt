@@ -19,6 +19,7 @@ use Rattle.network.specs.Candidates.{keyAt}
 use Rattle.network.specs.Pdu.{pduOf}
 use Rattle.network.specs.Sealing.{lowered}
 use Rattle.node.specs.declared.setup.Setup.{Setup}
+use Rattle.node.specs.Made.{WellMade}
 use Rattle.receiver.specs.declared.answer.Answer.the-variants.{Refused}
 use Rattle.receiver.specs.declared.answer.Refusal.the-variants.{NotForNode}
 use Rattle.receiver.specs.declared.fresh.Answer.the-variants.{Ready}
@@ -28,6 +29,7 @@ use Rattle.receiver.specs.Good.{Good}
 use Rattle.receiver.specs.Hearing.{hearing}
 use Rattle.receiver.specs.Passing.{Passes}
 use Rattle.sending.specs.declared.request.Request.{Request}
+use Rattle.sending.specs.Request.{dstOf, toAddress}
 use Rattle.demands.specs.Call.{Call, step, after}
 use Rattle.demands.specs.NeverTwice.{addressee}
 use Rattle.demands.specs.ReadBack.{sayCall}
@@ -58,7 +60,10 @@ NoneListened = (s : Setup) → settingUp s .answer ≡ Ready → (i : ℕ) → i
 
 -- ---- sent to
 abbrev pub NoneAsked : Type 0
-NoneAsked = (r : Receiver) (q : Request) (words : Words) (buf : List ℕ) → step r (sayCall q words buf) .made ≡ true → isReserved (q .dst) ≡ false
+NoneAsked =
+    (r : Receiver) (q : Request) (words : Words) (buf : List ℕ)
+    -- a label's address is derived from it where setup made the node
+    → (toAddress (q .dst) ≡ false → WellMade (r .node)) → step r (sayCall q words buf) .made ≡ true → isReserved (dstOf (r .node) (q .dst)) ≡ false
 
 -- after any calls; that the PDU which a call makes has its addressee as DST is `Carried`
 abbrev pub NoneSentTo : Type 0

@@ -5,30 +5,35 @@
 --   segmentOf node s i     the transport PDU of segment i
 --   headerOf node s i n t  its header, sent with sequence number n and arriving with TTL t
 --   Speakable node s       a speech that this node is to read
---   handUp s               what is handed up of it
---   networkPlace, applicationPlace    how many keys are tried for it
--- Keys are named by their places in the receiver's own lists.
+--   handUp node s          what is handed up of it
+--   networkPlace, applicationPlace    how many keys and pairs are tried for it
+-- Keys are named by their places in the receiver's own lists; a label by its octets, and by its place where it is answered.
 use mathlib.Core.Bool.{Bool, true, false}
-use mathlib.Core.List.{List}
+use mathlib.Core.List.{List, []}
 use mathlib.Core.Logic.{_⊎_}
 use mathlib.Core.Path.{_≡_}
 use Prim.Native.Nat.{ℕ, _+_, _%_, _≤_, _<_, min}
 use lib.ListN.{length}
-use Rattle.common.specs.Lists.{padded}
+use Rattle.common.specs.Choice.{if_then_else_}
+use Rattle.common.specs.Lists.{padded, same}
+use Rattle.common.specs.Search.{first}
 use Rattle.network.specs.declared.header.Header.{Header}
 use Rattle.network.specs.Address.{isUnicast}
 use Rattle.network.specs.Candidates.{networkKeyPlaces, keyAt, candidates}
 use Rattle.network.specs.Pdu.{pduOf}
 use Rattle.transport.specs.declared.securing.Envelope.{Envelope}
+use Rattle.transport.specs.declared.securing.LabelUuid.{LabelUuid}
 use Rattle.transport.specs.declared.securing.MessageKey.{MessageKey}
 use Rattle.transport.specs.declared.securing.MessageKey.the-variants.{Application, Device}
+use Rattle.transport.specs.declared.securing.Opener.{Opener}
+use Rattle.transport.specs.declared.securing.Opener.the-variants as opener
 use Rattle.transport.specs.Ranges.{OpcodeInRange}
 use Rattle.transport.specs.SecureOpen as message
-use Rattle.transport.specs.Securing.{secured, applicationKeyAt, applicationCandidates}
+use Rattle.transport.specs.Securing.{labelPlaces, secured, applicationKeyAt, isVirtual}
 use Rattle.transport.specs.Segment.{messageOctets, accessOctet, controlOctet, fullOctets, lastSegment, segmentAt}
 use Rattle.memory.specs.declared.pair.Pair.{Pair}
 use Rattle.node.specs.declared.addresses.Node.{Node}
-use Rattle.node.specs.Addresses.{forNode}
+use Rattle.node.specs.Addresses.{forNode, heldBy}
 use Rattle.receiver.specs.declared.answer.Answer.{Answer}
 use Rattle.receiver.specs.declared.answer.Answer.the-variants as answer
 
@@ -41,6 +46,8 @@ pub data Words : Type 0 where
 pub record Speech : Type 0 where
   pub src : ℕ
   pub dst : ℕ
+  -- the label that it is said to, sixteen octets; none where DST is not virtual
+  pub label : List ℕ
   -- the network key, one for all its segments
   pub network : ℕ
   -- SeqAuth: the IV Index, and the sequence number of segment 0
@@ -90,7 +97,7 @@ envelopeOf node s key szmic =
 
 -- an access message is secured; a control message goes as it is
 abbrev pub cutOf : Node → Speech → Words → List ℕ
-cutOf node s (Access key szmic payload) = secured (keyOf node key) (envelopeOf node s key szmic) payload
+cutOf node s (Access key szmic payload) = secured (keyOf node key) (envelopeOf node s key szmic) (s .label) payload
 cutOf node s (Control opcode parameters) = parameters
 
 unfoldable pub octetsOf : Node → Speech → List ℕ
@@ -133,15 +140,35 @@ pub record Fits (payload cut : List ℕ) (most : ℕ) : Type 0 where
   pub some : 1 ≤ length payload
   pub enough : length cut ≤ most
 
--- a secured message has 384 octets at most. Its application key is held, of its AID and bound to the network key, and no key tried earlier opens the message; the
--- device key needs a unicast DST. A control message has 256 octets at most, and an opcode of 0x01-0x7F.
+-- the place of a label among those that a node holds: the first with its octets
+unfoldable pub labelPlace : Node → List ℕ → ℕ
+labelPlace node label = first (λ (l : LabelUuid). same (l .octets) label) (node .labels)
+
+-- a label of sixteen octets that a node holds
+pub record HoldsLabel (node : Node) (label : List ℕ) : Type 0 where
+  pub sixteen : length label ≡ 16
+  pub held : labelPlace node label < min (node .labelled) labelPlaces
+
+-- what opens a message under a key: for a virtual DST the key with the label, for any other the key alone
+abbrev pub openerOf : Node → Speech → MessageKey → Opener
+openerOf node s (Application i) = if isVirtual (s .dst) then opener.Labelled i (labelPlace node (s .label)) else opener.Application i
+openerOf node s Device = opener.Device
+
+-- a virtual DST has a label that is held, and any other none
+pub record LabelRead (node : Node) (s : Speech) : Type 0 where
+  pub virtual : isVirtual (s .dst) ≡ true → HoldsLabel node (s .label)
+  pub other : isVirtual (s .dst) ≡ false → s .label ≡ []
+
+-- a secured message has 384 octets at most. Its application key is held, of its AID and bound to the network key, and so is the label that it is said to, and no pair tried
+-- earlier opens the message; the device key needs a unicast DST. A control message has 256 octets at most, an opcode of 0x01-0x7F, and no virtual DST.
 abbrev pub WordsRead : Node → Speech → Words → Type 0
 WordsRead node s (Access (Application i) szmic payload) =
     Fits payload (octetsOf node s) messageOctets
     × ((msg : List ℕ) → messageOctets ≤ length msg
-    → message.Receives (node .appkeys) (node .applications) i (envelopeOf node s (Application i) szmic) (octetsOf node s) msg)
-WordsRead node s (Access Device szmic payload) = Fits payload (octetsOf node s) messageOctets × (isUnicast (s .dst) ≡ true)
-WordsRead node s (Control opcode parameters) = Fits parameters parameters 256 × OpcodeInRange opcode
+    → message.Receives (heldBy node) (openerOf node s (Application i)) (envelopeOf node s (Application i) szmic) (octetsOf node s) msg)
+    × LabelRead node s
+WordsRead node s (Access Device szmic payload) = Fits payload (octetsOf node s) messageOctets × (isUnicast (s .dst) ≡ true) × (s .label ≡ [])
+WordsRead node s (Control opcode parameters) = Fits parameters parameters 256 × OpcodeInRange opcode × (isVirtual (s .dst) ≡ false)
 
 pub record Speakable (node : Node) (s : Speech) : Type 0 where
   pub from-unicast : isUnicast (s .src) ≡ true
@@ -158,22 +185,22 @@ pub record Handed : Type 0 where
   pub answer : Answer
   pub octets : List ℕ
 
-abbrev pub handUpAs : Speech → Words → Handed
-handUpAs s (Access key szmic payload) =
-    record { answer = answer.Access (s .src) (s .dst) (s .network) key (s .auth) (length payload); octets = payload }
-handUpAs s (Control opcode parameters) =
+abbrev pub handUpAs : Node → Speech → Words → Handed
+handUpAs node s (Access key szmic payload) =
+    record { answer = answer.Access (s .src) (s .dst) (s .network) (openerOf node s key) (s .auth) (length payload); octets = payload }
+handUpAs node s (Control opcode parameters) =
     record { answer = answer.Control (s .src) (s .dst) (s .network) opcode (s .auth) (length parameters); octets = parameters }
 
-abbrev pub handUp : Speech → Handed
-handUp s = handUpAs s (s .words)
+abbrev pub handUp : Node → Speech → Handed
+handUp node s = handUpAs node s (s .words)
 
--- ---- how many keys are tried
+-- ---- how many keys and pairs are tried
 -- the place, from 1, of the message's network key among those with its NID
 abbrev pub networkPlace : Node → Speech → ℕ
 networkPlace node s = length (candidates (node .materials) (s .network) (keyAt (node .materials) (s .network) .nid)) + 1
 
--- that of its application key among those that fit; the device key is not counted, and a control message has none
+-- that of its application key, with the label or alone, among the pairs; the device key is not counted, and a control message has none
 abbrev pub applicationPlace : Node → Speech → Words → ℕ
-applicationPlace node s (Access (Application i) szmic payload) = length (applicationCandidates (node .appkeys) i (envelopeOf node s (Application i) szmic)) + 1
+applicationPlace node s (Access (Application i) szmic payload) = message.placeOf (heldBy node) (envelopeOf node s (Application i) szmic) (openerOf node s (Application i)) + 1
 applicationPlace node s (Access Device szmic payload) = 0
 applicationPlace node s (Control opcode parameters) = 0
