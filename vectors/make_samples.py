@@ -21,8 +21,9 @@ MOST = 65536
 # Lines that are no request, by what is wrong with them.
 UNREAD = (
     ("the word", ("", " ", "aes", "k3 {key}", "AES {key} {block}", "aes128 {key} {block}", " aes {key} {block}", "\taes {key} {block}")),
-    ("a field too few", ("aes {key}", "aes {key} ", "cmac {key}", "cmac {key} ", "seal {key} {nonce} 4", "open {key} {nonce} 4", "s1", "k2", "k4 ")),
-    ("a field too many", ("aes {key} {block} 00", "aes {key} {block} ", "cmac {key} - -", "s1 00 00", "k2 {key} 00", "k4 {key} -")),
+    ("a field too few", ("aes {key}", "aes {key} ", "cmac {key}", "cmac {key} ", "seal {key} {nonce} 4", "open {key} {nonce} 4", "s1", "k2", "k4 ",
+                         "sealwith {key} {nonce} 4 00", "openwith {key} {nonce} 4 {block}")),
+    ("a field too many", ("aes {key} {block} 00", "aes {key} {block} ", "cmac {key} - -", "s1 00 00", "k2 {key} 00", "k4 {key} -", "sealwith {key} {nonce} 4 - 00 00")),
     ("not one space between fields", ("aes  {key} {block}", "aes {key}  {block}", "aes {key}\t{block}", "aes {key} {block}\r")),
     ("a key, block or nonce of a wrong length", (
         "aes {key}00 {block}", "aes 00 {block}", "aes - {block}", "aes {key} {block}00", "aes {key} 00", "aes {key} -", "cmac 00 -",
@@ -30,9 +31,11 @@ UNREAD = (
         "k2 {key}00", "k2 00", "k4 -")),
     ("a MIC of neither 4 nor 8 octets", (
         "seal {key} {nonce} 0 00", "seal {key} {nonce} 6 00", "seal {key} {nonce} 16 00", "open {key} {nonce} 44 {block}",
-        "open {key} {nonce} - {block}", "open {key} {nonce} 04 {block}")),
+        "open {key} {nonce} - {block}", "open {key} {nonce} 04 {block}", "sealwith {key} {nonce} 6 00 00", "openwith {key} {nonce} - 00 {block}")),
     ("not hex, or half an octet", tuple("s1 " + text for text in ("0", "000", "0g", "g0", "0x00", "/0", ":0", "@0", "`0", "G0", "é", "--", "-00"))),
-    ("more octets than are read", ("s1 {most}00", "cmac {key} {most}00", "seal {key} {nonce} 8 {most}00", "open {key} {nonce} 8 {whole}00")),
+    ("more octets than are read", (
+        "s1 {most}00", "cmac {key} {most}00", "seal {key} {nonce} 8 {most}00", "open {key} {nonce} 8 {whole}00",
+        "sealwith {key} {nonce} 8 {most}00 00", "sealwith {key} {nonce} 8 00 {most}00", "openwith {key} {nonce} 8 00 {whole}00")),
 )
 # What netseal refuses, from CTL on, by what is wrong with it.
 REFUSED = (
@@ -115,14 +118,21 @@ def shifted(index, step):
 
 
 def add_ciphers(samples, ciphers):
-    """AES and CMAC, as FIPS 197 and RFC 4493 print them."""
+    """AES, CMAC and CCM, as FIPS 197, RFC 4493 and RFC 3610 print them."""
     for v in ciphers["aes"]:
         samples.say(f"{v['document']}, {v['section']}: {v['name']}")
         samples.ask(f"aes {v['key']} {v['block']}", v["out"])
     for v in ciphers["cmac"]:
         samples.say(f"{v['document']}, {v['section']}: {v['name']}")
         samples.ask(f"cmac {v['key']} {field(v['message'])}", v["out"])
-    samples.say("RFC 3610, section 8: left out, all of its packet vectors have additional data, and our CCM takes none")
+    for v in ciphers["ccm"]:
+        terms = f"{v['key']} {v['nonce']} 8"
+        samples.say(f"{v['document']}, {v['section']}: {v['name']}; with one bit changed in the additional data; with none")
+        samples.ask(f"sealwith {terms} {v['additional']} {v['message']}", v["out"])
+        samples.ask(f"openwith {terms} {v['additional']} {v['out']}", v["message"])
+        samples.ask(f"openwith {terms} {flipped(v['additional'], -1)} {v['out']}", "refused")
+        samples.ask(f"open {terms} {v['out']}", "refused")
+    samples.say("RFC 3610, section 8: packet vectors 7 to 12 and 19 to 24 left out, their MIC has ten octets")
 
 
 def add_function(samples, v):
@@ -141,16 +151,22 @@ def add_function(samples, v):
         samples.say(f"{title}: left out, no request derives it")
 
 
-def add_ccm(samples, title, key, nonce, size, clear, sealed):
-    """One sealed message both ways, and damaged: each time in one bit, of the cipher text, the MIC, the nonce or the key."""
+def add_ccm(samples, title, key, nonce, size, clear, sealed, additional=""):
+    """One sealed message both ways, and damaged: each time in one bit, of the cipher text, the MIC, the nonce, the key or the additional data."""
+    kind, octets = ("with", additional + " ") if additional else ("", "")
     samples.say(title)
-    samples.ask(f"seal {key} {nonce} {size} {field(clear)}", sealed)
-    samples.ask(f"open {key} {nonce} {size} {sealed}", field(clear))
+    samples.ask(f"seal{kind} {key} {nonce} {size} {octets}{field(clear)}", sealed)
+    samples.ask(f"open{kind} {key} {nonce} {size} {octets}{sealed}", field(clear))
     samples.say(f"{title}: with one bit changed in the cipher text, the MIC (twice), the nonce, the key")
     for changed in (flipped(sealed, 0), flipped(sealed, -8 * size), flipped(sealed, -1)):
-        samples.ask(f"open {key} {nonce} {size} {changed}", "refused")
-    samples.ask(f"open {key} {flipped(nonce, 23)} {size} {sealed}", "refused")
-    samples.ask(f"open {flipped(key, 64)} {nonce} {size} {sealed}", "refused")
+        samples.ask(f"open{kind} {key} {nonce} {size} {octets}{changed}", "refused")
+    samples.ask(f"open{kind} {key} {flipped(nonce, 23)} {size} {octets}{sealed}", "refused")
+    samples.ask(f"open{kind} {flipped(key, 64)} {nonce} {size} {octets}{sealed}", "refused")
+    if additional:
+        samples.say(f"{title}: with one bit changed in the additional data (twice); with none")
+        for changed in (flipped(additional, 0), flipped(additional, -1)):
+            samples.ask(f"openwith {key} {nonce} {size} {changed} {sealed}", "refused")
+        samples.ask(f"open {key} {nonce} {size} {sealed}", "refused")
 
 
 def add_network(samples, m, pdu):
@@ -190,20 +206,17 @@ def add_pdu(samples, m, pdu):
 
 
 def add_upper(samples, m):
-    """The upper transport layer of an access message (MP 3.8.5.2, 3.8.5.3, 3.8.7.1): the access payload under an application or device key."""
+    """The upper transport layer of an access message (MP 3.8.5.2, 3.8.5.3, 3.8.7.1): the access payload under an application or device key, to a label with its octets."""
     title = f"MP {m['section']}: {m['name']}, upper transport layer"
     nonce = f"{'01' if m['akf'] else '02'}{'80' if m['szmic'] else '00'}{m['app_seq']}{m['src']}{m['dst']}{m['iv_index']}"
     expect(nonce == m["app_or_dev_nonce"], f"{title}: the nonce")
-    if "label_uuid" in m:
-        samples.say(f"{title}: left out, to a virtual address it has the Label UUID as additional data, and our CCM takes none")
-        return
     size = 8 if m["szmic"] else 4
     sealed = m["encrypted_access_payload"] + m["trans_mic"]
     header = 8 if m["seg"] else 2
     parts = "".join(pdu["lower_transport_pdu"][header:] for pdu in m["pdus"])
     expect(len(m["trans_mic"]) == 2 * size, f"{title}: the size of the MIC")
     expect(parts == sealed, f"{title}: what the lower transport PDUs carry")
-    add_ccm(samples, title, m["app_key"] if m["akf"] else m["dev_key"], nonce, size, m["access_payload"], sealed)
+    add_ccm(samples, title, m["app_key"] if m["akf"] else m["dev_key"], nonce, size, m["access_payload"], sealed, m.get("label_uuid", ""))
 
 
 def add_message(samples, m):

@@ -1,7 +1,7 @@
 """What the program `spoken` is to write, from mp_samples.json: MP's messages as one of our nodes sends them, or hears them.
 
 make_samples.py writes it to crates/spoken/stdout. The PDUs are those that MP prints. The words beside them follow from their fields: which
-segments came, what an acknowledgement marks, and refusal 14 for a virtual DST (document 01).
+segments came, what an acknowledgement marks, and refusal 14 for a virtual DST that is given as a number (document 02, W8).
 """
 
 
@@ -66,7 +66,8 @@ def spoken(messages):
     lines += [f"# IV Index {int(index, 16) + 1:08x}, in an update"] + exchange
     for m in messages:
         if "label_uuid" in m:
-            lines += [f"{title_of(m)}, to a virtual address, which sending refuses", "refused 14"]
+            lines += [f"{title_of(m)}, to a label"] + sent_of(m)
+            lines += [f"{title_of(m)}, to the label's address, which sending refuses", "refused 14"]
     segmented = [m for m in ours if m["seg"]]
     lines += acknowledged(segmented[0], segmented[1], [m for m in ours if m["section"] in heard])
     foreign = [m["name"].split()[1] for m in messages if m["credentials"] == "friendship"]

@@ -10,8 +10,8 @@ use Rattle.common.specs.Paper.{numberOf}
 use Rattle.memory.specs.declared.outgoing.Effect.{Effect}
 use Rattle.memory.specs.declared.outgoing.Effect.the-variants as effect
 use Rattle.memory.specs.declared.pair.Pair.{Pair}
-use Rattle.transport.specs.declared.securing.MessageKey.{MessageKey}
-use Rattle.transport.specs.declared.securing.MessageKey.the-variants.{Application, Device}
+use Rattle.transport.specs.declared.securing.Opener.{Opener}
+use Rattle.transport.specs.declared.securing.Opener.the-variants.{Application, Labelled, Device}
 use Rattle.transport.specs.declared.vetting.Vetted.{Vetted}
 use Rattle.transport.specs.declared.vetting.Vetted.the-variants as vetted
 use Rattle.transport.specs.Vetting as vetting
@@ -35,17 +35,24 @@ use Rattle.text.specs.Refusal.{refusalText, refusedText}
 use Rattle.text.specs.Written.{putting}
 use Rattle.text.proofs.WrittenLaws.{put-then}
 use Rattle.answers.specs.declared.answer.Trials.{Trials}
-use Rattle.answers.specs.Answer.{named, trialsText, segmentsText, keyText, messageText, effectText, accessText, controlText}
+use Rattle.answers.specs.Answer.{named, trialsText, segmentsText, keysText, openerText, messageText, effectText, accessText, controlText}
 use Rattle.answers.specs.Answer.{acknowledgementText, heardText, forwardText, spokenText, givenUpText, setUpText, vettedText, notedText}
 
 module _ (out : List ℕ) (at r : ℕ) (o : List ℕ) where
-  -- ---- the key of an access message
-  module _ (key : MessageKey) where
-    pub key-application : (i : ℕ) → key ≡ Application i → lent r o ≡ putting (named " key " 1 i) out at → lent r o ≡ putting (keyText key) out at
-    key-application i k e = rw k e
+  -- ---- what opened an access message
+  module _ (network : ℕ) (opener : Opener) where
+    pub opener-application :
+        (key : ℕ) → opener ≡ Application key → lent r o ≡ putting (keysText network key) out at → lent r o ≡ putting (openerText network opener) out at
+    opener-application key k e = rw k e
 
-    pub key-device : key ≡ Device → lent r o ≡ putting (octets " key dev") out at → lent r o ≡ putting (keyText key) out at
-    key-device k e = rw k e
+    pub opener-labelled :
+        (key label : ℕ) → opener ≡ Labelled key label → lent r o ≡ putting (named " label " 1 label ++ keysText network key) out at
+        → lent r o ≡ putting (openerText network opener) out at
+    opener-labelled key label k e = rw k e
+
+    pub opener-device :
+        opener ≡ Device → lent r o ≡ putting (named " net " 1 network ++ octets " key dev") out at → lent r o ≡ putting (openerText network opener) out at
+    opener-device k e = rw k e
 
   -- ---- what an acknowledgement does
   module _ (f : Effect) where
@@ -193,11 +200,11 @@ module _ (out : List ℕ) (at r : ℕ) (o : List ℕ) where
   -- a message: its front is put, and the rest behind it
   module _ (a : Answer) (t : Trials) (message : List ℕ) (r1 : ℕ) (o1 : List ℕ) where
     pub heard-access :
-        (src dst network : ℕ) (key : MessageKey) (pair : Pair) (len : ℕ) (s : List ℕ) → a ≡ Access src dst network key pair len → s ≡ take len message
-        → lent r1 o1 ≡ putting (accessText src dst network key) out at → lent r o ≡ putting (messageText pair t s) o1 r1
+        (src dst network : ℕ) (opener : Opener) (pair : Pair) (len : ℕ) (s : List ℕ) → a ≡ Access src dst network opener pair len → s ≡ take len message
+        → lent r1 o1 ≡ putting (accessText src dst network opener) out at → lent r o ≡ putting (messageText pair t s) o1 r1
         → lent r o ≡ putting (heardText a t message) out at
     unfolding heardText
-    heard-access src dst network key pair len s k h e f = rw (k, ← h) (put-then _ _ out at r1 r o1 o e f)
+    heard-access src dst network opener pair len s k h e f = rw (k, ← h) (put-then _ _ out at r1 r o1 o e f)
 
     pub heard-control :
         (src dst network opcode : ℕ) (pair : Pair) (len : ℕ) (s : List ℕ) → a ≡ Control src dst network opcode pair len → s ≡ take len message
@@ -206,7 +213,7 @@ module _ (out : List ℕ) (at r : ℕ) (o : List ℕ) where
     unfolding heardText
     heard-control src dst network opcode pair len s k h e f = rw (k, ← h) (put-then _ _ out at r1 r o1 o e f)
 
-pub ruleset key-rules = (key-application, key-device)
+pub ruleset opener-rules = (opener-application, opener-labelled, opener-device)
 
 pub ruleset effect-rules = (effect-nothing, effect-marked, effect-complete, effect-cancelled)
 

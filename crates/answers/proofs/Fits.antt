@@ -22,8 +22,8 @@ use Rattle.memory.specs.declared.session.Session.{Session}
 use Rattle.memory.specs.Cache.{cacheEntries, oldestFirst}
 use Rattle.memory.specs.Replay.{replayEntries}
 use Rattle.memory.specs.Session.{sessionSlots, isFree}
-use Rattle.transport.specs.declared.securing.MessageKey.{MessageKey}
-use Rattle.transport.specs.declared.securing.MessageKey.the-variants.{Application, Device}
+use Rattle.transport.specs.declared.securing.Opener.{Opener}
+use Rattle.transport.specs.declared.securing.Opener.the-variants.{Application, Labelled, Device}
 use Rattle.transport.specs.declared.vetting.Vetted.the-variants as vetted
 use Rattle.transport.specs.Segment.{messageOctets}
 use Rattle.node.specs.Addresses.{elementPlaces}
@@ -38,7 +38,7 @@ use Rattle.text.specs.Octets.{octets}
 use Rattle.text.specs.Hex.{hexText}
 use Rattle.text.specs.Refusal.{refusalText, refusedText}
 use Rattle.answers.specs.declared.answer.Trials.{Trials}
-use Rattle.answers.specs.Answer.{named, trialsText, pairText, segmentsText, routeText, keyText, messageText, effectText, accessText}
+use Rattle.answers.specs.Answer.{named, trialsText, pairText, segmentsText, routeText, keysText, openerText, messageText, effectText, accessText}
 use Rattle.answers.specs.Answer.{controlText, acknowledgementText, heardText, forwardText, spokenText, givenUpText, setUpText, vettedText, notedText}
 use Rattle.answers.specs.Looking.{nextText, seenText, cacheText, lastText, entryText, sessionText, heardSoFar, sendingText, receiverText}
 use Rattle.answers.specs.Fits.{FitsWhole, HeardFits, SpokenFits, GivenUpFits, SetUpFits, VettedFits, NotedFits, ReceiverFits}
@@ -64,12 +64,16 @@ pair-most p label = both (named-most " iv " 8 (p .iv)) (both (label-most label) 
 segments-most : (src : ℕ) (auth : Pair) (bits : ℕ) → AtMost 89 (segmentsText src auth bits)
 segments-most src auth bits = both (named-most " src " 4 src) (both (pair-most auth " auth ") (named-most " bits " 8 bits))
 
-route-most : (src dst network : ℕ) → AtMost 66 (routeText src dst network)
-route-most src dst network = both (named-most " src " 4 src) (both (named-most " dst " 4 dst) (named-most " net " 1 network))
+route-most : (src dst : ℕ) → AtMost 44 (routeText src dst)
+route-most src dst = both (named-most " src " 4 src) (named-most " dst " 4 dst)
 
-key-most : (key : MessageKey) → AtMost 22 (keyText key)
-key-most (Application i) = named-most " key " 1 i
-key-most Device = wider (label-most " key dev") (omega arith)
+keys-most : (network key : ℕ) → AtMost 44 (keysText network key)
+keys-most network key = both (named-most " net " 1 network) (named-most " key " 1 key)
+
+opener-most : (network : ℕ) (opener : Opener) → AtMost 68 (openerText network opener)
+opener-most network (Application key) = wider (keys-most network key) (omega arith)
+opener-most network (Labelled key label) = both (named-most " label " 1 label) (keys-most network key)
+opener-most network Device = wider (both (named-most " net " 1 network) (label-most " key dev")) (omega arith)
 
 -- the first octets of a buffer of 384
 buffer-most : (len : ℕ) (buffer : List ℕ) → length buffer ≤ messageOctets → AtMost 769 (hexText (take len buffer))
@@ -85,24 +89,24 @@ effect-most effect.Marked = wider (label-most " marked") (omega arith)
 effect-most effect.Completed = wider (label-most " complete") (omega arith)
 effect-most effect.Cancelled = label-most " cancelled"
 
-access-most : (src dst network : ℕ) (key : MessageKey) → AtMost 94 (accessText src dst network key)
-access-most src dst network key = both (label-most "access") (both (route-most src dst network) (key-most key))
+access-most : (src dst network : ℕ) (opener : Opener) → AtMost 118 (accessText src dst network opener)
+access-most src dst network opener = both (label-most "access") (both (route-most src dst) (opener-most network opener))
 
 control-most : (src dst network opcode : ℕ) → AtMost 98 (controlText src dst network opcode)
-control-most src dst network opcode = both (label-most "control") (both (route-most src dst network) (named-most " opcode " 1 opcode))
+control-most src dst network opcode = both (label-most "control") (both (route-most src dst) (both (named-most " net " 1 network) (named-most " opcode " 1 opcode)))
 
 acknowledgement-most : (src bits : ℕ) (e : Effect) (t : Trials) → AtMost 113 (acknowledgementText src bits e t)
 acknowledgement-most src bits e t =
     both (named-most "acknowledgement src " 4 src) (both (named-most " bits " 8 bits) (both (effect-most e) (trials-most t)))
 
 -- ---- the answers
-heard-most : (a : Answer) (t : Trials) (message : List ℕ) → length message ≤ messageOctets → AtMost 962 (heardText a t message)
+heard-most : (a : Answer) (t : Trials) (message : List ℕ) → length message ≤ messageOctets → AtMost 982 (heardText a t message)
 unfolding heardText
 heard-most (Refused refusal) t message h = wider (both (refusal-most (refusalNumber refusal)) (trials-most t)) (omega arith)
 heard-most (Stored src auth bits) t message h = wider (both (label-most "stored") (both (segments-most src auth bits) (trials-most t))) (omega arith)
 heard-most (Repeated src auth bits) t message h = wider (both (label-most "repeat") (both (segments-most src auth bits) (trials-most t))) (omega arith)
-heard-most (Access src dst network key pair len) t message h = wider (both (access-most src dst network key) (message-most pair t len message h)) (omega arith)
-heard-most (Control src dst network opcode pair len) t message h = both (control-most src dst network opcode) (message-most pair t len message h)
+heard-most (Access src dst network opener pair len) t message h = both (access-most src dst network opener) (message-most pair t len message h)
+heard-most (Control src dst network opcode pair len) t message h = wider (both (control-most src dst network opcode) (message-most pair t len message h)) (omega arith)
 heard-most (Acknowledgement src bits e) t message h = wider (acknowledgement-most src bits e t) (omega arith)
 
 forward-most : (pdu : List ℕ) → length pdu ≤ messageOctets → AtMost 779 (forwardText pdu)

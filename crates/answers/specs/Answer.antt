@@ -14,8 +14,8 @@ use Rattle.common.specs.Paper.{numberOf}
 use Rattle.memory.specs.declared.outgoing.Effect.{Effect}
 use Rattle.memory.specs.declared.outgoing.Effect.the-variants as effect
 use Rattle.memory.specs.declared.pair.Pair.{Pair}
-use Rattle.transport.specs.declared.securing.MessageKey.{MessageKey}
-use Rattle.transport.specs.declared.securing.MessageKey.the-variants.{Application, Device}
+use Rattle.transport.specs.declared.securing.Opener.{Opener}
+use Rattle.transport.specs.declared.securing.Opener.the-variants.{Application, Labelled, Device}
 use Rattle.transport.specs.declared.vetting.Vetted.{Vetted}
 use Rattle.transport.specs.declared.vetting.Vetted.the-variants as vetted
 use Rattle.transport.specs.Vetting as vetting
@@ -52,12 +52,18 @@ pairText p label = named " iv " 8 (p .iv) ++ (label ++ numberText 6 (p .seq))
 abbrev pub segmentsText : ℕ → Pair → ℕ → List ℕ
 segmentsText src auth bits = named " src " 4 src ++ (pairText auth (octets " auth ") ++ named " bits " 8 bits)
 
-abbrev pub routeText : ℕ → ℕ → ℕ → List ℕ
-routeText src dst network = named " src " 4 src ++ (named " dst " 4 dst ++ named " net " 1 network)
+abbrev pub routeText : ℕ → ℕ → List ℕ
+routeText src dst = named " src " 4 src ++ named " dst " 4 dst
 
-abbrev pub keyText : MessageKey → List ℕ
-keyText (Application i) = named " key " 1 i
-keyText Device = octets " key dev"
+-- the network key, and the application key
+abbrev pub keysText : ℕ → ℕ → List ℕ
+keysText network key = named " net " 1 network ++ named " key " 1 key
+
+-- the network key, and what opened the message: the label by its place stands before both keys
+abbrev pub openerText : ℕ → Opener → List ℕ
+openerText network (Application key) = keysText network key
+openerText network (Labelled key label) = named " label " 1 label ++ keysText network key
+openerText network Device = named " net " 1 network ++ octets " key dev"
 
 abbrev pub messageText : Pair → Trials → List ℕ → List ℕ
 messageText p t message = pairText p (octets " seq ") ++ (trialsText t ++ (octets " message " ++ hexText message))
@@ -68,11 +74,11 @@ effectText effect.Marked = octets " marked"
 effectText effect.Completed = octets " complete"
 effectText effect.Cancelled = octets " cancelled"
 
-abbrev pub accessText : ℕ → ℕ → ℕ → MessageKey → List ℕ
-accessText src dst network key = octets "access" ++ (routeText src dst network ++ keyText key)
+abbrev pub accessText : ℕ → ℕ → ℕ → Opener → List ℕ
+accessText src dst network opener = octets "access" ++ (routeText src dst ++ openerText network opener)
 
 abbrev pub controlText : ℕ → ℕ → ℕ → ℕ → List ℕ
-controlText src dst network opcode = octets "control" ++ (routeText src dst network ++ named " opcode " 1 opcode)
+controlText src dst network opcode = octets "control" ++ (routeText src dst ++ (named " net " 1 network ++ named " opcode " 1 opcode))
 
 abbrev pub acknowledgementText : ℕ → ℕ → Effect → Trials → List ℕ
 acknowledgementText src bits effect t = named "acknowledgement src " 4 src ++ (named " bits " 8 bits ++ (effectText effect ++ trialsText t))
@@ -82,7 +88,7 @@ unfoldable pub heardText : Answer → Trials → List ℕ → List ℕ
 heardText (Refused refusal) t message = refusalText (refusalNumber refusal) ++ trialsText t
 heardText (Stored src auth bits) t message = octets "stored" ++ (segmentsText src auth bits ++ trialsText t)
 heardText (Repeated src auth bits) t message = octets "repeat" ++ (segmentsText src auth bits ++ trialsText t)
-heardText (Access src dst network key pair len) t message = accessText src dst network key ++ messageText pair t (take len message)
+heardText (Access src dst network opener pair len) t message = accessText src dst network opener ++ messageText pair t (take len message)
 heardText (Control src dst network opcode pair len) t message = controlText src dst network opcode ++ messageText pair t (take len message)
 heardText (Acknowledgement src bits effect) t message = acknowledgementText src bits effect t
 

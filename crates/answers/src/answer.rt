@@ -11,7 +11,7 @@ use sensor::properties::Answer as Naming;
 use text::hex;
 use text::number;
 use text::refusal;
-use transport::securing::MessageKey;
+use transport::securing::Opener;
 use transport::vetting;
 use transport::vetting::Vetted;
 ghost use mathlib.Core.Path.{_≡_};
@@ -22,7 +22,7 @@ ghost use Rattle.text.specs.Octets.{octets};
 ghost use Rattle.text.specs.Hex.{hexText};
 ghost use Rattle.text.specs.Refusal.{refusalText};
 ghost use Rattle.text.specs.Written.{putting};
-ghost use Rattle.answers.specs.Answer.{named, trialsText, pairText, segmentsText, routeText, keyText, messageText, effectText, accessText, controlText, acknowledgementText, heardText, forwardText, spokenText, givenUpText, setUpText, vettedText, notedText};
+ghost use Rattle.answers.specs.Answer.{named, trialsText, pairText, segmentsText, routeText, keysText, openerText, messageText, effectText, accessText, controlText, acknowledgementText, heardText, forwardText, spokenText, givenUpText, setUpText, vettedText, notedText};
 
 // How many network keys and application keys were tried.
 pub struct Trials {
@@ -55,22 +55,36 @@ pub(crate) fn put_segments(src: u16, auth: Pair, bits: u32, out: &mut [u8], at: 
     number::put(b" bits ", bits as u64, 8, out, pair)
 }
 
-// ` src S dst D net K`.
-fn put_route(src: u16, dst: u16, network: usize, out: &mut [u8], at: usize) -> usize
-    ensures { λ r. ⌜ lent r (now (out .exit)) ≡ putting (routeText src dst network) (now (out .entry)) at ⌝ }
+// ` src S dst D`.
+fn put_route(src: u16, dst: u16, out: &mut [u8], at: usize) -> usize
+    ensures { λ r. ⌜ lent r (now (out .exit)) ≡ putting (routeText src dst) (now (out .entry)) at ⌝ }
 {
     let source = number::put(b" src ", src as u64, 4, out, at);
-    let destination = number::put(b" dst ", dst as u64, 4, out, source);
-    number::put(b" net ", network as u64, 1, out, destination)
+    number::put(b" dst ", dst as u64, 4, out, source)
 }
 
-// ` key J`: the application key's number, or `dev`.
-fn put_key(key: MessageKey, out: &mut [u8], at: usize) -> usize
-    ensures { λ r. ⌜ lent r (now (out .exit)) ≡ putting (keyText key) (now (out .entry)) at ⌝ }
+// ` net K key J`: the numbers of the network key and of the application key.
+fn put_keys(network: usize, key: usize, out: &mut [u8], at: usize) -> usize
+    ensures { λ r. ⌜ lent r (now (out .exit)) ≡ putting (keysText network key) (now (out .entry)) at ⌝ }
 {
-    match key {
-        MessageKey::Application(i) => number::put(b" key ", i as u64, 1, out, at),
-        MessageKey::Device => text::put(b" key dev", out, at),
+    let end = number::put(b" net ", network as u64, 1, out, at);
+    number::put(b" key ", key as u64, 1, out, end)
+}
+
+// ` net K key J`, with ` label L` before it where a label opened the message; J is `dev` for the device key.
+fn put_opener(network: usize, opener: Opener, out: &mut [u8], at: usize) -> usize
+    ensures { λ r. ⌜ lent r (now (out .exit)) ≡ putting (openerText network opener) (now (out .entry)) at ⌝ }
+{
+    match opener {
+        Opener::Application(key) => put_keys(network, key, out, at),
+        Opener::Labelled { key, label } => {
+            let end = number::put(b" label ", label as u64, 1, out, at);
+            put_keys(network, key, out, end)
+        }
+        Opener::Device => {
+            let end = number::put(b" net ", network as u64, 1, out, at);
+            text::put(b" key dev", out, end)
+        }
     }
 }
 
@@ -121,20 +135,20 @@ fn put_segment(
     put_trials(t, out, segments)
 }
 
-// `access src S dst D net K key J`.
+// `access src S dst D net K key J`, or with ` label L` behind D.
 fn put_access(
     src: u16,
     dst: u16,
     network: usize,
-    key: MessageKey,
+    opener: Opener,
     out: &mut [u8],
     at: usize,
 ) -> usize
-    ensures { λ r. ⌜ lent r (now (out .exit)) ≡ putting (accessText src dst network key) (now (out .entry)) at ⌝ }
+    ensures { λ r. ⌜ lent r (now (out .exit)) ≡ putting (accessText src dst network opener) (now (out .entry)) at ⌝ }
 {
     let word = text::put(b"access", out, at);
-    let route = put_route(src, dst, network, out, word);
-    put_key(key, out, route)
+    let route = put_route(src, dst, out, word);
+    put_opener(network, opener, out, route)
 }
 
 // `control src S dst D net K opcode O`.
@@ -142,8 +156,9 @@ fn put_control(src: u16, dst: u16, network: usize, opcode: u8, out: &mut [u8], a
     ensures { λ r. ⌜ lent r (now (out .exit)) ≡ putting (controlText src dst network opcode) (now (out .entry)) at ⌝ }
 {
     let word = text::put(b"control", out, at);
-    let route = put_route(src, dst, network, out, word);
-    number::put(b" opcode ", opcode as u64, 1, out, route)
+    let route = put_route(src, dst, out, word);
+    let key = number::put(b" net ", network as u64, 1, out, route);
+    number::put(b" opcode ", opcode as u64, 1, out, key)
 }
 
 // `acknowledgement src S bits B EFFECT trials T A`.
@@ -175,11 +190,11 @@ pub fn put_heard(a: Answer, t: Trials, message: &[u8], out: &mut [u8], at: usize
             src,
             dst,
             network,
-            key,
+            opener,
             pair,
             len,
         } => {
-            let end = put_access(src, dst, network, key, out, at);
+            let end = put_access(src, dst, network, opener, out, at);
             put_message(pair, t, text::first(message, len), out, end)
         }
         Answer::Control {

@@ -1,14 +1,21 @@
 -- What a field that was read leads to. The code reads a field into an enum and goes on by its case, where a definition hands the field on: they
 -- agree, since what is made of a choice is made on either way of it.
 -- Assumes nothing.
-use mathlib.Core.Path.{_≡_, _∙_}
-use mathlib.Core.Bool.{Bool}
+use mathlib.Core.Path.{_≡_, refl, _∙_, ap}
+use mathlib.Core.Bool.{Bool, true, false}
 use mathlib.Core.List.{List}
-use Prim.Native.Nat.{ℕ}
+use Prim.Native.Nat.{ℕ, _-_, _≤_}
+use native.Mathlib.Omega.{arith}
 use lib.Dec.{eqb}
+use lib.ListN.{length, take, drop, length-take, length-drop}
+use lib.Seq.{take-all}
 use Rattle.common.specs.Lent.{lent}
+use Rattle.common.specs.Lists.{same}
+use Rattle.common.proofs.Same.{same-eq}
 use Rattle.sensor.specs.declared.properties.Kind.{Kind}
 use Rattle.transport.specs.declared.securing.MessageKey.{MessageKey}
+use Rattle.sending.specs.declared.request.Destination.{Destination}
+use Rattle.sending.specs.declared.request.Destination.the-variants.{Address, Label}
 use Rattle.sending.specs.declared.request.Request.{Request}
 use Rattle.sending.specs.declared.request.Ttl.{Ttl}
 use Rattle.text.specs.declared.number.Number.{Number}
@@ -21,12 +28,15 @@ use Rattle.text.specs.declared.number.Short.{Short}
 use Rattle.text.specs.declared.number.Short.the-variants as short
 use Rattle.text.specs.declared.hex.Octets.{Octets}
 use Rattle.text.specs.Hex.{reading}
+use Rattle.text.specs.Octets.{octets}
 use Rattle.text.specs.Number.{numberOf, atMost, octetOf, shortOf, bitOf}
 use Rattle.text.proofs.NumberLaws.{if-map, at-most-map, onNumber, number-made}
 use Rattle.commands.specs.declared.naming.KindField.{KindField}
 use Rattle.commands.specs.declared.naming.KindField.the-variants as kind
 use Rattle.commands.specs.declared.requesting.TtlField.{TtlField}
 use Rattle.commands.specs.declared.requesting.TtlField.the-variants as ttl
+use Rattle.commands.specs.declared.requesting.DestinationField.{DestinationField}
+use Rattle.commands.specs.declared.requesting.DestinationField.the-variants as destination
 use Rattle.commands.specs.declared.requesting.KeyField.{KeyField}
 use Rattle.commands.specs.declared.requesting.KeyField.the-variants as key
 use Rattle.commands.specs.declared.requesting.MicField.{MicField}
@@ -35,7 +45,7 @@ use Rattle.commands.specs.declared.requesting.Asked.{Asked}
 use Rattle.commands.specs.declared.requesting.Asked.the-variants as asked
 use Rattle.commands.specs.declared.line.Line.{Line}
 use Rattle.commands.specs.Naming.{withKind}
-use Rattle.commands.specs.Request.{upTo, withBit, withTtl, withKey, withMic, withRequest}
+use Rattle.commands.specs.Request.{upTo, withBit, withTtl, withDestination, withKey, withMic, withRequest}
 use Rattle.commands.specs.Line.{counted, withOctets}
 
 -- ---- what each reading leads to, x where it does not fit
@@ -58,6 +68,10 @@ onKind x f kind.Unfit = x
 abbrev onTtl : {A : Type 0} → A → (Ttl → A) → TtlField → A
 onTtl x f (ttl.Fits v) = f v
 onTtl x f ttl.Unfit = x
+
+abbrev onDestination : {A : Type 0} → A → (Destination → A) → DestinationField → A
+onDestination x f (destination.Fits v) = f v
+onDestination x f destination.Unfit = x
 
 abbrev onKey : {A : Type 0} → A → (MessageKey → A) → KeyField → A
 onKey x f (key.Fits v) = f v
@@ -95,6 +109,12 @@ module _ {A : Type 0} (text t : List ℕ) (same-text : t ≡ text) (x z : A) whe
   unfolding withTtl
   ttl-read f a b e k r = r ∙ rw (← k, e, same-text) (simp (if-map (onTtl x f), at-most-map (onTtl x f)))
 
+  pub destination-read :
+      (f : Destination → A) (a b : DestinationField) → a ≡ withDestination t destination.Unfit destination.Fits → a ≡ b → z ≡ onDestination x f b
+      → z ≡ withDestination text x f
+  unfolding withDestination
+  destination-read f a b e k r = r ∙ rw (← k, e, same-text) (simp (if-map (onDestination x f), at-most-map (onDestination x f)))
+
   pub key-read : (f : MessageKey → A) (a b : KeyField) → a ≡ withKey t key.Unfit key.Fits → a ≡ b → z ≡ onKey x f b → z ≡ withKey text x f
   unfolding withKey
   key-read f a b e k r = r ∙ rw (← k, e, same-text) (simp (if-map (onKey x f), at-most-map (onKey x f)))
@@ -106,8 +126,33 @@ module _ {A : Type 0} (text t : List ℕ) (same-text : t ≡ text) (x z : A) whe
 pub request-read :
     {A : Type 0} (line : List ℕ) (x z : A) (f : Request → A) (a b : Asked) → a ≡ withRequest line asked.Unfit asked.For → a ≡ b → z ≡ onRequest x f b
     → z ≡ withRequest line x f
-unfolding withRequest withTtl
+unfolding withRequest withDestination withTtl
 request-read line x z f a b e k r = r ∙ rw (← k, e) (simp (if-map (onRequest x f), at-most-map (onRequest x f)))
+
+-- ---- a destination, by whether it begins as a label does
+module _ (text front : List ℕ) (t : front ≡ take 6 text) (b : Bool) (e : b ≡ same front (octets "label:")) where
+  -- what begins so has six octets at least
+  pub label-long : b ≡ true → 6 ≤ length text
+  label-long h =
+      let begins : take 6 text ≡ octets "label:" = same-eq (take 6 text) (octets "label:") (rw (← t, ← e) h) in
+      omega (arith, length-take 6 text, ap length begins)
+
+  module _ (z : DestinationField) where
+    pub label-is :
+        (a v : Octet) → b ≡ true → a ≡ octetOf (numberOf (take (length text - 6) (drop 6 text))) → a ≡ v
+        → z ≡ onOctet destination.Unfit (λ n. destination.Fits (Label n)) v → z ≡ withDestination text destination.Unfit destination.Fits
+    unfolding withDestination
+    label-is a v h r k q =
+        let rest = take-all (length text - 6) (drop 6 text) (simp length-drop (omega arith)) in
+        rw (← t, ← e, h) (octet-read (drop 6 text) _ rest destination.Unfit z (λ n. destination.Fits (Label n)) a v r k q)
+
+    pub address-is :
+        (a v : Short) → b ≡ false → a ≡ shortOf (numberOf text) → a ≡ v
+        → z ≡ onShort destination.Unfit (λ n. destination.Fits (Address n)) v → z ≡ withDestination text destination.Unfit destination.Fits
+    unfolding withDestination
+    address-is a v h r k q = rw (← t, ← e, h) (short-read text text refl destination.Unfit z (λ n. destination.Fits (Address n)) a v r k q)
+
+pub ruleset destination-rules = (label-is, address-is)
 
 -- ---- octets, read into a buffer
 pub octets-read :
@@ -115,4 +160,4 @@ pub octets-read :
     → lent z left ≡ withOctets text out f
 octets-read text t out left same-text f z a b e k r = rw (← same-text, ← e, k, r)
 
-pub ruleset field-rules = (number-read, octet-read, short-read, bit-read, kind-read, ttl-read, key-read, mic-read, request-read, octets-read)
+pub ruleset field-rules = (number-read, octet-read, short-read, bit-read, kind-read, ttl-read, destination-read, key-read, mic-read, request-read, octets-read)

@@ -27,7 +27,7 @@ use Rattle.node.specs.declared.setup.Setup.{Setup}
 use Rattle.node.specs.Addresses.{elementPlaces}
 use Rattle.node.specs.Setup.{counted, withElements}
 use Rattle.commands.specs.declared.setting.Sequences.{Sequences}
-use Rattle.commands.specs.Setting.{keyOf, isNumber, valueOf, areNumbers, noSequences, pastElements, sequencesOf, fit, unfit, givenElements}
+use Rattle.commands.specs.Setting.{sixteenOf, isNumber, valueOf, areNumbers, noSequences, pastElements, sequencesOf, fit, unfit, givenElements}
 
 -- one number more, or none
 abbrev withNumber : Number → (ℕ → Sequences) → Sequences
@@ -151,8 +151,8 @@ field-read f text field a is e t k = sym k ∙ e ∙ ap f t
 
 -- as a key, or as none
 pub key-read :
-    (b is : Bool) (key text field : List ℕ) → lent b key ≡ keyOf text → text ≡ field → b ≡ is → lent is key ≡ keyOf field
-key-read b is key text field e t k = field-read keyOf text field (lent b key) (lent is key) e t (ap (λ (x : Bool). lent x key) k)
+    (b is : Bool) (key text field : List ℕ) → lent b key ≡ sixteenOf text → text ≡ field → b ≡ is → lent is key ≡ sixteenOf field
+key-read b is key text field e t k = field-read sixteenOf text field (lent b key) (lent is key) e t (ap (λ (x : Bool). lent x key) k)
 
 -- the SEQs stand in the fields from number 2 on
 pub sequences-of :

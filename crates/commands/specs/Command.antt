@@ -10,7 +10,7 @@ use Rattle.common.specs.Choice.{if_then_else_}
 use Rattle.common.specs.Lists.{same}
 use Rattle.text.specs.Field.{fieldOf}
 use Rattle.text.specs.Octets.{octets}
-use Rattle.commands.specs.declared.setting.Item.the-variants.{NetKey, AppKey, DevKey, Elements, Group, IvIndex, Relay}
+use Rattle.commands.specs.declared.setting.Item.the-variants.{NetKey, AppKey, DevKey, Label, Elements, Group, IvIndex, Relay}
 use Rattle.commands.specs.declared.command.Order.the-variants as order
 use Rattle.commands.specs.declared.command.Command.{Command}
 use Rattle.commands.specs.declared.command.Command.the-variants.{Give, SetUp, Order, Property, Forget, Readings, Vet, Unknown}
@@ -24,12 +24,13 @@ apart line word =
     if same word (octets "vet") then Vet else
     Unknown
 
--- these, and the words that give a key
+-- these, and the words that give a key or a label
 unfoldable pub givingKey : List ℕ → List ℕ → Command
 givingKey line word =
     if same word (octets "netkey") then Give NetKey else
     if same word (octets "appkey") then Give AppKey else
     if same word (octets "devkey") then Give DevKey else
+    if same word (octets "label") then Give Label else
     apart line word
 
 -- these, and the others that lead to a receiver

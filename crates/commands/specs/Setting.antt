@@ -1,5 +1,5 @@
--- What is given before a setup, line by line: more keys, elements or groups than a receiver holds are counted, so that the setup refuses them.
---   keyOf text           whether a text is a key, and the key
+-- What is given before a setup, line by line: more keys, elements, groups or labels than a receiver holds are counted, so that the setup refuses them.
+--   sixteenOf text       whether a text is sixteen octets, and the octets
 --   sequencesOf texts    each element's next SEQ
 --   giving s item line   whether the line's fields fit, and the setup with what it gives
 use mathlib.Core.Bool.{Bool, true, false, _&&_}
@@ -10,7 +10,7 @@ use Rattle.common.specs.Choice.{if_then_else_}
 use Rattle.common.specs.Lent.{Lent}
 use Rattle.common.specs.Lists.{padded}
 use Rattle.node.specs.declared.setup.Setup.{Setup}
-use Rattle.node.specs.Setup.{withNetworkKey, withApplicationKey, withDeviceKey, withElements, withGroup, withIndex}
+use Rattle.node.specs.Setup.{withNetworkKey, withApplicationKey, withDeviceKey, withElements, withGroup, withLabel, withIndex}
 use Rattle.node.specs.Addresses.{elementPlaces}
 use Rattle.text.specs.declared.number.Number.{Number}
 use Rattle.text.specs.declared.number.Number.the-variants as number
@@ -25,12 +25,12 @@ use Rattle.text.specs.Hex.{filling}
 use Rattle.text.specs.Number.{numberOf, shortOf, octetOf, bitOf}
 use Rattle.commands.specs.declared.setting.Given.{Given}
 use Rattle.commands.specs.declared.setting.Item.{Item}
-use Rattle.commands.specs.declared.setting.Item.the-variants.{NetKey, AppKey, DevKey, Elements, Group, IvIndex, Relay}
+use Rattle.commands.specs.declared.setting.Item.the-variants.{NetKey, AppKey, DevKey, Label, Elements, Group, IvIndex, Relay}
 use Rattle.commands.specs.declared.setting.Sequences.{Sequences}
 
--- whether a text is the 16 octets of a key, and the key
-abbrev pub keyOf : List ℕ → Lent Bool
-keyOf text = filling text (replicate 16 0)
+-- whether a text is the 16 octets of a key or a label, and the octets
+abbrev pub sixteenOf : List ℕ → Lent Bool
+sixteenOf text = filling text (replicate 16 0)
 
 -- whether it is a number
 abbrev pub isNumber : Number → Bool
@@ -83,6 +83,10 @@ givenApplicationKey s octet.Unfit key = unfit s
 abbrev pub givenDeviceKey : Setup → Lent Bool → Given
 givenDeviceKey s key = if key .answer then fit (withDeviceKey s (key .buffer)) else unfit s
 
+-- `label LABEL`: the next label, in order
+abbrev pub givenLabel : Setup → Lent Bool → Given
+givenLabel s label = if label .answer then fit (withLabel s (label .buffer)) else unfit s
+
 -- `elements FIRST SEQ..`: the first element's address, then each element's next SEQ, none or more
 abbrev pub givenElements : Setup → Short → Sequences → Given
 givenElements s (short.Value first) q = if q .fits then fit (withElements s first (q .count) (q .next)) else unfit s
@@ -106,9 +110,10 @@ givenRelay s bit.Unfit = unfit s
 
 -- what a line gives, by its fields: the last is all that follows, so that with a space too many it fits nothing
 unfoldable pub giving : Setup → Item → List ℕ → Given
-giving s NetKey line = givenNetworkKey s (keyOf (behind 1 line))
-giving s AppKey line = givenApplicationKey s (octetOf (numberOf (fieldOf 1 line))) (keyOf (behind 2 line))
-giving s DevKey line = givenDeviceKey s (keyOf (behind 1 line))
+giving s NetKey line = givenNetworkKey s (sixteenOf (behind 1 line))
+giving s AppKey line = givenApplicationKey s (octetOf (numberOf (fieldOf 1 line))) (sixteenOf (behind 2 line))
+giving s DevKey line = givenDeviceKey s (sixteenOf (behind 1 line))
+giving s Label line = givenLabel s (sixteenOf (behind 1 line))
 giving s Elements line = givenElements s (shortOf (numberOf (fieldOf 1 line))) (sequencesOf (drop 2 (fields line)))
 giving s Group line = givenGroup s (shortOf (numberOf (behind 1 line)))
 giving s IvIndex line = givenIndex s (numberOf (fieldOf 1 line)) (bitOf (numberOf (behind 2 line)))

@@ -109,7 +109,7 @@ fn setting_up(line: &[u8], word: &[u8]) -> Command
     giving_key(line, word)
 }
 
-// The words that give a key, and those that have nothing to do with a receiver.
+// The words that give a key or a label, and those that have nothing to do with a receiver.
 fn giving_key(line: &[u8], word: &[u8]) -> Command
     ensures { λ r. ⌜ r ≡ givingKey (now (line .entry)) (now (word .entry)) ⌝ }
 {
@@ -121,6 +121,9 @@ fn giving_key(line: &[u8], word: &[u8]) -> Command
     }
     if common::equal(word, b"devkey") {
         return Command::Give(Item::DevKey);
+    }
+    if common::equal(word, b"label") {
+        return Command::Give(Item::Label);
     }
     apart(line, word)
 }

@@ -1,4 +1,5 @@
 // What a line asks to be sent: element, destination, TTL, network key, and for an access message its key and the size of its MIC.
+use sending::request::Destination;
 use sending::request::Request;
 use sending::request::Ttl;
 use text::field;
@@ -7,7 +8,7 @@ use text::number::Octet;
 use text::number::Short;
 use transport::securing::MessageKey;
 ghost use mathlib.Core.Path.{_≡_};
-ghost use Rattle.commands.specs.Request.{withTtl, withKey, withMic, withRequest};
+ghost use Rattle.commands.specs.Request.{withTtl, withDestination, withKey, withMic, withRequest};
 
 // A TTL field: - is one left unnamed.
 enum TtlField {
@@ -27,6 +28,27 @@ fn ttl_of(text: &[u8]) -> TtlField
     }
 }
 
+// A field that names a destination: an address, or `label:` with a label's number behind it.
+enum DestinationField {
+    Fits(Destination),
+    Unfit,
+}
+
+fn destination_of(dst: &[u8]) -> DestinationField
+    ensures { λ r. ⌜ r ≡ withDestination (now (dst .entry)) DestinationField.Unfit DestinationField.Fits ⌝ }
+{
+    if common::equal(text::first(dst, 6), b"label:") {
+        return match number::read_octet(&dst[6..]) {
+            Octet::Value(n) => DestinationField::Fits(Destination::Label(n as usize)),
+            Octet::Unfit => DestinationField::Unfit,
+        };
+    }
+    match number::read_short(dst) {
+        Short::Value(address) => DestinationField::Fits(Destination::Address(address)),
+        Short::Unfit => DestinationField::Unfit,
+    }
+}
+
 // Fields 1 to 4 of a line, `E DST TTL K`.
 pub(crate) enum Asked {
     For(Request),
@@ -39,7 +61,7 @@ pub(crate) fn request_of(line: &[u8]) -> Asked
     let Octet::Value(element) = number::read_octet(field::nth(line, 1)) else {
         return Asked::Unfit;
     };
-    let Short::Value(dst) = number::read_short(field::nth(line, 2)) else {
+    let DestinationField::Fits(dst) = destination_of(field::nth(line, 2)) else {
         return Asked::Unfit;
     };
     let TtlField::Fits(ttl) = ttl_of(field::nth(line, 3)) else {

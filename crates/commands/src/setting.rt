@@ -1,6 +1,6 @@
 // What is given before a setup, line by line.
 //
-// More keys, elements or groups than a receiver holds are counted, so that the setup refuses them.
+// More keys, elements, groups or labels than a receiver holds are counted, so that the setup refuses them.
 use node::setup;
 use node::setup::Setup;
 use text::field;
@@ -21,6 +21,7 @@ pub enum Item {
     NetKey,
     AppKey,
     DevKey,
+    Label,
     Elements,
     Group,
     IvIndex,
@@ -53,6 +54,7 @@ pub(crate) fn give(s: Setup, item: Item, line: &[u8]) -> Given
         Item::NetKey => network_key(s, line),
         Item::AppKey => application_key(s, line),
         Item::DevKey => device_key(s, line),
+        Item::Label => label(s, line),
         Item::Elements => elements(s, line),
         Item::Group => group(s, line),
         Item::IvIndex => iv_index(s, line),
@@ -96,6 +98,17 @@ fn device_key(s: Setup, line: &[u8]) -> Given
     let mut after = s;
     after.device = key;
     fit(after)
+}
+
+// `label LABEL`: the next label.
+fn label(s: Setup, line: &[u8]) -> Given
+    ensures { λ r. ⌜ r ≡ giving s Item.Label (now (line .entry)) ⌝ }
+{
+    let mut octets = [0u8; 16];
+    if !hex::fill(field::last(line, 1), &mut octets) {
+        return unfit(s);
+    }
+    fit(setup::with_label(s, octets))
 }
 
 // Each element's next SEQ, as far as there are places, and how many were said.

@@ -19,12 +19,15 @@ determinate =
       aes-expand = λ m _ o _. of-one m (λ d. (d, o .1));
       -- modes
       modes-ccm-seal = λ m _ _ _. of-one m (λ d. (d .answer, (tt, (tt, (tt, (tt, (d .buffer, tt)))))));
+      modes-ccm-seal-with = λ m _ _ _. of-one m (λ d. (d .answer, (tt, (tt, (tt, (tt, (tt, (d .buffer, tt))))))));
       modes-ccm-open = λ m _ _ _. of-one m (λ d. (d .answer, (tt, (tt, (tt, (tt, (d .buffer, tt)))))));
+      modes-ccm-open-with = λ m _ _ _. of-one m (λ d. (d .answer, (tt, (tt, (tt, (tt, (tt, (d .buffer, tt))))))));
       modes-cmac-cmac = λ m _ o _. of-one m (λ d. (d, o .1));
       -- keys
       keys-s1 = λ m _ o _. of-one m (λ d. (d, o .1));
       keys-k2 = λ m _ o _. of-one m (λ d. (d, o .1));
       keys-k4 = λ m _ o _. of-one m (λ d. (d, o .1));
+      keys-label-address = λ m _ o _. of-one m (λ d. (d, o .1));
       -- network
       network-address-kind = λ m _ o _. of-one m (λ d. (d, o .1));
       network-address-is-unicast = λ m _ o _. of-one m (λ d. (d, o .1));
@@ -48,8 +51,8 @@ determinate =
       -- transport
       transport-form-read = λ m _ o _. of-one m (λ d. (d, o .1));
       transport-opcode-kind = λ m _ o _. of-one m (λ d. (d, o .1));
-      transport-securing-secure = λ m _ _ _. of-one m (λ d. (d .answer, (tt, (tt, (tt, (d .buffer, tt))))));
-      transport-securing-open = λ m _ _ _. of-one m (λ d. (d .answer, (tt, (tt, (tt, (tt, (tt, (d .buffer, tt))))))));
+      transport-securing-secure = λ m _ _ _. of-one m (λ d. (d .answer, (tt, (tt, (tt, (tt, (d .buffer, tt)))))));
+      transport-securing-open = λ m _ _ _. of-one m (λ d. (d .answer, (tt, (tt, (tt, (d .buffer, tt))))));
       transport-segment-access-octet = λ m _ o _. of-one m (λ d. (d, o .1));
       transport-segment-control-octet = λ m _ o _. of-one m (λ d. (d, o .1));
       transport-segment-front = λ m _ o _. of-one m (λ d. (d, o .1));
@@ -83,10 +86,12 @@ determinate =
       -- node
       node-addresses-is-local = λ m _ o _. of-one m (λ d. (d, o .1));
       node-addresses-is-for = λ m _ o _. of-one m (λ d. (d, o .1));
+      node-addresses-held-by = λ m _ o _. of-one m (λ d. (d, o .1));
       node-setup-nothing = λ m _ o _. of-one m (λ d. (d, o .1));
       node-setup-counted = λ m _ o _. of-one m (λ d. (d, o .1));
       node-setup-with-network-key = λ m _ o _. of-one m (λ d. (d, o .1));
       node-setup-with-application-key = λ m _ o _. of-one m (λ d. (d, o .1));
+      node-setup-with-label = λ m _ o _. of-one m (λ d. (d, o .1));
       node-setup-make = λ m _ o _. of-one m (λ d. (d, o .1));
       -- sensor
       sensor-list-number = λ m _ o _. of-one m (λ d. (d, o .1));

@@ -33,12 +33,15 @@ pub record Determinate : Type 2 where
   pub aes-expand : Determined aes.expand.ended (λ _. aes.expand.clauses)
   -- modes
   pub modes-ccm-seal : Determined modes.ccm.seal.ended (λ _. modes.ccm.seal.clauses)
+  pub modes-ccm-seal-with : Determined modes.ccm.«seal_with».ended (λ _. modes.ccm.«seal_with».clauses)
   pub modes-ccm-open : Determined modes.ccm.«open».ended (λ _. modes.ccm.«open».clauses)
+  pub modes-ccm-open-with : Determined modes.ccm.«open_with».ended (λ _. modes.ccm.«open_with».clauses)
   pub modes-cmac-cmac : Determined modes.cmac.cmac.ended (λ _. modes.cmac.cmac.clauses)
   -- keys
   pub keys-s1 : Determined keys.s1.ended (λ _. keys.s1.clauses)
   pub keys-k2 : Determined keys.k2.ended (λ _. keys.k2.clauses)
   pub keys-k4 : Determined keys.k4.ended (λ _. keys.k4.clauses)
+  pub keys-label-address : Determined keys.«label_address».ended (λ _. keys.«label_address».clauses)
   -- network
   pub network-address-kind : Determined network.address.kind.ended (λ _. network.address.kind.clauses)
   pub network-address-is-unicast : Determined network.address.«is_unicast».ended (λ _. network.address.«is_unicast».clauses)
@@ -97,10 +100,12 @@ pub record Determinate : Type 2 where
   -- node
   pub node-addresses-is-local : Determined node.addresses.«is_local».ended (λ _. node.addresses.«is_local».clauses)
   pub node-addresses-is-for : Determined node.addresses.«is_for».ended (λ _. node.addresses.«is_for».clauses)
+  pub node-addresses-held-by : Determined node.addresses.«held_by».ended (λ _. node.addresses.«held_by».clauses)
   pub node-setup-nothing : Determined node.setup.nothing.ended (λ _. node.setup.nothing.clauses)
   pub node-setup-counted : Determined node.setup.counted.ended (λ _. node.setup.counted.clauses)
   pub node-setup-with-network-key : Determined node.setup.«with_network_key».ended (λ _. node.setup.«with_network_key».clauses)
   pub node-setup-with-application-key : Determined node.setup.«with_application_key».ended (λ _. node.setup.«with_application_key».clauses)
+  pub node-setup-with-label : Determined node.setup.«with_label».ended (λ _. node.setup.«with_label».clauses)
   pub node-setup-make : Determined node.setup.make.ended (λ _. node.setup.make.clauses)
   -- sensor
   pub sensor-list-number : Determined sensor.list.number.ended (λ _. sensor.list.number.clauses)

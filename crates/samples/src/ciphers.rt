@@ -22,6 +22,12 @@ pub(crate) fn request(line: &[u8], out: &mut [u8]) -> usize {
     if common::equal(word, b"open") {
         return ccm(line, false, out);
     }
+    if common::equal(word, b"sealwith") {
+        return ccm_with(line, true, out);
+    }
+    if common::equal(word, b"openwith") {
+        return ccm_with(line, false, out);
+    }
     0
 }
 
@@ -96,32 +102,54 @@ fn mic_size(octets: usize) -> MicSize {
 
 // `seal KEY NONCE SIZE MESSAGE` or `open KEY NONCE SIZE SEALED`.
 fn ccm(line: &[u8], seals: bool, out: &mut [u8]) -> usize {
+    let none = [0u8; 0];
+    answered(line, seals, &none, field::last(line, 4), out)
+}
+
+// `sealwith KEY NONCE SIZE ADDITIONAL MESSAGE` or `openwith KEY NONCE SIZE ADDITIONAL SEALED`.
+fn ccm_with(line: &[u8], seals: bool, out: &mut [u8]) -> usize {
+    let mut additional = [0u8; modes::ccm::LONGEST];
+    let Octets::Count(n) = hex::read(field::nth(line, 4), &mut additional) else {
+        return 0;
+    };
+    answered(
+        line,
+        seals,
+        text::first(&additional, n),
+        field::last(line, 5),
+        out,
+    )
+}
+
+// Seals or opens the octets of the last field with additional data, under the terms of a line.
+fn answered(line: &[u8], seals: bool, additional: &[u8], last: &[u8], out: &mut [u8]) -> usize {
     let terms = terms_of(line);
     if terms.mic == 0 {
         return 0;
     }
     let mut octets = [0u8; 392];
-    let Octets::Count(n) = hex::read(field::last(line, 4), &mut octets) else {
+    let Octets::Count(n) = hex::read(last, &mut octets) else {
         return 0;
     };
     let given = text::first(&octets, n);
     if seals {
-        sealed(terms, given, out)
+        sealed(terms, additional, given, out)
     } else {
-        opened(terms, given, out)
+        opened(terms, additional, given, out)
     }
 }
 
 // The message, encrypted, and its MIC.
-fn sealed(terms: Terms, message: &[u8], out: &mut [u8]) -> usize
+fn sealed(terms: Terms, additional: &[u8], message: &[u8], out: &mut [u8]) -> usize
     requires { ⌜ terms .mic ≤ 8 ⌝ }
 {
     let key = terms.key;
     let nonce = terms.nonce;
     let mic = terms.mic;
+    let ks = aes::expand(key);
     let mut whole = [0u8; 392];
     if modes::ccm::LONGEST < message.len()
-        || !modes::ccm::seal(aes::expand(key), nonce, mic_size(mic), message, &mut whole)
+        || !modes::ccm::seal_with(ks, nonce, mic_size(mic), additional, message, &mut whole)
     {
         return 0;
     }
@@ -130,13 +158,14 @@ fn sealed(terms: Terms, message: &[u8], out: &mut [u8]) -> usize
 }
 
 // The message that was sealed, or `refused`.
-fn opened(terms: Terms, sealed: &[u8], out: &mut [u8]) -> usize {
+fn opened(terms: Terms, additional: &[u8], sealed: &[u8], out: &mut [u8]) -> usize {
     let key = terms.key;
     let nonce = terms.nonce;
     let mic = terms.mic;
+    let ks = aes::expand(key);
     let mut clear = [0u8; modes::ccm::LONGEST];
     if sealed.len() < mic
-        || !modes::ccm::open(aes::expand(key), nonce, mic_size(mic), sealed, &mut clear)
+        || !modes::ccm::open_with(ks, nonce, mic_size(mic), additional, sealed, &mut clear)
     {
         return text::put(b"refused", out, 0);
     }

@@ -1,8 +1,8 @@
 // Runs the samples of public documents: each line of standard input is a request, and its answer is one line of standard output.
 //
 // A line that begins with # is written out as it is. A request is a word and its fields, with one space between them. Octets are
-// hex pairs, at most 384 in a message, and - stands for none. A line that is no request, or not of its form, is answered `unread`.
-// The form of each request stands over its function, in ciphers.rt, derivation.rt and pdu.rt.
+// hex pairs, at most 384 in a message or in additional data, and - stands for none. A line that is no request, or not of its form,
+// is answered `unread`. The form of each request stands over its function, in ciphers.rt, derivation.rt and pdu.rt.
 mod ciphers;
 mod derivation;
 mod part;

@@ -8,7 +8,7 @@ use Rattle.common.specs.Lent.{lent}
 use Rattle.memory.specs.declared.outgoing.Effect.{Effect}
 use Rattle.memory.specs.declared.outgoing.Effect.the-variants as effect
 use Rattle.memory.specs.declared.pair.Pair.{Pair}
-use Rattle.transport.specs.declared.securing.MessageKey.{MessageKey}
+use Rattle.transport.specs.declared.securing.Opener.{Opener}
 use Rattle.receiver.specs.declared.answer.Refusal.{Refusal}
 use Rattle.receiver.specs.declared.answer.Answer as heard
 use Rattle.receiver.specs.declared.answer.Answer.the-variants as hearing
@@ -77,10 +77,10 @@ module _ (out : List ℕ) (at r : ℕ) (o : List ℕ) where
     answer-repeated src auth bits k e = rw k e
 
     pub answer-access :
-        (src dst network : ℕ) (key : MessageKey) (pair : Pair) (len : ℕ) → a ≡ hearing.Access src dst network key pair len
+        (src dst network : ℕ) (opener : Opener) (pair : Pair) (len : ℕ) → a ≡ hearing.Access src dst network opener pair len
         → lent r o ≡ putting (named "access message from " 4 src ":\n") out at → lent r o ≡ putting (answerText a) out at
     unfolding answerText
-    answer-access src dst network key pair len k e = rw k e
+    answer-access src dst network opener pair len k e = rw k e
 
     pub answer-control :
         (src dst network opcode : ℕ) (pair : Pair) (len : ℕ) → a ≡ hearing.Control src dst network opcode pair len

@@ -30,7 +30,7 @@ abbrev pub handedUp : heard.Answer → ℕ
 handedUp (hearing.Refused refusal) = 0
 handedUp (hearing.Stored src auth bits) = 0
 handedUp (hearing.Repeated src auth bits) = 0
-handedUp (hearing.Access src dst network key pair len) = len
+handedUp (hearing.Access src dst network opener pair len) = len
 handedUp (hearing.Control src dst network opcode pair len) = len
 handedUp (hearing.Acknowledgement src bits effect) = 0
 
@@ -60,6 +60,6 @@ unfoldable pub answerText : heard.Answer → List ℕ
 answerText (hearing.Refused refusal) = refusedText (refusalNumber refusal)
 answerText (hearing.Stored src auth bits) = named "segment stored, places filled " 8 bits "\n"
 answerText (hearing.Repeated src auth bits) = named "repeat, places filled " 8 bits "\n"
-answerText (hearing.Access src dst network key pair len) = named "access message from " 4 src ":\n"
+answerText (hearing.Access src dst network opener pair len) = named "access message from " 4 src ":\n"
 answerText (hearing.Control src dst network opcode pair len) = named "control message from " 4 src ":\n"
 answerText (hearing.Acknowledgement src bits effect) = effectText effect ++ named "acknowledgement, places filled " 8 bits "\n"

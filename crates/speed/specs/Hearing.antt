@@ -46,7 +46,7 @@ abbrev pub accepted : Answer → ℕ
 accepted (Refused n) = 0
 accepted (Stored src auth bits) = 1
 accepted (Repeated src auth bits) = 1
-accepted (Access src dst network key pair len) = 1
+accepted (Access src dst network opener pair len) = 1
 accepted (Control src dst network opcode pair len) = 1
 accepted (Acknowledgement src bits effect) = 1
 

@@ -67,7 +67,7 @@ fn accept(answer: Answer) -> u64
             src: _,
             dst: _,
             network: _,
-            key: _,
+            opener: _,
             pair: _,
             len: _,
         } => 1,

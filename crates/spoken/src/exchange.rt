@@ -5,6 +5,7 @@ use network::header::Header;
 use node::addresses::Node;
 use receiver::state::Receiver;
 use sending::answer::Answer;
+use sending::request::Destination;
 use transport::securing::MessageKey;
 
 // The sender: it sends message #6, hears what a friend of the destination acknowledges (#7, #9), and sends segment 0 again (#8).
@@ -30,7 +31,7 @@ fn begin(node: Receiver) -> Receiver {
     let mut pdu = [0u8; network::header::PDU];
     let spoken = sending::access::send(
         node,
-        super::request(0x1201, 4),
+        super::request(Destination::Address(0x1201), 4),
         MessageKey::Device,
         false,
         b"\x00\x56\x34\x12\x63\x96\x47\x71\x73\x4f\xbd\x76\xe3\xb4\x05\x19\xd1\xd9\x4a\x48",

@@ -5,6 +5,7 @@ mod exchange;
 
 use receiver::state::Receiver;
 use sending::answer::Answer;
+use sending::request::Destination;
 use sending::request::Request;
 use sending::request::Ttl;
 use transport::securing::MessageKey;
@@ -15,8 +16,10 @@ fn main() {
     send_all(0x12345678, false);
     title(b"IV Index 12345679, in an update");
     send_all(0x12345679, true);
-    title(b"MP 8.3.22: Message #22, to a virtual address, which sending refuses");
-    send_to_label();
+    title(b"MP 8.3.22: Message #22, to a label");
+    send_hello(Destination::Label(0));
+    title(b"MP 8.3.22: Message #22, to the label's address, which sending refuses");
+    send_hello(Destination::Address(0xB529));
     exchange::acknowledge_all();
     title(b"left out: Message #4, #5, #10, #11, whose credentials are those of a friendship");
 }
@@ -38,7 +41,7 @@ pub(crate) fn say(seq: u32, answer: Answer, pdu: &[u8]) {
 }
 
 // What a request to send names.
-pub(crate) fn request(dst: u16, ttl: u8) -> Request {
+pub(crate) fn request(dst: Destination, ttl: u8) -> Request {
     Request {
         element: 0,
         dst,
@@ -80,19 +83,47 @@ fn send_all(iv: u32, flag: bool) {
 fn control(node: Receiver, dst: u16, opcode: u8, parameters: &[u8]) {
     let next = node.next;
     let mut pdu = [0u8; network::header::PDU];
-    let spoken = sending::control::send(node, request(dst, 0), opcode, parameters, &mut pdu);
+    let spoken = sending::control::send(
+        node,
+        request(Destination::Address(dst), 0),
+        opcode,
+        parameters,
+        &mut pdu,
+    );
     let answer = spoken.answer;
     say(next[0], answer, &pdu);
 }
 
-// A node sends message #22, under the application key.
-fn send_to_label() {
-    let node = site::setting::node(0x1234, 0x07080B, 0x12345677, false);
+// The label of message #22, whose address is 0xB529.
+const LABEL: [u8; 16] = [
+    0x00,
+    0x73,
+    0xe7,
+    0xe4,
+    0xd8,
+    0xb9,
+    0x44,
+    0x0f,
+    0xaf,
+    0x84,
+    0x15,
+    0xdf,
+    0x4c,
+    0x56,
+    0xc0,
+    0xe1,
+];
+
+// A node that holds the label sends message #22 to a destination, under the application key.
+fn send_hello(dst: Destination) {
+    let setup = site::setting::setup(0x1234, 0x07080B, 0x12345677, false);
+    let ready = receiver::fresh::set_up(node::setup::with_label(setup, LABEL));
+    let node = ready.receiver;
     let next = node.next;
     let mut pdu = [0u8; network::header::PDU];
     let spoken = sending::access::send(
         node,
-        request(0xB529, 3),
+        request(dst, 3),
         MessageKey::Application(0),
         false,
         b"\xd5\x0a\x00Hello",

@@ -4,6 +4,7 @@
 use receiver::state::Receiver;
 use sending::answer::Answer;
 use sending::answer::Spoken;
+use sending::request::Destination;
 use sending::request::Request;
 use sending::request::Ttl;
 use transport::securing::MessageKey;
@@ -35,7 +36,7 @@ fn main() {
 fn send_message(bench: Bench) -> Bench {
     let request = Request {
         element: 0,
-        dst: STATION,
+        dst: Destination::Address(STATION),
         ttl: Ttl::Named(TTL),
         network: 0,
     };

@@ -3,6 +3,7 @@
 // Each digit of standard input asks, while the wind blows with that force (Beaufort); every other octet asks nothing. A line of output is
 // what the box sent: its SEQ and the Network PDU.
 use receiver::state::Receiver;
+use sending::request::Destination;
 use sending::request::Request;
 use sending::request::Ttl;
 use transport::securing::MessageKey;
@@ -44,7 +45,7 @@ fn answer(wind_box: Receiver, question: u8) -> Receiver {
 fn send_status(wind_box: Receiver, force: u8) -> Receiver {
     let request = Request {
         element: 0,
-        dst: LISTENERS,
+        dst: Destination::Address(LISTENERS),
         ttl: Ttl::Named(TTL),
         network: 0,
     };

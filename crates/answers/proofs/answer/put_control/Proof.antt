@@ -10,4 +10,4 @@ put-control-spec =
     tie.close
     (tie.spec
     (λ c. search needs) (λ c κs. search needs) (λ c κs. search needs) (λ c. search needs) (λ c κs. search needs) (λ c. search needs)
-    (λ c. search (put-then, needs)))
+    (λ c κs. search needs) (λ c. search needs) (λ c. search (put-then, needs)))

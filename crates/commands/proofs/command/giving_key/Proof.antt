@@ -12,4 +12,5 @@ giving-key-spec =
     tie.close
     (tie.spec
     (λ c. search needs) (λ c κs. search needs) (λ c. search choice-rules) (λ c. search needs) (λ c κs. search needs) (λ c. search choice-rules)
-    (λ c. search needs) (λ c κs. search needs) (λ c. search choice-rules) (λ c κs. search needs) (λ c. search choice-rules))
+    (λ c. search needs) (λ c κs. search needs) (λ c. search choice-rules) (λ c. search needs) (λ c κs. search needs) (λ c. search choice-rules)
+    (λ c κs. search needs) (λ c. search choice-rules))

@@ -7,7 +7,7 @@ use borrow.Author.Tests.{not-true, not-false}
 use Rattle.text.specs.declared.number.Octet.the-variants.{Value, Unfit}
 use Rattle.text.specs.Field.{behind}
 use Rattle.text.specs.Number.{numberOf, octetOf}
-use Rattle.commands.specs.Setting.{giving, keyOf, givenApplicationKey, fit}
+use Rattle.commands.specs.Setting.{giving, sixteenOf, givenApplicationKey, fit}
 use Rattle.commands.proofs.SettingLaws.{field-read, key-read}
 use Rattle.commands.proofs.setting.application_key.Statement.{statement}
 use Rattle.commands.proofs.setting.application_key.Tie as tie
@@ -19,7 +19,7 @@ returns c =
     let read = c .before .before .before .read-octet in
     let field = c .before .before .before .before .nth in
     c .unfit .ensures
-    ∙ ap (λ network. givenApplicationKey (a .s) network (keyOf (behind 2 (a .line .now))))
+    ∙ ap (λ network. givenApplicationKey (a .s) network (sixteenOf (behind 2 (a .line .now))))
     (field-read (λ text. octetOf (numberOf text)) _ _ (read .result) Unfit (read .ensures) (field .ensures) (search needs))
 
 returns-2 : tie.Need-returns-2
