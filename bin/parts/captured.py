@@ -24,7 +24,7 @@ HEARD, MARKED, IGNORED, SENT, BEACONS, PROVISIONED, WRONG_CRC, SHORT, PARTS, DAM
     "mesh messages heard", "of these in advertisements where a node ignores them", "mesh messages that a node ignores", "sent by this host", "mesh beacons",
     "PB-ADV", "advertisements with a wrong CRC", "packets kept in part", "parts of longer advertisements", "damaged advertisements", "packets in all")
 COUNTED = {BEACON: BEACONS, PROVISIONING: PROVISIONED}
-SETTING_UP = ("netkey", "appkey", "devkey", "elements", "group", "ivindex", "relay", "setup", "property", "properties", "room")
+SETTING_UP = ("netkey", "appkey", "devkey", "elements", "group", "label", "ivindex", "relay", "setup", "property", "properties", "room")
 LACKING = (
     "# Here the lines are lacking that set up the station: netkey KEY, appkey N KEY, elements FIRST SEQ.., ivindex INDEX FLAG, setup; and for the",
     "# readings property P humidity, property P temperature (docs/CONSOLE.md). bin/capture FILE KEYS takes them from a file KEYS.")

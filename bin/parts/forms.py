@@ -3,18 +3,24 @@ from dataclasses import dataclass
 
 LONGEST = 4095
 DIGITS = frozenset("0123456789abcdefABCDEF")
-# What a field is: a number in hex, octets as pairs of digits, a key, or one of some words.
+# What a field is: a number in hex, octets as pairs of digits, a key or label of 16 octets, or one of some words.
 NUMBER, OCTETS, KEY, WORD = "number", "octets", "key", "word"
+# What stands before a label's number where a label is a destination.
+LABEL = "label:"
 
 
 @dataclass(frozen=True)
 class Field:
-    """A field: its name and kind; its greatest number, or its most octets; the only numbers that fit, where they are few; words that fit, too."""
+    """A field: its name and kind; its greatest number, or its most octets; the only numbers that fit, where they are few; words that fit, too.
+
+    `labels`: a label fits as well.
+    """
     name: str
     kind: str = NUMBER
     most: int = 0xFFFFFFFF
     only: tuple = ()
     words: tuple = ()
+    labels: bool = False
 
     @property
     def called(self):
@@ -57,7 +63,7 @@ def _room(name):
     return Field(name, most=0x180)
 
 
-_SENDING = (_octet("E"), _address("DST"), _octet("TTL", "-"), _octet("K"))
+_SENDING = (_octet("E"), Field("DST", most=0xFFFF, labels=True), _octet("TTL", "-"), _octet("K"))
 _BYTES, _KEY = Field("BYTES", OCTETS), Field("KEY", KEY)
 _SENT, _GIVEN_UP = "sent .., refused N", "given up, refused N"
 
@@ -67,10 +73,11 @@ LINES = (
     Line("devkey", (_KEY,), "the device key"),
     Line("elements", (_address("FIRST"), Field("SEQ..")), "first address, next SEQs", many=True),
     Line("group", (_address("ADDRESS"),), "one more group"),
+    Line("label", (Field("LABEL", KEY),), "one more label"),
     Line("ivindex", (Field("INDEX"), Field("FLAG", only=(0, 1))), "IV Index, update flag"),
     Line("relay", (Field("0|1", only=(0, 1)),), "relay off or on"),
     Line("setup", (), "makes the receiver", "ready, refused 14"),
-    Line("hear", (Field("PDU", OCTETS),), "a Network PDU is heard", "see below", ready=True),
+    Line("hear", (Field("PDU", OCTETS),), "a Network PDU is heard", "refused, access, ..", ready=True),
     Line("room", (_room("FORWARD"), _room("MESSAGE")), "sizes of the lent buffers", ready=True),
     Line("access", (*_SENDING, _octet("J", "dev"), Field("MIC", only=(4, 8)), _BYTES), "sends an access message", "sent .., started ..", ready=True),
     Line("control", (*_SENDING, _octet("O"), _BYTES), "sends a control message", "sent .., started ..", ready=True),
@@ -86,9 +93,8 @@ LINES = (
 )
 FORMS = {line.word: line for line in LINES}
 
-_HEAD = "A line is a word and its fields in hex, one space between. * needs a receiver."
-_FOOT = ("hear answers refused, stored, repeat, access, control or acknowledgement.",
-         "Ctrl-D ends. All of it: docs/CONSOLE.md; what a refusal means: docs/ANSWERS.md.")
+_HEAD = "A word and its fields in hex, one space between. * needs a receiver. Ctrl-D ends"
+_FOOT = "DST can be label:I. All of it: docs/CONSOLE.md; each refusal: docs/ANSWERS.md."
 
 
 def help_lines():
@@ -96,4 +102,4 @@ def help_lines():
     yield _HEAD
     for line in LINES:
         yield f"{'*' if line.ready else ' '}{line.form:<31} {line.gives:<27} {line.answers}"
-    yield from _FOOT
+    yield _FOOT

@@ -4,7 +4,7 @@ import re
 from functools import lru_cache
 from typing import NamedTuple
 
-from forms import DIGITS, FORMS, KEY, LONGEST, OCTETS, WORD
+from forms import DIGITS, FORMS, KEY, LABEL, LONGEST, OCTETS, WORD, Field
 
 KEY_DIGITS, NUMBER_DIGITS = 32, 8
 MARK = "\xef\xbb\xbf"
@@ -147,7 +147,7 @@ def _of_form(line, ready, refused):
         return _before(refused)
     wanted = form.wanted(len(fields))
     if len(fields) > len(wanted):
-        return _apart(form, fields) or Hint(f"too many fields behind {word}", f"Its form is: {form.form}")
+        return _label_apart(form, fields) or _apart(form, fields) or Hint(f"too many fields behind {word}", f"Its form is: {form.form}")
     if len(fields) < len(wanted):
         return Hint(f"too few fields behind {word}", f"Its form is: {form.form}")
     for place, (field, text) in enumerate(zip(wanted, fields)):
@@ -162,8 +162,17 @@ def _before(refused):
     """A line that needs a receiver where there is none."""
     if refused:
         return Hint("a line that needs a receiver, and the setup before it was refused",
-                    "Mend what setup was given: keys, elements, groups (docs/CONSOLE.md, Setting up)")
+                    "Mend what setup was given: keys, elements, groups, labels (docs/CONSOLE.md, Setting up)")
     return Hint("a line that needs a receiver, before the first setup", "Before it write netkey KEY, elements FIRST SEQ and setup, which answers ready")
+
+
+def _label_apart(form, fields):
+    """A label that is written with a space before its number."""
+    place = next((at for at, field in enumerate(form.fields) if field.labels), None)
+    if place is None or len(fields) != len(form.fields) + 1 or fields[place].lower() not in (LABEL, LABEL[:-1]):
+        return None
+    return Hint("a space within a label", f"Write {LABEL} and its number one behind the other",
+                " ".join([form.word, *fields[:place], LABEL + fields[place + 1], *fields[place + 2:]]))
 
 
 def _apart(form, fields):
@@ -181,6 +190,8 @@ def _of_field(form, field, text):
     """What is wrong with one field; what is meant is that field alone."""
     if text in field.words:
         return None
+    if field.labels and text[:len(LABEL)].lower() == LABEL:
+        return _of_label(form, text)
     if field.kind == WORD:
         near = difflib.get_close_matches(text[:32].lower(), field.words, n=1)
         return Hint(f"{form.word} without {' or '.join(field.words)}", f"Its form is: {form.form}", near[0] if near else "")
@@ -189,6 +200,15 @@ def _of_field(form, field, text):
     if text.lower() in field.words:
         return Hint("a word with capital letters", "Words are in lower case", text.lower())
     return _of_octets(form, field, text) if field.kind in (OCTETS, KEY) else _of_number(form, field, text)
+
+
+def _of_label(form, text):
+    """What is wrong with a label as a destination."""
+    word, number = text[:len(LABEL)], text[len(LABEL):]
+    if word != LABEL:
+        return Hint("a word with capital letters", "Words are in lower case", LABEL + number)
+    found = _of_field(form, Field("the number of the label", most=0xFF), number)
+    return found and found._replace(meant=LABEL + found.meant if found.meant else "")
 
 
 def _of_octets(form, field, text):
@@ -201,7 +221,8 @@ def _of_octets(form, field, text):
             return Hint("octets with signs between them", "Write the digits one behind the other", digits)
         return Hint(f"{field.called} of {form.word} has something else than hex digits", "The digits are 0 to 9 and a to f")
     if field.kind == KEY and len(text) != KEY_DIGITS:
-        return Hint(f"a key that has not {KEY_DIGITS} digits", f"A key is 16 octets; the first such line has {len(text)} digits")
+        named = field.called.lower()
+        return Hint(f"a {named} that has not {KEY_DIGITS} digits", f"A {named} is 16 octets; the first such line has {len(text)} digits")
     if len(text) % 2:
         return Hint("an odd number of hex digits", "Each octet has two digits: 0 is 00")
     if len(text) > 2 * field.most:
@@ -211,7 +232,7 @@ def _of_octets(form, field, text):
 
 def _of_number(form, field, text):
     """What is wrong with a number."""
-    if not DIGITS.issuperset(text):
+    if not text or not DIGITS.issuperset(text):
         return Hint(f"{field.called} of {form.word} is no hex number", _fitting(field))
     if len(text) > NUMBER_DIGITS:
         return Hint(f"{field.called} of {form.word} has over eight digits", _fitting(field))
@@ -224,4 +245,4 @@ def _of_number(form, field, text):
 def _fitting(field):
     """The numbers that fit a field, and the words that stand for one."""
     numbers = " or ".join(f"{one:x}" for one in field.only) or f"0 to {field.most:x} in hex"
-    return f"It is {numbers}" + "".join(f", or {word}" for word in field.words)
+    return f"It is {numbers}" + "".join(f", or {word}" for word in (*field.words, *[f"{LABEL}I"] * field.labels))

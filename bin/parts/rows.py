@@ -233,7 +233,8 @@ class Story:
         size = 0 if octets == "-" else len(octets) // 2
         self.senders[octets] = message.src
         self.remember(message, before, size)
-        self.add(line, f"handed up from {self.named(message)}: {answer.split()[0]}, {size} octets", "handed", message, message.bits ^ before)
+        to = f" to the label {int(said['label'], 16)} (address {said['dst']})" if "label" in said else ""
+        self.add(line, f"handed up from {self.named(message)}: {answer.split()[0]}{to}, {size} octets", "handed", message, message.bits ^ before)
 
     def remember(self, message, before, size):
         """The last message handed up in segments. Of one PDU only the size may tell that it was no segment, which would end an older session."""

@@ -10,7 +10,7 @@ from dataclasses import dataclass, field
 from drawing import kind_of
 from exchange import exchanged
 from explained import Explained
-from forms import FORMS
+from forms import FORMS, LABEL
 from hints import shown
 from readings_in import ASKED, HANDED, is_put
 from refusals import WORDS
@@ -50,9 +50,11 @@ def visible(line):
 
 
 def filled_in(form, values):
-    """What a line gives, with the values in the place of its fields' names."""
+    """What a line gives, with the values in the place of its fields' names, and to which label, if to one."""
     found = form.gives
     for each, value in zip(form.fields, values):
+        if each.labels and value.startswith(LABEL):
+            found += f" to the label {int(value[len(LABEL):], 16)}"
         found = re.sub(rf"\b{re.escape(each.name)}\b", lambda _, value=value: value, found)
     return found
 

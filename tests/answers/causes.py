@@ -2,7 +2,7 @@
 from collections import namedtuple
 
 from boxes import APPLICATION_KEY, NETWORK_KEY
-from sealed import GROUP, SETUP, acknowledgement, segment
+from sealed import GROUP, LABEL, LABELLED, SETUP, acknowledgement, segment
 
 # A cause and the limit, for the reader; the words that the independent model has for it; and cases, each lines of which the last is refused 14.
 Row = namedtuple("Row", "word cause limit whys cases")
@@ -13,7 +13,7 @@ NETKEY, APPKEY = f"netkey {NETWORK_KEY.hex()}", f"appkey 0 {APPLICATION_KEY.hex(
 # A message in two segments, and one in one segment.
 TWO, ONE = "access 0 201 - 0 0 4 000102030405060708090a0b", "access 0 201 - 0 0 8 52"
 FIRST_SEQ = 0x40
-UNSENDABLE = (("0", "DST unassigned"), ("8000", "DST virtual"), ("ff05", "DST reserved"))
+UNSENDABLE = (("0", "DST unassigned"), ("8000", "DST virtual"), (f"{LABELLED:x}", "DST virtual, of a label that is held"), ("ff05", "DST reserved"))
 
 
 def set_up(*lines):
@@ -39,28 +39,31 @@ def setup_rows():
     yield Row("setup", "a ninth group", "0 to 8", ["number of groups"], [set_up(*[f"group {GROUP:x}"] * 8)])
     yield Row("setup", "a group that is no group's address, or reserved", "c000 to feff, fffc to ffff", ["a group address that is none", "a reserved group"],
               [set_up("group 8001"), set_up("group ff05")])
+    yield Row("setup", "a fifth label", "0 to 4, also equal ones", ["number of labels"], [set_up(*[f"label {LABEL.hex()}"] * 4)])
     yield Row("setup", "update flag 1 with IV Index 0", "flag 0, or an IV Index of 1 or more", ["flag 1 with IV Index 0"], [set_up("ivindex 0 1")])
 
 
-def common_rows(word, behind):
-    """What access and control messages are both refused for; `behind` are the fields behind the network key."""
+def common_rows(word, behind, labels=""):
+    """What access and control messages are both refused for; `behind` are the fields behind the network key, `labels` how DST can be a label."""
     def line(element="0", dst="201", ttl="-", net="0"):
         return on_station(f"{word} {element} {dst} {ttl} {net} {behind}")
     yield Row(word, "an element that is not there", "E counts from 0", ["no such element"], [line(element="1")])
     yield Row(word, "a network key that is not there", "K counts from 0", ["no such network key"], [line(net="2")])
-    yield Row(word, "a DST that is 0, virtual or reserved", "0001 to 7fff, c000 to feff, fffc to ffff", [why for _, why in UNSENDABLE],
-              [line(dst=dst) for dst, _ in UNSENDABLE])
+    yield Row(word, "a DST that is 0, virtual, also of a label that is held, or reserved", "0001 to 7fff, c000 to feff, fffc to ffff" + labels,
+              [why for _, why in UNSENDABLE], [line(dst=dst) for dst, _ in UNSENDABLE])
     yield Row(word, "a TTL that is 1, or above 7f", "-, 0, 2 to 7f", ["TTL 1", "TTL above 127"], [line(ttl="1"), line(ttl="80")])
 
 
 def access_rows():
     """What is not sent as an access message."""
-    yield from common_rows("access", "0 4 52")
+    yield from common_rows("access", "0 4 52", "; `label:I`")
+    yield Row("access", "a label that is not there", "I counts from 0", ["no such label"], [on_station("access 0 label:1 - 0 0 4 52")])
     yield Row("access", "an application key that is not there", "J counts from 0", ["no such application key"], [on_station("access 0 201 - 0 1 4 52")])
     yield Row("access", "an application key that is bound to another network key", "K is the N of its `appkey`",
               ["the application key is bound to another network key"], [on_station("access 0 201 - 1 0 4 52")])
-    yield Row("access", "the device key to a group", "`dev` to 0001 to 7fff only", ["the device key to no unicast address"],
-              [on_station(f"access 0 {GROUP:x} - 0 dev 4 52")])
+    yield Row("access", "the device key to a group or a label", "`dev` to 0001 to 7fff only",
+              ["the device key to no unicast address", "the device key to a label"],
+              [on_station(f"access 0 {GROUP:x} - 0 dev 4 52"), on_station("access 0 label:0 - 0 dev 4 52")])
     yield Row("access", "no octets, or too many", "1 to 380 with a TransMIC of 4, 1 to 376 with 8", ["no payload", "payload too long"],
               [on_station("access 0 201 - 0 0 4 -"), on_station("access 0 201 - 0 0 4 " + "52" * 381), on_station("access 0 201 - 0 0 8 " + "52" * 377)])
     yield Row("access", "a second message in segments, while one is kept", "1 to 11 octets with a TransMIC of 4 go whole, at any time",
@@ -70,6 +73,7 @@ def access_rows():
 def control_rows():
     """What is not sent as a control message."""
     yield from common_rows("control", "1 -")
+    yield Row("control", "a label", "an address: labels are for access messages", ["control to a label"], [on_station("control 0 label:0 - 0 1 -")])
     yield Row("control", "an opcode that is 0, or above 7f", "1 to 7f", ["opcode 0", "opcode above 7f"],
               [on_station("control 0 201 - 0 0 -"), on_station("control 0 201 - 0 80 -")])
     yield Row("control", "too many octets", "0 to 256", ["parameters too long"], [on_station("control 0 201 - 0 1 " + "00" * 257)])
@@ -89,8 +93,10 @@ def other_rows():
     yield Row("ack", "a network key that is not there", "K counts from 0", ["no such network key"], [on_station(segment(0, 0x100), "ack 2 201")])
     yield Row("ack", "the source has no open session, and no message of it in segments was handed up",
               "after `stored`, or once a message in segments is handed up", ["nothing of this source"], [on_station("ack 0 201")])
-    yield Row("ack", "that message is for a group", "only what was sent to an element", ["its DST is not unicast"],
-              [on_station(segment(0, 0x100, dst=GROUP), "ack 0 201")])
+    yield Row("ack", "that message is for a group or a label", "only what was sent to an element",
+              ["its DST is not unicast", "DST of the open session is virtual", "DST of the last message handed up is virtual"],
+              [on_station(segment(0, 0x100, dst=GROUP), "ack 0 201")]
+              + [on_station(*[segment(at, 0x100, dst=LABELLED, label=LABEL) for at in range(count)], "ack 0 201") for count in (1, 3)])
     yield Row("stop", "no message is kept", "after `started`", ["nothing is kept"], [on_station("stop")])
     yield Row("drop", "the source has no open session", "after `stored`", ["no session of this source"], [on_station("drop 201")])
 

@@ -3,7 +3,8 @@ from collections import namedtuple
 
 import transport
 from boxes import APPLICATION_KEY, IV_INDEX, NETWORK_KEY, STATION
-from sealed import BOX, DEVICE_KEY, GROUP, OTHER_KEY, READING, READINGS, SECOND_KEY, akf_aid, changed, hear, parts, secured, segment, vet, whole
+from sealed import (BOX, DEVICE_KEY, ELSEWHERE, GROUP, LABEL, LABELLED, OTHER_KEY, OTHER_LABEL, READING, READINGS, SECOND_KEY, akf_aid, changed, hear,
+                    parts, secured, segment, vet, whole)
 
 # Lines that the log has and the page leaves out.
 Hidden = namedtuple("Hidden", "lines")
@@ -46,9 +47,11 @@ def cached():
 
 
 def not_for_node():
-    """DST is no element of the station, no group that it listens to, not ffff, and not fffe with relay on. With relay on it is forwarded all the same."""
+    """DST is no element of the station, no group that it listens to, no address of a label that it holds, not ffff, and not fffe with relay on. With relay on
+    it is forwarded all the same."""
     return ["# to another box, 0299", whole(0x100, dst=0x0299), "# to a group that was not given before setup", whole(0x101, dst=GROUP + 1),
-            "# to all relays, where relay is off", whole(0x102, dst=0xFFFE), "# to a reserved group, which is for nobody", whole(0x103, dst=0xFF05)]
+            "# to all relays, where relay is off", whole(0x102, dst=0xFFFE), "# to a reserved group, which is for nobody", whole(0x103, dst=0xFF05),
+            f"# to {ELSEWHERE:04x}, the address of a label that was not given before setup", whole(0x104, dst=ELSEWHERE, label=OTHER_LABEL)]
 
 
 def wrong_form():
@@ -95,17 +98,22 @@ def no_slot_left():
 
 
 def not_opened():
-    """The network key fits and the message is for the station, but no application key opens it. The second count of trials says whether one had its AID."""
+    """The network key fits and the message is for the station, but no application key opens it. The second count of trials says whether one had its AID. A
+    message to a label's address is opened by a key and the label together; there the count is that of such pairs, under each key all labels of that
+    address."""
     elsewhere = bytes([akf_aid()]) + secured(0x102, READING, dst=0x0002)
     return ["# another application key, which the station does not hold: none has its AID, so none is tried", whole(0x100, app=OTHER_KEY),
             "# the right application key, but under network key 1: it is bound to key 0 here", whole(0x101, key=SECOND_KEY),
-            "# a key has the AID and is tried, and the TransMIC does not fit: the message was secured for another DST", hear(0x102, elsewhere)]
+            "# a key has the AID and is tried, and the TransMIC does not fit: the message was secured for another DST", hear(0x102, elsewhere),
+            f"# to {LABELLED:04x}, the address of the station's label, but secured without the label", whole(0x103, dst=LABELLED),
+            "# secured with the label it is opened, by key 0 and label 0", whole(0x104, dst=LABELLED, label=LABEL)]
 
 
 def outside_rules():
     """The request is outside the rules, and nothing is sent or changed. The table above has all causes."""
     return ["# nothing is sent to a reserved group", "access 0 ff05 - 0 0 4 52", "# TTL 1", "access 0 201 1 0 0 4 52",
-            "# no message in segments was begun", "segment 0"]
+            "# no message in segments was begun", "segment 0", "# the station has one label, number 0", "access 0 label:1 - 0 0 4 52",
+            f"# {LABELLED:04x} is that label's address; from an address it cannot be told which label is meant", f"access 0 {LABELLED:x} - 0 0 4 52"]
 
 
 def no_seq_left():

@@ -17,7 +17,7 @@ from judge import Run, Wrong, ends  # noqa: E402
 from scenario import Scenario  # noqa: E402
 
 FIXED = range(1, 41)
-KINDS = ("handed up", "stored", "repeat", "refused 5", "opened by no key", "acknowledgement")
+KINDS = ("handed up", "handed up to a label", "stored", "repeat", "refused 5", "opened by no key", "acknowledgement")
 
 
 class Answers:
@@ -83,7 +83,7 @@ def main():
     if chosen.seeds == FIXED and (most < 8 or not all(counts[kind] for kind in KINDS)):
         print("a kind of answer, or eight messages at once, did not occur")
         return 1
-    print(f"{len(scenarios)} interleavings of 1 to 8 senders: {counts['handed up']} messages handed up once each,"
+    print(f"{len(scenarios)} interleavings of 1 to 8 senders: {counts['handed up'] + counts['handed up to a label']} messages handed up once each,"
           f" {counts['acknowledgement']} acknowledgements exact, entries as one after another")
     return 0
 

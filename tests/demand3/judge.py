@@ -62,7 +62,7 @@ class Run:
             if handed_up(answer) != speech.handed:
                 raise Wrong(at, f"{speech.handed[0]} .. message {speech.handed[1]}: the last missing segment comes")
             self.handed[speech.src].append(handed_up(answer))
-            self.count("handed up")
+            self.count("handed up to a label" if " label " in speech.handed[0] else "handed up")
             return
         found = NOT_HANDED.fullmatch(answer)
         if not found:

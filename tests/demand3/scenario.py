@@ -8,7 +8,7 @@ from collections import namedtuple
 
 import network
 import transport
-from ciphers import k2, k4
+from ciphers import k2, k4, label_address
 
 # start is SeqAuth's SEQ; handed is the answer that hands it up, without its trial counts, and the message.
 Speech = namedtuple("Speech", "src dst net credentials ctl index start parts handed")
@@ -18,10 +18,10 @@ Request = namedtuple("Request", "line number net")
 
 
 class Scenario:
-    """The setup's lines, the speeches and the arrivals; sending_index is the IV Index that the receiver sends under."""
+    """The setup's lines, the speeches and the arrivals; sending_index is the IV Index that the receiver sends under. Labels have dice of their own."""
 
     def __init__(self, seed):
-        self.dice = random.Random(seed)
+        self.dice, self.marks = random.Random(seed), random.Random(f"labels {seed}")
         dice = self.dice
         self.nets = self._net_keys(dice.randint(1, 4))
         self.apps = [(dice.randrange(len(self.nets)), dice.randbytes(16)) for _ in range(dice.randint(0, 4))]
@@ -29,6 +29,7 @@ class Scenario:
         self.elements = dice.randint(1, 8)
         self.first = dice.randint(1, 0x8000 - self.elements)
         self.groups = [dice.randint(0xC000, 0xFEFF) for _ in range(dice.randint(0, 8))]
+        self.labels = self._labels(self.marks.randint(0, 4))
         self.index = dice.choice((1, 2, 0xFFFFFFFF, dice.randrange(1, 1 << 32)))
         self.flag = dice.randint(0, 1)
         self.relay = dice.randint(0, 1)
@@ -45,11 +46,22 @@ class Scenario:
             keys[1] = self.dice.randbytes(16)
         return keys
 
+    def _labels(self, count):
+        """Labels, of which the first two have one address, and the fourth is the second again."""
+        found, labels = {}, []
+        while count > 1 and not labels:
+            label = self.marks.randbytes(16)
+            labels = [found[label_address(label)], label] if label_address(label) in found else []
+            found[label_address(label)] = label
+        labels += [self.marks.randbytes(16) for _ in range(count - len(labels))]
+        return labels[:3] + labels[1:2] if count == 4 else labels
+
     def setup(self):
         """The lines that set up a fresh receiver."""
         lines = [f"netkey {key.hex()}" for key in self.nets] + [f"appkey {bound:x} {key.hex()}" for bound, key in self.apps]
         lines += [f"devkey {self.device.hex()}", f"elements {self.first:x}" + " 0" * self.elements, f"ivindex {self.index:x} {self.flag}"]
-        return lines + [f"relay {self.relay}"] + [f"group {group:x}" for group in self.groups] + ["setup"]
+        lines += [f"group {group:x}" for group in self.groups] + [f"label {label.hex()}" for label in self.labels]
+        return lines + [f"relay {self.relay}", "setup"]
 
     def _speech(self, src):
         """A segmented message of any kind to a DST that is for the receiver."""
@@ -57,8 +69,8 @@ class Scenario:
         net, index = dice.randrange(len(self.nets)), self.index - dice.randint(0, 1)
         start = dice.choice((dice.randrange(100), dice.randrange(0xFFFFFF - 100), 0xFFFFFF - dice.randint(80, 200)))
         ctl = dice.choice((0, 0, 1))
-        dst, parts, key, payload = self._control(start) if ctl else self._access(src, net, index, start)
-        handed = (f"{'control' if ctl else 'access'} src {src:04x} dst {dst:04x} net {net:x} {key} iv {index:08x} seq {start:06x}", payload.hex())
+        dst, to, parts, key, payload = self._control(start) if ctl else self._access(src, net, index, start)
+        handed = (f"{'control' if ctl else 'access'} src {src:04x} dst {dst:04x}{to} net {net:x} {key} iv {index:08x} seq {start:06x}", payload.hex())
         return Speech(src, dst, net, k2(self.nets[net]), ctl, index, start, parts, handed)
 
     def _local(self):
@@ -71,24 +83,29 @@ class Scenario:
         return self.dice.randbytes(self.dice.choice((most, self.dice.randint(1, most), self.dice.randint(1, 40))))
 
     def _control(self, start):
-        """DST, segments, the answer's words for the opcode, and the parameters."""
+        """DST, segments, the answer's words for the opcode, and the parameters; behind DST no words for a label."""
         opcode, parameters = self.dice.randint(1, 0x7F), self._octets(256)
-        return self._destination(), transport.cut(1, opcode, 0, start, parameters), f"opcode {opcode:x}", parameters
+        return self._destination(), "", transport.cut(1, opcode, 0, start, parameters), f"opcode {opcode:x}", parameters
 
     def _access(self, src, net, index, start):
-        """DST, segments, the answer's words for the key, and the payload; under the device key the DST is unicast."""
+        """DST, the answer's words for the label, segments, its words for the key, and the payload; under the device key the DST is unicast."""
         fitting = [at for at, (bound, _) in enumerate(self.apps) if bound == net]
         mic = self.dice.choice((4, 8))
         payload = self._octets(384 - mic)
         of_device = not fitting or self.dice.random() < 0.3
+        label, to = b"", ""
         if of_device:
             dst, secret, first, key = self._local(), self.device, 0, "key dev"
         else:
             at = self.dice.choice(fitting)
             dst, secret, key = self._destination(), self.apps[at][1], f"key {at:x}"
             first = 0x40 | k4(secret)
-        upper = transport.secure(secret, of_device, mic, start, src, dst, index, payload)
-        return dst, transport.cut(0, first, int(mic == 8), start, upper), key, payload
+            if self.labels and self.marks.random() < 0.4:
+                # of equal labels the first is named
+                label = self.marks.choice(self.labels)
+                dst, to = label_address(label), f" label {self.labels.index(label):x}"
+        upper = transport.secure(secret, of_device, mic, start, src, dst, index, payload, label)
+        return dst, to, transport.cut(0, first, int(mic == 8), start, upper), key, payload
 
     def segment(self, number, part, seq, ttl):
         speech = self.speeches[number]

@@ -1,7 +1,7 @@
 """AES-128's modes and MP's key derivation, over OpenSSL's block cipher.
 
 Only the single block is OpenSSL's (Debian's python3-cryptography). CMAC is written here from RFC 4493, CCM from RFC 3610 with a 13-octet
-nonce and no additional data, and s1, k2 and k4 from MP 3.8.2.
+nonce and additional data of fewer than 0xFF00 octets, s1, k2 and k4 from MP 3.8.2, and a label's address from MP 3.4.2.3.
 """
 from collections import namedtuple
 from functools import lru_cache
@@ -57,10 +57,11 @@ def _padded(octets):
     return octets + bytes(-len(octets) % 16)
 
 
-def _ccm_mac(key, nonce, message, size):
+def _ccm_mac(key, nonce, message, size, data):
     """RFC 3610, 2.2: the whole authentication field before it is encrypted."""
-    first = bytes([(size - 2) // 2 << 3 | 1]) + nonce + len(message).to_bytes(2, "big")
-    return _chained(key, first + _padded(message))
+    first = bytes([(64 if data else 0) | (size - 2) // 2 << 3 | 1]) + nonce + len(message).to_bytes(2, "big")
+    before = _padded(len(data).to_bytes(2, "big") + data) if data else b""
+    return _chained(key, first + before + _padded(message))
 
 
 def _ccm_stream(key, nonce, length):
@@ -68,20 +69,21 @@ def _ccm_stream(key, nonce, length):
     return aes(key, b"".join(b"\x01" + nonce + at.to_bytes(2, "big") for at in range(1 + (length + 15) // 16)))
 
 
-def ccm_seal(key, nonce, message, size):
-    """The encrypted message with its MIC of 4 or 8 octets behind it."""
+def ccm_seal(key, nonce, message, size, data=b""):
+    """The encrypted message with its MIC of 4 or 8 octets behind it; the additional data is authenticated with it and not sent."""
     stream = _ccm_stream(key, nonce, len(message))
-    return xor(message, stream[16:]) + xor(_ccm_mac(key, nonce, message, size), stream)[:size]
+    return xor(message, stream[16:]) + xor(_ccm_mac(key, nonce, message, size, data), stream)[:size]
 
 
-def ccm_open(key, nonce, sealed, size):
+def ccm_open(key, nonce, sealed, size, data=b""):
     """The message, or None where the MIC does not fit."""
     body, mic = sealed[:-size], sealed[-size:]
     stream = _ccm_stream(key, nonce, len(body))
     message = xor(body, stream[16:])
-    return message if xor(_ccm_mac(key, nonce, message, size), stream)[:size] == mic else None
+    return message if xor(_ccm_mac(key, nonce, message, size, data), stream)[:size] == mic else None
 
 
+@lru_cache(maxsize=64)
 def s1(text):
     """MP 3.8.2.4."""
     return cmac(bytes(16), text)
@@ -101,3 +103,9 @@ def k2(key):
 def k4(key):
     """MP 3.8.2.8: an application key's AID."""
     return cmac(cmac(s1(b"smk4"), key), b"id6\x01")[15] & 0x3F
+
+
+@lru_cache(maxsize=65536)
+def label_address(label):
+    """MP 3.4.2.3: the virtual address of a Label UUID, the low 14 bits of its hash behind the bits 10."""
+    return 0x8000 | int.from_bytes(cmac(s1(b"vtad"), label)[14:], "big") & 0x3FFF

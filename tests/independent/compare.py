@@ -1,4 +1,4 @@
-"""Compares the console, line by line, with the independent model of document 01 and of document 02's Sensor Status, reserved groups, cache, own voice, vetting.
+"""Compares the console, line by line, with the independent model of document 01 and of what document 02 has added to it.
 
   python3 tests/independent/compare.py [--seeds A..B] [--console COMMAND]
 

@@ -1,7 +1,7 @@
 """Which kinds of answer the fixed seeds must reach: every refusal of the documents by its reasons, from every operation, and every other answer."""
 import textwrap
 
-from model import AGAIN, BESIDE_OURS, OURS
+from model import AGAIN, AT_LABEL, BESIDE_OURS, CLOSED_AT, OPENED_AT, OURS
 from network import ABOUT_RESERVED, RESERVED
 from sensor import EDGES
 from vetting import NAMES
@@ -18,7 +18,7 @@ HEAR_KEPT = {
     13: ("the device key does not open it",),
 }
 HEAR_CACHED = {
-    6: ("DST unicast", "DST virtual", "DST group", "DST reserved"),
+    6: ("DST unicast", "DST virtual", "DST virtual, other labels are held", "DST group", "DST reserved"),
     7: ("AKF 0 with an AID", "AKF 0 to no unicast address", "a segment without octets", "a segment with opcode 0", "SegO above SegN",
         "a segment before the last that is not full", "an acknowledgement not of 7 octets", "an access message of fewer than 5 octets"),
     8: ("no SeqAuth",),
@@ -26,24 +26,26 @@ HEAR_CACHED = {
     10: tuple("differs in " + point for point in ("CTL", "octet 0", "SZMIC", "SegN", "DST", "opening key")),
     11: ("unsegmented", "an acknowledgement", "a segment that joins", "a segment that would open a session"),
     12: ("no slot free",),
-    13: ("too short", "no application key fits", "no application key opens it"),
+    13: ("too short", "no application key fits", "no application key opens it", "no application key fits, DST virtual", "no pair opens it"),
 }
 # Answers of `hear` that are no refusal; a message under the device key and an acknowledgement that fits are for a local address: never forwarded.
 HEARD = ("access by the device key", "acknowledged complete", "acknowledged cancelled", "acknowledged marked")
-HEARD_CACHED = ("stored", "repeat", "access by an application key", "control", "acknowledged nothing")
+HEARD_CACHED = ("stored", "repeat", "access by an application key", "access by an application key and a label", "control", "acknowledged nothing")
 
-COMMON_14 = ("no such element", "DST unassigned", "DST virtual", "DST reserved", "TTL 1", "TTL above 127", "no such network key",
-             "another message is kept")
+COMMON_14 = ("no such element", "DST unassigned", "DST virtual", "DST virtual, of a label that is held", "DST reserved",
+             "TTL 1", "TTL above 127", "no such network key", "another message is kept")
 ASKED = {
     "setup": {14: ("number of network keys", "number of application keys", "an application key bound to no network key", "number of elements",
                    "the first element's address", "the last element's address", "a next SEQ too high", "number of groups", "a group address that is none",
-                   "a reserved group", "flag 1 with IV Index 0")},
+                   "a reserved group", "flag 1 with IV Index 0", "number of labels")},
     "access": {16: ("PDU buffer",), 15: ("no SEQ left",),
-               14: COMMON_14 + ("the device key to no unicast address", "no such application key", "the application key is bound to another network key",
-                                "no payload", "payload too long")},
-    "control": {16: ("PDU buffer",), 15: ("no SEQ left",), 14: COMMON_14 + ("opcode 0", "opcode above 7f", "parameters too long")},
+               14: COMMON_14 + ("no such label", "the device key to a label", "the device key to no unicast address", "no such application key",
+                                "the application key is bound to another network key", "no payload", "payload too long")},
+    "control": {16: ("PDU buffer",), 15: ("no SEQ left",), 14: COMMON_14 + ("control to a label", "opcode 0", "opcode above 7f", "parameters too long")},
     "segment": {16: ("PDU buffer",), 15: ("no SEQ left",), 14: ("nothing is kept", "above SegN", "already heard", "over 8,191 after the first")},
-    "ack": {16: ("PDU buffer",), 15: ("no SEQ left",), 14: ("no such network key", "nothing of this source", "its DST is not unicast")},
+    "ack": {16: ("PDU buffer",), 15: ("no SEQ left",),
+            14: ("no such network key", "nothing of this source", "its DST is not unicast", "DST of the open session is virtual",
+                 "DST of the last message handed up is virtual")},
     "stop": {14: ("nothing is kept",)},
     "drop": {14: ("no session of this source",)},
     "property": {14: ("named already", "named already with the other kind", "a ninth name")},
@@ -52,11 +54,11 @@ ASKED = {
     "vet": {16: ("else approved", "else at fault", "else unfinished"),
             27: tuple(f"{name}, {which}" for name in NAMES for which in ("no PDU", "the last is missing", "more are missing"))},
 }
-DONE = ("netkey", "appkey", "devkey", "elements", "group", "ivindex", "relay", "setup ready", "room", "access sent", "access started", "control sent",
+DONE = ("netkey", "appkey", "devkey", "elements", "group", "label", "ivindex", "relay", "setup ready", "room", "access sent", "access started", "control sent",
         "control started", "segment sent", "ack sent", "stop", "drop", "show", "skipped", "property", "properties", "readings",
         "readings no status: no octets", "readings no status: another opcode", "vet approved access", "vet approved control")
 UNREAD = ("a line too long", "no such command", "number of fields", "an empty field", "not a digit", "over 8 digits", "a number above its limit",
-          "half an octet", "a key not of 16 octets", "a MIC neither 4 nor 8", "before the first setup", "a kind that is none",
+          "half an octet", "a key not of 16 octets", "a label not of 16 octets", "a MIC neither 4 nor 8", "before the first setup", "a kind that is none",
           "a message of over 380 octets", "a PDU of over 255 octets")
 CASES = ("a later network key opens it", "several network keys fail", "under the IV Index before", "a later application key opens it",
          "repeats within the session", "repeats the last message handed up", "repeats the last message handed up while another comes",
@@ -80,6 +82,22 @@ TWICE = {AGAIN: tuple(case + behind for case in ("heard", "stored", "not for thi
 VOICE = {OURS: ("the first element of several", "the last element of several", "a later network key opens it", "as it was sent", "as a relay hands it on",
                 "not forwarded", "not taken", "4 before 22, DST unassigned", "4 before 22, DST virtual"),
          BESIDE_OURS: ("the last below the first element", "the first above the last element")}
+# What comes to the address of a held label, by its answer; 6 it cannot be. Which pair of key and label opens a message, and how the message comes; which
+# pairs have failed, and what a message was secured with that none opens. How a message is sent to a label, to which one, who hears it, and which
+# acknowledgement counts for it. How many labels a setup is given.
+LABELLED = {
+    AT_LABEL: ("access", "stored", "repeat", *(f"refused {number}" for number in (4, 22, 5, 7, 8, 9, 10, 11, 12, 13))),
+    OPENED_AT: (*(label + key for label in ("the only label", "the first of several labels", "a later label") for key in ("", " under a later key")),
+                "the first of equal labels", "the fifth pair or one behind it", "the sixteenth pair", "whole", "TransMIC of 4, in segments",
+                "TransMIC of 8"),
+    CLOSED_AT: (*(f"{keys} and {labels}" for keys in ("no key", "one key", "several keys") for labels in ("one label", "several labels")),
+                "sixteen pairs", "too short", "no additional data", "a held label of another address",
+                "DST is no label's, though a held one is the additional data"),
+    "sent to a label": ("whole", "TransMIC of 4, in segments", "TransMIC of 8", "the fourth", "the second of equal ones", "the second of one address"),
+    "sent to a label, heard by another": ("access", "stored", "repeat"),
+    "acknowledged, sent to a label": ("OBO 0, nothing", *(f"OBO 1, {effect}" for effect in ("marked", "complete", "cancelled", "nothing"))),
+    "labels given": tuple(map(str, range(6))),
+}
 # The cases of Sensor Status: what a record is, what a list is as a whole, the counts about the ends of the ranges, and what needs no receiver.
 SENSED = {
     "a record": ("format A", "format A, at its longest", "format B", "format B, at its longest", "humidity above zero", "humidity of zero",
@@ -125,7 +143,7 @@ def required():
     for word, table in ASKED.items():
         kinds += _refusals(table, word)
     kinds += list(DONE) + [f"unread: {why}" for why in UNREAD] + list(CASES)
-    return kinds + [f"{what}: {case}" for table in (MET, TWICE, VOICE, SENSED, VETTED) for what, cases in table.items() for case in cases]
+    return kinds + [f"{what}: {case}" for table in (MET, TWICE, VOICE, LABELLED, SENSED, VETTED) for what, cases in table.items() for case in cases]
 
 
 def _groups(kinds):

@@ -7,6 +7,9 @@ LONGEST = b"property 4f temperature\nreadings 52" + b"e2094d95" * 94 + b"a0ffff"
 BLOCK = 65536
 # A command, and what follows it, where the receiver is ready after it.
 READY = b"netkey " + KEY + b"\nelements 1 0\nsetup\n"
+# Labels up to the most that are held, one more, and as many more as one octet counts; behind each what is sent to the last that can be held.
+LABELLED = tuple(READY.replace(b"setup\n", b"appkey 0 " + KEY + b"\n" + (b"label " + KEY + b"\n") * count + b"setup\naccess 0 label:3 - 0 0 4 00")
+                 for count in (3, 4, 5, 256, 260))
 
 
 def _elements(length):
@@ -52,6 +55,7 @@ TEXTS = (
     _straddling(b"netkey " + KEY + b"\nsetup\n"), _straddling(_vetting(PAIR) + b"\n"), b"readings -", b"readings 52\nproperties",
     b"properties\nproperty 0 humidity\nproperty 0 temperature", LONGEST, LONGEST + b"\n",
     *[b"readings " + first + b"00" * more + end for first in (b"52", b"04") for more in (379, 380, 2042, 2043) for end in (b"", b"\nreadings 52\n")],
+    *LABELLED,
     b"vet", b"vet 0", _vetting(ACCESS), *VETTINGS[-4:], b"\n".join(VETTINGS), READY + b"room 1d 17f\n" + b"\n".join(VETTINGS) + b"\nroom 1d 180\n" + _vetting(PAIR) + b"\nshow\n",
 )
 

@@ -40,11 +40,13 @@ def _octets(field):
     return bytes.fromhex(field.decode())
 
 
-def _key(field):
-    key = _octets(field)
-    if len(key) != 16:
-        raise Unread("a key not of 16 octets")
-    return key
+def _sixteen(what):
+    def read(field):
+        octets = _octets(field)
+        if len(octets) != 16:
+            raise Unread(f"a {what} not of 16 octets")
+        return octets
+    return read
 
 
 def _or(word, meaning, read):
@@ -56,6 +58,12 @@ def _mic(field):
     if size not in (4, 8):
         raise Unread("a MIC neither 4 nor 8")
     return size
+
+
+def _destination(field):
+    """An address, or a label by its number."""
+    label, colon, number = field.partition(b":")
+    return model.Label(BYTE(number)) if (label, colon) == (b"label", b":") else ADDRESS(field)
 
 
 def _kind(field):
@@ -79,16 +87,17 @@ def _pdu(field):
 
 
 BIT, BYTE, ADDRESS, LONG, ROOM = (_number(most) for most in (1, 0xFF, 0xFFFF, 0xFFFFFFFF, 384))
-PROPERTY = ADDRESS
+PROPERTY, KEY, LABEL = ADDRESS, _sixteen("key"), _sixteen("label")
 TTL, APP = _or(b"-", None, BYTE), _or(b"dev", None, BYTE)
 
 # The fields of each command; those of MANY take any number of their last one.
 FORMS = {
-    b"netkey": (_key,),
-    b"appkey": (BYTE, _key),
-    b"devkey": (_key,),
+    b"netkey": (KEY,),
+    b"appkey": (BYTE, KEY),
+    b"devkey": (KEY,),
     b"elements": (ADDRESS, LONG),
     b"group": (ADDRESS,),
+    b"label": (LABEL,),
     b"ivindex": (LONG, BIT),
     b"relay": (BIT,),
     b"setup": (),
@@ -98,8 +107,8 @@ FORMS = {
     b"vet": (BIT, _pdu),
     b"room": (ROOM, ROOM),
     b"hear": (_octets,),
-    b"access": (BYTE, ADDRESS, TTL, BYTE, APP, _mic, _octets),
-    b"control": (BYTE, ADDRESS, TTL, BYTE, BYTE, _octets),
+    b"access": (BYTE, _destination, TTL, BYTE, APP, _mic, _octets),
+    b"control": (BYTE, _destination, TTL, BYTE, BYTE, _octets),
     b"segment": (BYTE,),
     b"ack": (BYTE, ADDRESS),
     b"stop": (),
@@ -142,7 +151,8 @@ def heard(result):
             text = f"{type(answer).__name__.lower()} src {answer.src:04x} {_pair(answer.auth, 'auth')} bits {answer.bits:08x} {trials}"
         case model.Access():
             key = "dev" if answer.key is None else f"{answer.key:x}"
-            text = (f"access src {answer.src:04x} dst {answer.dst:04x} net {answer.net:x} key {key} {_pair(answer.pair, 'seq')}"
+            label = "" if answer.label is None else f" label {answer.label:x}"
+            text = (f"access src {answer.src:04x} dst {answer.dst:04x}{label} net {answer.net:x} key {key} {_pair(answer.pair, 'seq')}"
                     f" {trials} message {_hexed(answer.payload)}")
         case model.Control():
             text = (f"control src {answer.src:04x} dst {answer.dst:04x} net {answer.net:x} opcode {answer.opcode:x} {_pair(answer.pair, 'seq')}"
@@ -215,6 +225,7 @@ class Console:
     def _setup(self):
         given, self.given = self.given, model.Setup()
         self.met += [f"asked to listen to: {group:04x}" for group in given.groups if group in network.RESERVED]
+        self.met += [f"labels given: {len(given.labels)}"] if len(given.labels) <= model.LABELS + 1 else []
         self.named.outlive("a setup that is refused")
         self.receiver = model.Receiver(given)
         self.named.outlive("a setup that is ready")
@@ -275,8 +286,8 @@ class Console:
         match result.answer:
             case model.Refused(number, why):
                 kind += f" {number}: {why}"
-            case model.Access(key=key):
-                kind += " by the device key" if key is None else " by an application key"
+            case model.Access(key=key, label=label):
+                kind += " by the device key" if key is None else " by an application key" + ("" if label is None else " and a label")
             case model.Acknowledged(effect=effect):
                 kind += " " + effect
         self.why = f"hear {kind}{', forwarded' if result.forward else ''}"
@@ -303,6 +314,7 @@ GIVEN = {
     "devkey": lambda given, key: setattr(given, "device_key", key),
     "elements": _elements,
     "group": lambda given, group: given.groups.append(group),
+    "label": lambda given, label: given.labels.append(label),
     "ivindex": _index,
     "relay": lambda given, on: setattr(given, "relay", on),
 }

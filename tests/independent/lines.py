@@ -2,8 +2,9 @@
 
 KEY = b"0123456789abcdef0123456789ABCDEF"
 # One line of each command, all readable.
-RIGHT = (b"netkey " + KEY, b"appkey 0 " + KEY, b"devkey " + KEY, b"elements 1 0 ffffff", b"group c000", b"ivindex 1 0", b"relay 1", b"setup",
-         b"room 1d 180", b"hear 00", b"access 0 1 - 0 0 4 00", b"access 1 c000 7f 1 dev 8 0102", b"control 0 1 2 0 1 -", b"segment 1f", b"ack 0 1",
+RIGHT = (b"netkey " + KEY, b"appkey 0 " + KEY, b"devkey " + KEY, b"elements 1 0 ffffff", b"group c000", b"label " + KEY, b"ivindex 1 0", b"relay 1", b"setup",
+         b"room 1d 180", b"hear 00", b"access 0 1 - 0 0 4 00", b"access 1 c000 7f 1 dev 8 0102", b"access 0 label:0 - 0 0 4 00", b"control 0 1 2 0 1 -",
+         b"segment 1f", b"ack 0 1",
          b"stop", b"drop 1", b"show", b"property 76 humidity", b"property 4f temperature", b"properties", b"readings 52c20ed711",
          b"vet 0 e6a03401c3c51d8e476b28e3aa5001f3 e6a034211c01cea6", b"vet 1 810000000a -")
 # Each field one above its limit, and at it, where the library answers.
@@ -21,6 +22,14 @@ LIMITS = (
     b"vet", b"vet 2", b"vet -", b"vet 00000001", b"vet 000000001", b"vet 0 ", b"vet 0  -", b"vet 0 - ", b"vet 0 0", b"vet 0 - 0g", b"vet 0 - - -",
     b"vet 1 " + b"FF" * 255, b"vet 1 " + b"ff" * 256, b"vet 0 - " + b"ff" * 255, b"vet 0 - " + b"ff" * 256,
     b"ivindex FFFFFFFF 1", b"relay 00000001", b"room 180 180", b"room 1d 180", b"elements 1")
+
+# The same of labels.
+LABEL_LIMITS = (
+    b"label", b"label -", b"label " + KEY[2:], b"label " + KEY + b"00", b"label 0 " + KEY, b"label:0", b"Label " + KEY, b"access 0 label:100 - 0 0 4 00",
+    b"access 0 label: - 0 0 4 00", b"access 0 label:- - 0 0 4 00", b"access 0 label - 0 0 4 00", b"access 0 Label:0 - 0 0 4 00",
+    b"access 0 label:000000000 - 0 0 4 00", b"access 0 label:0:0 - 0 0 4 00", b"access 0 label 0 - 0 0 4 00", b"access 0 label:0g - 0 0 4 00",
+    b"access 0 :0 - 0 0 4 00", b"control 0 label:100 - 0 1 -", b"ack 0 label:0", b"drop label:0", b"group label:0", b"elements label:0 0",
+    b"label " + KEY, b"access ff label:FF ff ff ff 8 -", b"access 0 label:00000000 - 0 0 4 00", b"control ff label:ff ff ff ff -")
 
 
 def _field(dice, line, make):

@@ -8,15 +8,16 @@ from dataclasses import dataclass, field
 
 import network
 import transport
-from ciphers import k2, k4
+from ciphers import k2, k4, label_address
 from network import kind
 
-CACHE, REPLAY, SESSIONS, MESSAGE_ROOM = 16, 32, 8, 384
+CACHE, REPLAY, SESSIONS, LABELS, MESSAGE_ROOM = 16, 32, 8, 4, 384
 
 Stored = namedtuple("Stored", "src auth bits")
 Repeat = namedtuple("Repeat", "src auth bits")
-# key is the application key's number, or None for the device key; pair is (IV Index, SEQ), of SeqAuth for a segmented message.
-Access = namedtuple("Access", "src dst net key pair payload")
+# key is the application key's number, or None for the device key; label is the label's number where DST is virtual, else None; pair is
+# (IV Index, SEQ), of SeqAuth for a segmented message.
+Access = namedtuple("Access", "src dst net key label pair payload")
 Control = namedtuple("Control", "src dst net opcode pair payload")
 Acknowledged = namedtuple("Acknowledged", "src bits effect")
 Refused = namedtuple("Refused", "number why")
@@ -28,6 +29,9 @@ AGAIN = "same SRC and SEQ under the other index"
 # What the receiver has sent: document 01 keeps no such list. It is for the words alone, which tell an own PDU that comes back from another's.
 Sent = namedtuple("Sent", "net iv_index opened")
 OURS, BESIDE_OURS = "SRC is ours", "SRC is beside ours"
+# A destination of what is sent that is no address: a label by its number. And the words for what comes to the address of a held label.
+Label = namedtuple("Label", "place")
+AT_LABEL, OPENED_AT, CLOSED_AT = "heard at a label", "opened at a label", "not opened at a label"
 
 
 class Refusal(Exception):
@@ -50,6 +54,7 @@ class Setup:
     iv_index: int = 0
     flag: int = 0
     relay: int = 0
+    labels: list = field(default_factory=list)
 
     def fault(self):
         """Why setup refuses it, or None."""
@@ -65,6 +70,7 @@ class Setup:
             (any(kind(group) not in ("group", "reserved") for group in self.groups), "a group address that is none"),
             (any(kind(group) == "reserved" for group in self.groups), "a reserved group"),
             (self.flag and self.iv_index == 0, "flag 1 with IV Index 0"),
+            (len(self.labels) > LABELS, "number of labels"),
         )
         return next((why for wrong, why in faults if wrong), None)
 
@@ -95,6 +101,10 @@ Terms = namedtuple("Terms", "ctl first szmic seg_n dst net")
 DIFFERENCES = {"ctl": "CTL", "first": "octet 0", "szmic": "SZMIC", "seg_n": "SegN", "dst": "DST", "net": "opening key"}
 
 
+def _many(things, word):
+    return f"several {word}s" if len(things) > 1 else f"{'one' if things else 'no'} {word}"
+
+
 class Receiver:
     """A receiver that was set up; its operations raise Refusal, but for hear, whose answer holds it."""
 
@@ -104,12 +114,14 @@ class Receiver:
         self.setup = setup
         self.networks = [k2(key) for key in setup.net_keys]
         self.aids = [k4(key) for _, key in setup.app_keys]
+        self.addresses = [label_address(label) for label in setup.labels]
         self.seqs = list(setup.seqs)
         self.cache = []
         self.replay = []
         self.sessions = [None] * SESSIONS
         self.out = None
         self.sent = []
+        self.dst = None
         self.notes = []
 
     def note(self, met, words):
@@ -123,7 +135,8 @@ class Receiver:
         # a reserved group is for nobody
         if kind(dst) == "reserved":
             return False
-        return self.is_local(dst) or dst == 0xFFFF or dst == 0xFFFE and self.setup.relay == 1 or dst in self.setup.groups
+        return (self.is_local(dst) or dst == 0xFFFF or dst == 0xFFFE and self.setup.relay == 1 or dst in self.setup.groups
+                or dst in self.addresses)
 
     def entry_of(self, src):
         return next((entry for entry in self.replay if entry.src == src), None)
@@ -134,13 +147,15 @@ class Receiver:
     # Hearing
 
     def hear(self, pdu, forward_room, message_room):
-        trials, forward, before = [0, 0], [], self.cache
+        trials, forward, before, self.dst = [0, 0], [], self.cache, None
         try:
             answer = self._heard(pdu, forward_room, message_room, trials, forward)
         except Refusal as refusal:
             answer = Refused(refusal.number, refusal.why)
         if self.cache is not before:
             self._note_again(before, self.cache[-1], answer, ", forwarded" if forward else "")
+        if self.dst in self.addresses:
+            self.note(True, f"{AT_LABEL}: {type(answer).__name__.lower()}" + (f" {answer.number}" if isinstance(answer, Refused) else ""))
         return Heard(answer, tuple(trials), forward[0] if forward else None)
 
     def _note_again(self, before, seen, answer, behind):
@@ -164,6 +179,7 @@ class Receiver:
         if message_room < MESSAGE_ROOM:
             raise Refusal(16, "message buffer")
         net, iv_index, opened = self._opened(pdu, trials)
+        self.dst = opened.dst
         if kind(opened.src) != "unicast":
             raise Refusal(4, "SRC " + kind(opened.src))
         if opened.dst == 0 or opened.ctl and kind(opened.dst) == "virtual":
@@ -187,7 +203,8 @@ class Receiver:
         akf = opened.transport[0] & 0x40
         self.note(opened.dst in network.RESERVED and not opened.ctl and not akf, f"not for this node under AKF 0: {opened.dst:04x}")
         if not ours:
-            raise Refusal(6, "DST " + kind(opened.dst))
+            beside = kind(opened.dst) == "virtual" and self.addresses
+            raise Refusal(6, "DST virtual, other labels are held" if beside else "DST " + kind(opened.dst))
         return self._taken(net, iv_index, opened, trials)
 
     def _own(self, iv_index, opened, place):
@@ -314,28 +331,81 @@ class Receiver:
             return Control(src, terms.dst, terms.net, terms.first & 0x7F, pair, upper)
         mic = 8 if terms.szmic else 4
         if len(upper) <= mic:
+            self.note(kind(terms.dst) == "virtual", f"{CLOSED_AT}: too short")
             raise Refusal(13, "too short")
         iv_index, seq = pair
-        if not terms.first & 0x40:
-            payload = transport.unsecure(self.setup.device_key, True, mic, seq, src, terms.dst, iv_index, upper)
-            if payload is None:
-                raise Refusal(13, "the device key does not open it")
-            return Access(src, terms.dst, terms.net, None, pair, payload)
-        for at, (bound, key) in enumerate(self.setup.app_keys):
-            if bound != terms.net or self.aids[at] != terms.first & 0x3F:
-                continue
-            trials[1] += 1
-            payload = transport.unsecure(key, False, mic, seq, src, terms.dst, iv_index, upper)
-            if payload is not None:
-                self.note(trials[1] > 1, "a later application key opens it")
-                return Access(src, terms.dst, terms.net, at, pair, payload)
-        raise Refusal(13, "no application key opens it" if trials[1] else "no application key fits")
+
+        def unsecured(key, of_device, label=b""):
+            return transport.unsecure(key, of_device, mic, seq, src, terms.dst, iv_index, upper, label)
+
+        if terms.first & 0x40:
+            key, label, payload = self._by_pairs(terms, unsecured, trials)
+            return Access(src, terms.dst, terms.net, key, label, pair, payload)
+        payload = unsecured(self.setup.device_key, True)
+        if payload is None:
+            raise Refusal(13, "the device key does not open it")
+        return Access(src, terms.dst, terms.net, None, None, pair, payload)
+
+    def _fitting(self, terms):
+        """The numbers of the application keys and of the labels that an access message is tried with; one label, None, where DST is not virtual."""
+        keys = [at for at, (bound, _) in enumerate(self.setup.app_keys) if bound == terms.net and self.aids[at] == terms.first & 0x3F]
+        if kind(terms.dst) != "virtual":
+            return keys, [None]
+        return keys, [at for at, address in enumerate(self.addresses) if address == terms.dst]
+
+    def _by_pairs(self, terms, unsecured, trials):
+        """Each fitting key in order, and under each key each fitting label: the numbers of the first pair that opens the message, and its payload."""
+        keys, labels = self._fitting(terms)
+        for key in keys:
+            for label in labels:
+                trials[1] += 1
+                payload = unsecured(self.setup.app_keys[key][1], False, b"" if label is None else self.setup.labels[label])
+                if payload is not None:
+                    self.note(trials[1] > 1 and label is None, "a later application key opens it")
+                    self._note_opened(terms, key != keys[0], label, labels, trials[1])
+                    return key, label, payload
+        self._note_closed(terms, unsecured, keys, labels)
+        if labels == [None]:
+            raise Refusal(13, "no application key opens it" if keys else "no application key fits")
+        raise Refusal(13, "no pair opens it" if keys else "no application key fits, DST virtual")
+
+    def _note_opened(self, terms, later_key, label, labels, trials):
+        """Notes which pair opens a message to a label, among which others, and how the message came."""
+        if label is None:
+            return
+        place = "the only label" if len(labels) == 1 else "the first of several labels" if label == labels[0] else "a later label"
+        self.note(True, f"{OPENED_AT}: {place}{' under a later key' if later_key else ''}")
+        held = self.setup.labels
+        self.note(any(held[other] == held[label] for other in labels if other > label), f"{OPENED_AT}: the first of equal labels")
+        self.note(trials >= 5, f"{OPENED_AT}: the fifth pair or one behind it")
+        self.note(trials == 16, f"{OPENED_AT}: the sixteenth pair")
+        self.note(True, f"{OPENED_AT}: " + ("TransMIC of 8" if terms.szmic else "TransMIC of 4, in segments" if terms.first & 0x80 else "whole"))
+
+    def _note_closed(self, terms, unsecured, keys, labels):
+        """Notes how many pairs have failed, and with what other additional data one of the keys opens it."""
+        secrets, held = [self.setup.app_keys[key][1] for key in keys], self.setup.labels
+        if labels == [None]:
+            by_label = any(unsecured(secret, False, label) is not None for secret in secrets for label in held)
+            self.note(by_label, f"{CLOSED_AT}: DST is no label's, though a held one is the additional data")
+            return
+        self.note(True, f"{CLOSED_AT}: {_many(keys, 'key')} and {_many(labels, 'label')}")
+        self.note(len(keys) * len(labels) == 16, f"{CLOSED_AT}: sixteen pairs")
+        others = [label for label, address in zip(held, self.addresses) if address != terms.dst]
+        self.note(any(unsecured(secret, False) is not None for secret in secrets), f"{CLOSED_AT}: no additional data")
+        self.note(any(unsecured(secret, False, label) is not None for secret in secrets for label in others),
+                  f"{CLOSED_AT}: a held label of another address")
 
     def _mark(self, opened, ack):
         """What an accepted acknowledgement does to the message that is kept."""
         out = self.out
-        if not out or opened.dst != out.src or ack.seq_zero != out.auth[1] % transport.WINDOW or not (opened.src == out.dst or ack.obo):
+        if not out or opened.dst != out.src or ack.seq_zero != out.auth[1] % transport.WINDOW:
             return "nothing"
+        effect = self._marked(out, ack) if opened.src == out.dst or ack.obo else "nothing"
+        self.note(out.dst in self.addresses, f"acknowledged, sent to a label: OBO {ack.obo}, {effect}")
+        return effect
+
+    def _marked(self, out, ack):
+        """What an acknowledgement of the message that is kept does to it."""
         if ack.bits == 0:
             self.out = None
             return "cancelled"

@@ -11,21 +11,24 @@ def octets(dice, count):
     return dice.randbytes(count).hex() or "-"
 
 
-def _request(world):
-    """The fields that access and control share, all allowed: element, DST, TTL and network key."""
+def _request(world, labels=()):
+    """The fields that access and control share, all allowed: element, DST, TTL and network key. The labels may be DST too."""
     dice, setup = world.dice, world.setup
     known = world.some_node().src
-    dst = dice.choice((known, known, world.local(), world.heard_group(), dice.randint(1, 0x7FFF), some_group(dice)))
+    numbers = (known, known, world.local(), world.heard_group(), dice.randint(1, 0x7FFF), some_group(dice))
+    dst = dice.choice([f"{number:04x}" for number in numbers] + [f"label:{at:x}" for at in range(len(labels))])
     element = 0 if dice.random() < 0.5 else dice.randrange(len(setup.seqs))
     ttl = dice.choice(("-", "-", "0", "2", "7f", f"{dice.randint(2, 127):x}"))
-    return [f"{element:x}", f"{dst:04x}", ttl, f"{dice.randrange(len(setup.net_keys)):x}"]
+    return [f"{element:x}", dst, ttl, f"{dice.randrange(len(setup.net_keys)):x}"]
 
 
 def _spoilt(world, fields):
     """One of the shared fields made wrong."""
     dice, setup = world.dice, world.setup
     wrong = ((0, f"{dice.choice((len(setup.seqs), 8, 0xFF)):x}"), (1, "0"), (1, f"{dice.randint(0x8000, 0xBFFF):x}"),
-             (1, f"{dice.choice(RESERVED_GROUPS):x}"), (2, "1"), (2, "80"), (2, "ff"), (3, f"{dice.choice((len(setup.net_keys), 4, 0xFF)):x}"))
+             (1, f"{dice.choice(RESERVED_GROUPS):x}"), (1, f"{world.of_label():x}"),
+             (1, f"label:{dice.choice((0, len(setup.labels), 4, 0xFF)):x}"), (2, "1"), (2, "80"), (2, "ff"),
+             (3, f"{dice.choice((len(setup.net_keys), 4, 0xFF)):x}"))
     at, value = dice.choice(wrong)
     return fields[:at] + [value] + fields[at + 1:]
 
@@ -34,7 +37,7 @@ def access(world):
     """Access messages: every size about its limits, every key."""
     dice, setup = world.dice, world.setup
     while True:
-        fields = _request(world)
+        fields = _request(world, setup.labels)
         fitting = [f"{at:x}" for at, (bound, _) in enumerate(setup.app_keys) if f"{bound:x}" == fields[3]]
         key = dice.choice(fitting) if fitting and dice.random() < 0.75 else "dev"
         if key == "dev" and dice.random() < 0.8:
@@ -66,6 +69,17 @@ def control(world):
         elif roll < 0.3:
             count = dice.choice((257, 300, 700))
         yield " ".join(["control", *fields, f"{opcode:x}", octets(dice, count)])
+
+
+def to_labels(world):
+    """Access messages to held labels that are allowed, whole or in a few segments, but that another may be kept; now and then that one is given up."""
+    dice, setup = world.dice, world.setup
+    while True:
+        if world.receiver.out and dice.random() < 0.2:
+            yield "stop"
+        key, mic = dice.randrange(len(setup.app_keys)), dice.choice((4, 4, 8))
+        count = dice.choice((1, 11, dice.randint(12, 40)))
+        yield f"access 0 label:{dice.randrange(len(setup.labels)):x} - {setup.app_keys[key][0]:x} {key:x} {mic} {octets(dice, count)}"
 
 
 def segments(world):
@@ -113,7 +127,7 @@ def _among(dice, groups, one):
 
 
 def bad_setups(dice, setup):
-    """The setup, wrong in each point that document 01 names, and in listing a reserved group."""
+    """The setup, wrong in each point that document 01 names, in listing a reserved group, and in a fifth label."""
     key, nets = dice.randbytes(16), len(setup.net_keys)
     return (
         replace(setup, net_keys=[]),
@@ -130,6 +144,7 @@ def bad_setups(dice, setup):
         replace(setup, groups=setup.groups[:7] + [dice.choice((0, 1, 0x7FFF, 0x8000, 0xBFFF))]),
         replace(setup, groups=_among(dice, setup.groups[:7], dice.choice(RESERVED_GROUPS))),
         replace(setup, iv_index=0, flag=1),
+        replace(setup, labels=(setup.labels + [dice.randbytes(16) for _ in range(20)])[:dice.choice((5, 5, 5, 20))]),
     )
 
 

@@ -8,8 +8,10 @@ import orders
 import statuses
 import traffic
 import vendors
+from ciphers import k4, label_address
 from language import Console
-from world import World, setup_lines, setup_of
+from network import kind, seal
+from world import World, alike, labels_of, setup_lines, setup_of
 
 # One line of a script: its octets, the answering lines, and the words for what kind of answer it was and which cases it met.
 Step = namedtuple("Step", "line answers kinds")
@@ -146,6 +148,41 @@ def own_voice(script, dice, count=60):
     script.say("show")
 
 
+def at_labels(script, dice, full, count=120):
+    """A receiver with labels, which hears messages to them, is asked for some and has them acknowledged; its dice are its own.
+
+    A full one has four application keys of one AID and four labels of one address: sixteen pairs.
+    """
+    setup = setup_of(dice)
+    labels = alike(dice, label_address, 4) if full else labels_of(dice, dice.randint(2, 4))
+    keys = alike(dice, k4, 4 if full else dice.randint(1, 4))
+    script.set_up(replace(setup, app_keys=[(0, key) for key in keys], labels=labels, seqs=[dice.randrange(0xFF0000)] + setup.seqs[1:]), dice)
+    world = World(dice, script.console)
+    hears = [actor(world) for actor in (traffic.to_labels, traffic.to_labels, traffic.to_labels, traffic.joined, traffic.lasts, traffic.answers)]
+    asks = [actor(world) for actor in (orders.access, orders.to_labels, orders.to_labels, orders.segments, orders.acknowledge)]
+    for _ in range(count):
+        roll = dice.random()
+        if roll < 0.06:
+            script.say(dice.choice(lines.LABEL_LIMITS))
+        elif roll < 0.3:
+            script.say(next(dice.choice(asks)))
+        else:
+            script.hear(next(dice.choice(hears)))
+    script.say("show")
+    read_elsewhere(script, dice)
+
+
+def read_elsewhere(script, dice):
+    """What a receiver has sent to labels, heard by another that is set up alike but for its elements."""
+    receiver = script.console.receiver
+    sent = [each for each in receiver.sent if kind(each.opened.dst) == "virtual"]
+    script.set_up(replace(receiver.setup, first=0x3000 if receiver.setup.first < 0x2000 else 1), dice)
+    for each in sent:
+        script.hear(seal(receiver.networks[each.net], each.iv_index, *each.opened))
+        step = script.steps[-1]
+        script.steps[-1] = step._replace(kinds=(*step.kinds, f"sent to a label, heard by another: {step.answers[0].split()[0]}"))
+
+
 def at_bench(script, count):
     """Makers' lists one after another; where there is a receiver also with too little room, and it goes on as it was."""
     for _ in range(count):
@@ -176,5 +213,6 @@ def made(seed, worlds=3, count=530):
         stage.flood(STARTS[seed // FLOODS % len(STARTS)])
     begin_again(script, random.Random(f"begin again {seed}"))
     own_voice(script, random.Random(f"own voice {seed}"))
+    at_labels(script, random.Random(f"labels {seed}"), seed % 3 == 0)
     at_bench(script, 60)
     return script.steps

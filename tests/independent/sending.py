@@ -6,7 +6,7 @@ from dataclasses import dataclass
 
 import network
 import transport
-from model import Refusal, Sent
+from model import Label, Refusal, Sent
 from network import kind
 
 UNNAMED_TTL = 4
@@ -37,15 +37,25 @@ def _need_room(room):
         raise Refusal(16, "PDU buffer")
 
 
-def _common(receiver, element, dst, ttl, net):
-    """What access and control messages must both keep to; gives the TTL."""
-    _allow(element >= len(receiver.seqs), "no such element")
+def _address(receiver, dst):
+    """The address of a destination, and the label that is additional data: none unless the destination is a label."""
+    if isinstance(dst, Label):
+        _allow(dst.place >= len(receiver.addresses), "no such label")
+        return receiver.addresses[dst.place], receiver.setup.labels[dst.place]
     receiver.note(dst in network.RESERVED, f"asked to send to: {dst:04x}")
+    _allow(dst in receiver.addresses, "DST virtual, of a label that is held")
     _allow(kind(dst) in ("unassigned", "virtual", "reserved"), "DST " + kind(dst))
+    return dst, b""
+
+
+def _common(receiver, element, dst, ttl, net):
+    """What access and control messages must both keep to; gives the address, the label and the TTL."""
+    _allow(element >= len(receiver.seqs), "no such element")
+    address, label = _address(receiver, dst)
     _allow(ttl == 1, "TTL 1")
     _allow(ttl is not None and ttl > 127, "TTL above 127")
     _allow(net >= len(receiver.networks), "no such network key")
-    return UNNAMED_TTL if ttl is None else ttl
+    return address, label, UNNAMED_TTL if ttl is None else ttl
 
 
 def _next(receiver, element):
@@ -71,25 +81,43 @@ def _start(receiver, element, net, ctl, ttl, dst, segments):
     return _transmit(receiver, element, net, ctl, ttl, dst, segments[0]), len(segments)
 
 
+def _key(receiver, dst, label, net, key):
+    """Octet 0 but for SEG, and the key, of an access message."""
+    if key is None:
+        _allow(label, "the device key to a label")
+        _allow(kind(dst) != "unicast", "the device key to no unicast address")
+        return 0, receiver.setup.device_key
+    _allow(key >= len(receiver.aids), "no such application key")
+    bound, secret = receiver.setup.app_keys[key]
+    _allow(bound != net, "the application key is bound to another network key")
+    return 0x40 | receiver.aids[key], secret
+
+
+def _note_label(receiver, dst, mic, segmented):
+    """Notes which label a message goes to, if to one, and how."""
+    if not isinstance(dst, Label):
+        return
+    place, held, addresses = dst.place, receiver.setup.labels, receiver.addresses
+    receiver.note(True, "sent to a label: " + ("TransMIC of 8" if mic == 8 else "TransMIC of 4, in segments" if segmented else "whole"))
+    receiver.note(place == 3, "sent to a label: the fourth")
+    receiver.note(held[place] in held[:place], "sent to a label: the second of equal ones")
+    receiver.note(any(addresses[at] == addresses[place] and held[at] != held[place] for at in range(place)), "sent to a label: the second of one address")
+
+
 def access(receiver, room, element, dst, ttl, net, key, mic, payload):
     """An access message under an application key, or the device key where key is None. Gives the PDU, and the number of segments or None."""
     _need_room(room)
-    receiver.note(key is None and dst in network.RESERVED, f"asked to send to under the device key: {dst:04x}")
-    ttl = _common(receiver, element, dst, ttl, net)
-    if key is None:
-        _allow(kind(dst) != "unicast", "the device key to no unicast address")
-        octet, secret = 0, receiver.setup.device_key
-    else:
-        _allow(key >= len(receiver.aids), "no such application key")
-        bound, secret = receiver.setup.app_keys[key]
-        _allow(bound != net, "the application key is bound to another network key")
-        octet = 0x40 | receiver.aids[key]
+    if key is None and dst in network.RESERVED:
+        receiver.note(True, f"asked to send to under the device key: {dst:04x}")
+    asked, (dst, label, ttl) = dst, _common(receiver, element, dst, ttl, net)
+    octet, secret = _key(receiver, dst, label, net, key)
     _allow(len(payload) == 0, "no payload")
     _allow(len(payload) + mic > 384, "payload too long")
     segmented = mic == 8 or len(payload) > 11
     _allow(segmented and receiver.out, "another message is kept")
     seq, iv_index = _next(receiver, element)
-    upper = transport.secure(secret, key is None, mic, seq, receiver.setup.first + element, dst, iv_index, payload)
+    upper = transport.secure(secret, key is None, mic, seq, receiver.setup.first + element, dst, iv_index, payload, label)
+    _note_label(receiver, asked, mic, segmented)
     if not segmented:
         return _transmit(receiver, element, net, 0, ttl, dst, bytes([octet]) + upper), None
     return _start(receiver, element, net, 0, ttl, dst, transport.cut(0, octet, int(mic == 8), seq, upper))
@@ -98,7 +126,8 @@ def access(receiver, room, element, dst, ttl, net, key, mic, payload):
 def control(receiver, room, element, dst, ttl, net, opcode, parameters):
     """A control message. Gives the PDU, and the number of segments or None."""
     _need_room(room)
-    ttl = _common(receiver, element, dst, ttl, net)
+    _allow(isinstance(dst, Label), "control to a label")
+    dst, _, ttl = _common(receiver, element, dst, ttl, net)
     _allow(opcode == 0, "opcode 0")
     _allow(opcode > 0x7F, "opcode above 7f")
     _allow(len(parameters) > 256, "parameters too long")
@@ -138,6 +167,7 @@ def acknowledge(receiver, room, net, src):
         _allow(not entry or not entry.last, "nothing of this source")
         auth, seg_n, dst = entry.last
         bits = transport.all_bits(seg_n)
+    _allow(kind(dst) == "virtual", f"DST of {'the last message handed up' if slot is None else 'the open session'} is virtual")
     _allow(kind(dst) != "unicast", "its DST is not unicast")
     pdu = _transmit(receiver, dst - receiver.setup.first, net, 1, UNNAMED_TTL, src, transport.acknowledgement(0, auth[1] % transport.WINDOW, bits))
     receiver.note(True, "acknowledges " + ("the last message handed up" if slot is None else "the open session"))

@@ -27,13 +27,13 @@ def damaged(dice, pdu):
     return pdu[:at // 8] + bytes([pdu[at // 8] ^ 1 << at % 8]) + pdu[at // 8 + 1:]
 
 
-def app_key(world, net):
+def app_key(world, net, dst):
     """A key for an access message: one bound to the network key as a rule. Gives octet 0's AKF and AID, the key, and whether it is the device key."""
     dice = world.dice
     fitting = [key for bound, key in world.setup.app_keys if bound == net]
     held = [key for _, key in world.setup.app_keys]
     roll = dice.random()
-    if roll < 0.25 or not held:
+    if roll < (0.08 if kind(dst) == "virtual" else 0.25) or not held:
         return 0, world.setup.device_key if dice.random() < 0.9 else dice.randbytes(16), True
     key = world.strange_app if roll < 0.35 else dice.choice(held) if roll < 0.45 or not fitting else dice.choice(fitting)
     return 0x40 | k4(key), key, False
@@ -47,11 +47,11 @@ def length(dice, one, most):
 def access(world, node, dst, seq, segmented, mic):
     """The transport octets of an access message begun with this SEQ, one for each segment."""
     dice = world.dice
-    first, key, of_device = app_key(world, node.net)
+    first, key, of_device = app_key(world, node.net, dst)
     payload = dice.randbytes(length(dice, 12 - mic, 384 - mic) if segmented else dice.randint(1, 11))
     if segmented and dice.random() < 0.05:
         payload = NOTHING
-    upper = transport.secure(key, of_device, mic, seq, node.src, dst, node.index, payload)
+    upper = transport.secure(key, of_device, mic, seq, node.src, dst, node.index, payload, NOTHING if of_device else world.data_for(dst))
     if dice.random() < 0.04:
         upper = upper[:-1] + bytes([upper[-1] ^ 1])
     if not segmented:
@@ -72,6 +72,8 @@ def message(world, node, dst=None):
     """A message of any kind: CTL, DST and a list of (SEQ, transport octets)."""
     dice, dst = world.dice, world.destination() if dst is None else dst
     ctl, segmented = dice.choice((0, 0, 1)), dice.random() < 0.65
+    if kind(dst) == "virtual" and dice.random() < 0.9:
+        ctl = 0
     if node.seq > 0xFFFFFF - 40:
         # near the end of the numbers: messages that the last SEQ cuts off
         node.seq = 0xFFFFFF - dice.randrange(3)
@@ -146,7 +148,7 @@ def openers(world):
     dice = world.dice
     while True:
         node, ctl = world.node(), dice.randint(0, 1)
-        dst, seq = dice.choice((world.local(), world.heard_group())), node.take()
+        dst, seq = dice.choice((world.local(), world.heard_group(), *[world.of_label()] * (1 - ctl))), node.take()
         parts = transport.cut(ctl, dice.randint(0x40, 0x7F), 0, seq, dice.randbytes(dice.randint(13, 40)))
         yield node.say(ctl, world.ttl(), dst, parts[0], seq)
         if dice.random() < 0.3:
@@ -242,9 +244,9 @@ def lasts(world):
         change = dice.randrange(6)
         seg_n = dice.choice((0, 31, seg_n + 1)) % 32 if change == 0 else seg_n
         dst = world.other_than(dst) or dst if change == 1 else dst
-        place, node.index = dice.randint(0, seg_n), index
-        head = transport.segment_header(dice.randint(1, 0x7F), dice.randint(0, 1), start % WINDOW, place, seg_n)
-        yield node.say(1, world.ttl(), dst, head + dice.randbytes(8), min(node.take(), start + WINDOW - 1))
+        place, node.index, ctl = dice.randint(0, seg_n), index, int(kind(dst) != "virtual")
+        head = transport.segment_header(dice.randint(1 if ctl else 0x40, 0x7F), dice.randint(0, 1), start % WINDOW, place, seg_n)
+        yield node.say(ctl, world.ttl(), dst, head + dice.randbytes(transport.segment_size(ctl)), min(node.take(), start + WINDOW - 1))
 
 
 def longest(world):
@@ -368,6 +370,25 @@ def own_voice(world):
             yield one_short(world, dice.randint(0, 1), dice.choice(beside))
         else:
             yield one_short(world, dice.randint(0, 1), world.local())
+
+
+def to_labels(world):
+    """Messages to the addresses of labels, held ones as a rule: whole and in segments, with the right additional data or not, damaged, and again.
+
+    Some are to a group, where a label is no additional data, and a few are control messages.
+    """
+    dice = world.dice
+    while True:
+        node = world.node() if dice.random() < 0.3 else world.some_node()
+        node.seq, node.net = min(node.seq, 0xFFFF00), dice.choice((0, 0, 0, node.net))
+        dst = dice.choice((*[world.of_label()] * 6, world.heard_group(), dice.randint(0x8000, 0xBFFF)))
+        first, segmented, ctl = node.seq, dice.random() < 0.4, int(dice.random() < 0.05)
+        parts = control(dice, first, segmented) if ctl else access(world, node, dst, first, segmented, dice.choice((4, 8)) if segmented else 4)
+        pdus = [node.say(ctl, world.ttl(), dst, part) for part in parts[:dice.choice((1, 6, 32, 32))]]
+        for pdu in pdus:
+            yield pdu
+            if dice.random() < 0.1:
+                yield dice.choice((pdu, damaged(dice, pdu), node.say(ctl, world.ttl(), dst, parts[-1])))
 
 
 ACTORS = (late, crowd, openers, joined, again, lasts, longest, noise, addresses, forms, answers)

@@ -80,11 +80,11 @@ def _nonce(of_device, mic, seq, src, dst, iv_index):
     return bytes([2 if of_device else 1, 0x80 if mic == 8 else 0]) + octets(seq, 3) + octets(src, 2) + octets(dst, 2) + octets(iv_index, 4)
 
 
-def secure(key, of_device, mic, seq, src, dst, iv_index, payload):
-    """An access payload, encrypted, with its TransMIC behind it."""
-    return ccm_seal(key, _nonce(of_device, mic, seq, src, dst, iv_index), payload, mic)
+def secure(key, of_device, mic, seq, src, dst, iv_index, payload, label=b""):
+    """An access payload, encrypted, with its TransMIC behind it; to a virtual DST the label is its additional data."""
+    return ccm_seal(key, _nonce(of_device, mic, seq, src, dst, iv_index), payload, mic, label)
 
 
-def unsecure(key, of_device, mic, seq, src, dst, iv_index, upper):
+def unsecure(key, of_device, mic, seq, src, dst, iv_index, upper, label=b""):
     """The access payload, or None where the TransMIC does not fit."""
-    return ccm_open(key, _nonce(of_device, mic, seq, src, dst, iv_index), upper, mic)
+    return ccm_open(key, _nonce(of_device, mic, seq, src, dst, iv_index), upper, mic, label)

@@ -1,5 +1,5 @@
 """A receiver's surroundings, made from dice: what it is set up with, keys that it does not hold, and the other nodes."""
-from ciphers import k2, k4
+from ciphers import k2, k4, label_address
 from model import Setup
 from network import kind, seal
 
@@ -10,7 +10,7 @@ RESERVED_GROUPS = (0xFF00, 0xFF05, 0xFFFB)
 
 
 def alike(dice, mark, count, wanted=None):
-    """Some keys with one mark (a NID or an AID) between them, found by trying; with the wanted mark where one is named."""
+    """Some keys or labels with one mark (a NID, an AID, an address) between them, found by trying; with the wanted mark where one is named."""
     found = {}
     while True:
         key = dice.randbytes(16)
@@ -37,6 +37,19 @@ def keys_of(dice, mark, count):
     return keys
 
 
+def labels_of(dice, count):
+    """A list of labels: all different, several of one address, one of them twice, or both."""
+    style = dice.randrange(4)
+    if style == 0 or count < 2:
+        return [dice.randbytes(16) for _ in range(count)]
+    same = alike(dice, label_address, dice.randint(2, count)) if style > 1 else []
+    labels = (same + [dice.randbytes(16) for _ in range(count)])[:count]
+    if style < 3:
+        labels[-1] = labels[0]
+    dice.shuffle(labels)
+    return labels
+
+
 def start_of(dice, most=LAST_SEQ):
     """A SEQ to begin with: near 0, near a multiple of 8,192, near the last, or anywhere."""
     near = dice.choice((0, 0, 8192 * dice.randrange(1, 2047), LAST_SEQ, dice.randrange(LAST_SEQ)))
@@ -60,16 +73,21 @@ def setup_of(dice):
     seqs[0] = dice.choice((0, seqs[0], start_of(dice, 0xFFF000)))
     groups = [some_group(dice) for _ in range(dice.randint(0, 8))]
     index = dice.choice((0, 1, 2, 0xFFFFFFFF, dice.randrange(1 << 32)))
-    return Setup(nets, apps, dice.randbytes(16), first, seqs, groups, index, dice.randint(0, 1) if index else 0, dice.choice((0, 1, 1)))
+    device, flag, relay = dice.randbytes(16), dice.randint(0, 1) if index else 0, dice.choice((0, 1, 1))
+    return Setup(nets, apps, device, first, seqs, groups, index, flag, relay, labels_of(dice, dice.randint(0, 4)))
 
 
 def setup_lines(setup, dice):
-    """The lines that give this setup, in an order that keeps the keys' own."""
+    """The lines that give this setup, in an order that keeps the keys' own, and the labels'."""
     lines = [f"netkey {key.hex()}" for key in setup.net_keys] + [f"appkey {bound:x} {key.hex()}" for bound, key in setup.app_keys]
     others = [f"devkey {setup.device_key.hex()}", " ".join([f"elements {setup.first:x}"] + [f"{seq:x}" for seq in setup.seqs]),
               f"ivindex {setup.iv_index:x} {setup.flag:x}", f"relay {setup.relay:x}"] + [f"group {group:x}" for group in setup.groups]
     for each in others:
         lines.insert(dice.randint(0, len(lines)), each)
+    at = len(lines)
+    for label in reversed(setup.labels):
+        at = dice.randint(0, at)
+        lines.insert(at, f"label {label.hex()}")
     return [line.encode() for line in lines] + [b"setup"]
 
 
@@ -137,8 +155,20 @@ class World:
         """A group address that is for the receiver."""
         return self.dice.choice([0xFFFF] + [0xFFFE] * self.setup.relay + self.setup.groups)
 
+    def of_label(self):
+        """The address of a held label, where there is one; else of none."""
+        return self.dice.choice(self.receiver.addresses or [self.dice.randint(0x8000, 0xBFFF)])
+
+    def data_for(self, dst):
+        """The additional data of a message: mostly a held label of a virtual DST, and none for another; now and then any held label, or none."""
+        held = self.setup.labels
+        right = [label for label, address in zip(held, self.receiver.addresses) if address == dst] or [b""]
+        return self.dice.choice(right if self.dice.random() < 0.8 else [b"", *held])
+
     def destination(self):
         """A DST: mostly one that is for the receiver."""
+        if self.receiver.addresses and self.dice.random() < 0.12:
+            return self.of_label()
         roll = self.dice.random()
         if roll < 0.55:
             return self.local()
@@ -160,6 +190,8 @@ class World:
         """Another address of the same kind that is for the receiver, or None."""
         if kind(address) == "unicast":
             others = [self.setup.first + at for at in range(len(self.setup.seqs))]
+        elif kind(address) == "virtual":
+            others = self.receiver.addresses
         else:
             others = [0xFFFF] + self.setup.groups
         others = [other for other in others if other != address]

@@ -14,14 +14,14 @@ are what a Sensor Status message says, written as the console reads them, any nu
   PROPERTY raw OCTETS             1 to 127 octets, as they are sent
 
 What a box sends, story.txt names behind `hear NAME`: `segment N` with nothing, resent, relayed or forged behind it; `status TTL DST`, the wind's
-force; `first before` and `first now`, with nothing or relayed behind it; `recorded`, the first PDU that it sent, once more; `echo`, the last PDU that
+force; `label TTL NAME`, the same to one of the labels below; `first before` and `first now`, with nothing or relayed behind it; `recorded`, the first PDU that it sent, once more; `echo`, the last PDU that
 the station sent, which the box hands on as a relay.
 """
 import re
 
 import network
 import transport
-from ciphers import k2, k4
+from ciphers import k2, k4, label_address
 
 # MP's sample data, 8.3, as story.txt sets the station up with them.
 NETWORK_KEY = bytes.fromhex("7dd7364cd842ad18c17c2b820c84c3d6")
@@ -29,6 +29,8 @@ APPLICATION_KEY = bytes.fromhex("63964771734fbd76e3b40519d1d94a48")
 IV_INDEX = 0x12345678
 INDEXES = {"before": IV_INDEX - 1, "now": IV_INDEX}
 STATION, TTL = 0x0001, 5
+# Three labels of one address, found by search. The station holds the first two.
+LABELS = {name: bytes.fromhex(octets * 8) for name, octets in (("filling", "0039"), ("launching", "0073"), ("visitors", "2a01"))}
 
 # Sensor Status of the Mesh Model, and for each kind of value how it is counted: signed or not, and the count that says "not known".
 SENSOR_STATUS = b"\x52"
@@ -126,9 +128,9 @@ class Box:
         upper = self._secured(self.start, STATION, self.payload)
         return [self._cut(self.start + place, upper)[place] for place in range(len(self.segments))]
 
-    def _secured(self, seq, dst, payload, index=IV_INDEX):
+    def _secured(self, seq, dst, payload, index=IV_INDEX, label=b""):
         """The upper transport octets of a message."""
-        return transport.secure(APPLICATION_KEY, False, 4, seq, self.src, dst, index, payload)
+        return transport.secure(APPLICATION_KEY, False, 4, seq, self.src, dst, index, payload, label)
 
     def _take(self):
         """Its next SEQ."""
@@ -143,9 +145,9 @@ class Box:
         self.said.append(pdu)
         return pdu
 
-    def _short(self, ttl, seq, dst, payload, index=IV_INDEX):
+    def _short(self, ttl, seq, dst, payload, index=IV_INDEX, label=b""):
         """A message that is whole in one PDU."""
-        return self._sealed(ttl, seq, dst, bytes([0x40 | k4(APPLICATION_KEY)]) + self._secured(seq, dst, payload, index), index)
+        return self._sealed(ttl, seq, dst, bytes([0x40 | k4(APPLICATION_KEY)]) + self._secured(seq, dst, payload, index, label), index)
 
     def segment(self, place, how=""):
         """A segment of the long message: as first sent, resent under a new SEQ, relayed (the latest, its TTL one lower), or forged."""
@@ -160,6 +162,13 @@ class Box:
     def status(self, ttl, dst):
         """A short message, whole in one PDU: the wind's force, which grows from 3 on."""
         return self._short(ttl, self._take(), dst, WIND_STATUS + bytes([3 + len(self.said)]))
+
+    def label(self, ttl, name):
+        """The same to a label."""
+        if name not in LABELS:
+            raise Unknown(f"label {name}")
+        label = LABELS[name]
+        return self._short(ttl, self._take(), label_address(label), WIND_STATUS + bytes([3 + len(self.said)]), label=label)
 
     def first(self, when, how=""):
         """Its first reading under the IV Index before or under the one now, each with the SEQ `start`; or relayed, its TTL one lower."""

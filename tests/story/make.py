@@ -47,6 +47,8 @@ def sent(box, words, last):
             return box.segment(number(place, 31), " ".join(how))
         case ["status", ttl, dst]:
             return box.status(number(ttl, 0x7F), number(dst, 0xFFFF))
+        case ["label", ttl, name]:
+            return box.label(number(ttl, 0x7F), name)
         case ["first", when, *how]:
             return box.first(when, " ".join(how))
         case ["recorded"]:

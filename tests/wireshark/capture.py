@@ -13,6 +13,7 @@ CRC = bytes(3)
 FIELDS = tuple("btmesh." + name for name in (
     "ctl", "ttl", "seq", "src", "dst", "szmic", "seqzero_data", "sego", "segn", "acc.akf", "access.decrypted", "cntr.opcode", "cntr.unknownpayload", "obo",
     "seqzero", "blockack"))
+OCTETS = ("btmesh.access.decrypted", "btmesh.cntr.unknownpayload")
 OPCODE, PROPERTY, SENSOR_STATUS = "btmesh.model.opcode", "btmesh.property.", "btmesh.model.sensor_status."
 
 # A record of Sensor Status as tshark reads it: the format, the length's bits as they stand, the property, the value's octets, and the words for
@@ -38,14 +39,14 @@ def _file(pdus):
     return text
 
 
-def _value(text):
+def _value(field, text):
     """A field as a number, or as hex digits where it is octets."""
     if not text:
         return None
-    return int(text, 0) if text.isdecimal() or text.startswith("0x") else text.replace(":", "")
+    return text.replace(":", "") if field in OCTETS else int(text, 0)
 
 
-def _tshark(pdus, networks, devices, wanted):
+def _tshark(pdus, networks, devices, labels, wanted):
     """What tshark writes of the PDUs with these options, in two passes: the first puts segments together."""
     with tempfile.TemporaryDirectory() as folder:
         file = Path(folder) / "mesh.pcap"
@@ -55,13 +56,15 @@ def _tshark(pdus, networks, devices, wanted):
             words += ["-o", f'uat:btmesh_nw_keys:"0x{net.hex()}","0x{app.hex()}","0x{index:08x}"']
         for key, src in devices:
             words += ["-o", f'uat:btmesh_dev_keys:"0x{key.hex()}","0x{src:04x}"']
+        for label in labels:
+            words += ["-o", f'uat:btmesh_label_uuids:"0x{label.hex()}"']
         run = subprocess.run(words, capture_output=True, text=True, check=False)
     if run.returncode:
         raise Failed(f"tshark ended with status {run.returncode}: {run.stderr.strip()}")
     return run.stdout
 
 
-def dissected(pdus, networks, devices):
+def dissected(pdus, networks, devices, labels):
     """What tshark says of each PDU, as a dictionary of its fields.
 
     networks are (network key, application key, IV Index), devices (device key, source address).
@@ -69,10 +72,10 @@ def dissected(pdus, networks, devices):
     wanted = ["-T", "fields", "-E", "separator=|", "-E", "occurrence=f"]
     for field in FIELDS:
         wanted += ["-e", field]
-    lines = _tshark(pdus, networks, devices, wanted).splitlines()
+    lines = _tshark(pdus, networks, devices, labels, wanted).splitlines()
     if len(lines) != len(pdus):
         raise Failed(f"tshark wrote {len(lines)} lines for {len(pdus)} packets")
-    return [dict(zip(FIELDS, (_value(word) for word in line.split("|")))) for line in lines]
+    return [{field: _value(field, word) for field, word in zip(FIELDS, line.split("|"))} for line in lines]
 
 
 def _records(packet):
@@ -96,6 +99,6 @@ def _records(packet):
 
 def statuses(pdus, networks):
     """What tshark says of each Sensor Status that the PDUs carry: the records, and whether it calls the packet malformed."""
-    for packet in xml.fromstring(_tshark(pdus, networks, (), ["-T", "pdml"])).iter("packet"):
+    for packet in xml.fromstring(_tshark(pdus, networks, (), (), ["-T", "pdml"])).iter("packet"):
         if any(field.get("name") == OPCODE and int(field.get("show"), 0) == 0x52 for field in packet.iter("field")):
             yield _records(packet), any(part.get("name") == "_ws.malformed" for part in packet.iter("proto"))

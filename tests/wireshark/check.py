@@ -3,7 +3,7 @@
   python3 tests/wireshark/check.py
 
 For each station the console sends messages of every kind, then, set up anew as the receiver, hears their PDUs and acknowledges. tshark
-gets the keys and all PDUs, the acknowledgements too, in one capture: what it reads must be what was asked for. A damaged PDU of each station
+gets the keys, the labels and all PDUs, the acknowledgements too, in one capture: what it reads must be what was asked for. A damaged PDU of each station
 is among them, of which it must read nothing. The console is bin/console, or the command of GOREPHAN_CONSOLE.
 """
 import argparse
@@ -14,7 +14,8 @@ sys.path.insert(0, str(Path(__file__).resolve().parents[1] / "independent"))
 
 import program  # noqa: E402
 from capture import Failed, dissected  # noqa: E402
-from messages import GROUP, RECEIVER, SENDER, UNNAMED_TTL, Station, count_of, readings, segmented, unopened  # noqa: E402
+from messages import RECEIVER, SENDER, UNNAMED_TTL, Station, count_of, readings, segmented, unopened  # noqa: E402
+from network import kind  # noqa: E402
 
 STATIONS = ((1, 0x12345678, 0), (2, 0x00101847, 1))
 
@@ -55,7 +56,7 @@ def heard(words, station, spoken):
     for message, pdus in spoken:
         lines += [f"hear {pdu.hex()}" for pdu in pdus]
         ends.append((message, len(lines) - 1))
-        if segmented(message) and message.dst != GROUP:
+        if segmented(message) and kind(message.dst) == "unicast":
             element = message.dst - RECEIVER
             requests.append((len(lines), {
                 "btmesh.ctl": 1, "btmesh.ttl": UNNAMED_TTL, "btmesh.seq": own[element], "btmesh.src": message.dst, "btmesh.dst": SENDER + message.element,
@@ -65,8 +66,8 @@ def heard(words, station, spoken):
         seqs[message.element] += len(pdus)
     answers = ask(words, lines)
     for message, at in ends:
-        word = "control" if message.mic is None else "access"
-        if not answers[at].startswith(f"{word} src {SENDER + message.element:04x} dst {message.dst:04x} ") \
+        word, label = "control" if message.mic is None else "access", "" if message.label is None else f"label {message.label:x} "
+        if not answers[at].startswith(f"{word} src {SENDER + message.element:04x} dst {message.dst:04x} {label}net ") \
                 or not answers[at].endswith(f" message {message.payload.hex() or '-'}"):
             raise Wrong(f"{message.line}\n  is heard as: {answers[at]}")
     for at, read in requests:
@@ -106,7 +107,7 @@ def main():
             station = Station(*parts)
             all_frames = list(frames(words, station))
             networks = [(net, app, station.sending_index) for net, app in zip(station.nets, station.apps)]
-            said = dissected([pdu for pdu, _ in all_frames], networks, [(station.device, SENDER + at) for at in range(2)])
+            said = dissected([pdu for pdu, _ in all_frames], networks, [(station.device, SENDER + at) for at in range(2)], station.labels)
             fields += sum(compare(pdu, read, each) for (pdu, read), each in zip(all_frames, said))
             count += len(all_frames)
             closed += sum(map(unopened, station.messages))

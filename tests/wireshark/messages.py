@@ -2,43 +2,59 @@
 import random
 from collections import namedtuple
 
+from ciphers import label_address
+from world import alike
+
 SENDER, RECEIVER, GROUP = 0x0003, 0x1201, 0xC105
 # An access message's TransMIC and payload length; a control message's parameters' length.
 ACCESS = ((4, 1), (4, 11), (4, 12), (4, 20), (4, 21), (4, 43), (4, 380), (8, 1), (8, 4), (8, 5), (8, 376))
 CONTROL = (0, 1, 11, 12, 17, 256)
+TO_LABELS = ((4, 1), (4, 11), (4, 12), (4, 43), (8, 1), (8, 5))
 TTLS = (None, 0, 2, 127)
 UNNAMED_TTL = 4
 # Opcodes that MP leaves free, so that a dissector shows the parameters as they are.
 FREE_OPCODES = range(0x0B, 0x80)
 
-# line is the console's; key is an application key's number, None for the device key; mic is None for control.
-Message = namedtuple("Message", "line element dst ttl net key mic opcode payload")
+# line is the console's; key is an application key's number, None for the device key; mic is None for control; label is a label's number, None for no label.
+Message = namedtuple("Message", "line element dst ttl net key mic opcode payload label", defaults=(None,))
 
 
 def _line(word, element, dst, ttl, net, *rest):
-    """A request; a TTL of None is left unnamed."""
-    return " ".join([word, f"{element}", f"{dst:x}", "-" if ttl is None else f"{ttl:x}", f"{net}", *rest])
+    """A request; DST is as it is written, and a TTL of None is left unnamed."""
+    return " ".join([word, f"{element}", dst, "-" if ttl is None else f"{ttl:x}", f"{net}", *rest])
 
 
-def messages(dice):
-    """One message of each size, under each key, to both kinds of destination as far as they are allowed."""
+def _access(dice, mic, size, key, dst, label=None):
+    """An access message, to a label where one is named; dst is the address in any case."""
+    net, element, ttl = key or 0, dice.randrange(2), dice.choice(TTLS)
+    # an opcode of two octets that no model has: tshark shows an access payload whatever is in it
+    payload = (b"\xbf\xff" + dice.randbytes(size))[:size]
+    written = f"{dst:x}" if label is None else f"label:{label:x}"
+    line = _line("access", element, written, ttl, net, "dev" if key is None else f"{key}", f"{mic}", payload.hex())
+    return Message(line, element, dst, ttl, net, key, mic, None, payload, label)
+
+
+def messages(dice, labels):
+    """One message of each size, under each key, to each kind of destination as far as they are allowed."""
     for mic, size in ACCESS:
         for key, dst in ((0, RECEIVER), (1, GROUP), (None, RECEIVER + 1)):
-            net, element, ttl = key or 0, dice.randrange(2), dice.choice(TTLS)
-            # an opcode of two octets that no model has: tshark shows an access payload whatever is in it
-            payload = (b"\xbf\xff" + dice.randbytes(size))[:size]
-            line = _line("access", element, dst, ttl, net, "dev" if key is None else f"{key}", f"{mic}", payload.hex())
-            yield Message(line, element, dst, ttl, net, key, mic, None, payload)
+            yield _access(dice, mic, size, key, dst)
+    for mic, size in TO_LABELS:
+        for at, label in enumerate(labels):
+            yield _access(dice, mic, size, at % 2, label_address(label), at)
     for size in CONTROL:
         for dst in (RECEIVER, GROUP):
             net, element, ttl, opcode = dice.randrange(2), dice.randrange(2), dice.choice(TTLS), dice.choice(FREE_OPCODES)
             payload = dice.randbytes(size)
-            line = _line("control", element, dst, ttl, net, f"{opcode:x}", payload.hex() or "-")
+            line = _line("control", element, f"{dst:x}", ttl, net, f"{opcode:x}", payload.hex() or "-")
             yield Message(line, element, dst, ttl, net, None, None, opcode, payload)
 
 
 class Station:
-    """Sender and receiver with the same keys: two network keys, an application key of each, a device key, an IV Index and its flag."""
+    """Sender and receiver with the same keys: two network keys, an application key of each, a device key, an IV Index and its flag.
+
+    And with the same labels, of which two have one address.
+    """
 
     def __init__(self, seed, index, flag):
         dice = random.Random(seed)
@@ -47,12 +63,14 @@ class Station:
         self.device = dice.randbytes(16)
         self.index, self.flag = index, flag
         self.starts = [dice.randrange(0xFF0000), dice.randrange(0xFF0000)]
-        self.messages = list(messages(dice))
+        self.labels = [*alike(dice, label_address, 2), dice.randbytes(16)]
+        self.messages = list(messages(dice, self.labels))
 
     def setup(self, first, seqs):
         """The lines that set up one of the two."""
         lines = [f"netkey {key.hex()}" for key in self.nets] + [f"appkey {at} {key.hex()}" for at, key in enumerate(self.apps)]
         lines += [f"devkey {self.device.hex()}", f"elements {first:x} " + " ".join(f"{seq:x}" for seq in seqs)]
+        lines += [f"label {label.hex()}" for label in self.labels]
         return lines + [f"ivindex {self.index:x} {self.flag}", f"group {GROUP:x}", "setup"]
 
     @property
