@@ -284,8 +284,13 @@ class Walk:
             instruction = place.object.code.get(place)
             if instruction is None:
                 raise Unmeasured(f"{self.function.name}: no instruction at {place.offset:#x}")
-            if len(states) > MANY:
+            if len({each[0] for each in states}) > MANY:
                 raise self.error(instruction, "the stack grows in a loop")
+            if len(states) > MANY:  # a register that held the stack pointer goes through the frame in a loop
+                held = dict(set.intersection(*(set(each[1:]) for each in states)))
+                if (depth, *sorted(held.items())) in states:
+                    continue
+                states.add((depth, *sorted(held.items())))
             todo.extend(self.step(instruction, depth, held))
         self.missed()
         return Frame(self.own, self.calls, self.outside)

@@ -15,6 +15,7 @@ KNOWN = [
     ("jumps_within", ("jumps_within", "framed"), 0, 184),
     ("aligned", None, 0, 200),
     ("page_by_page", None, 0, 12312),
+    ("walks_frame", None, 0, 8200),
     ("recursive", ("recursive", "chain_second", "framed"), 0, 328, "--depth", "recursive=5"),
     ("one_of_two", ("one_of_two", "other_of_two"), 0, 144, "--depth", "one_of_two=3"),
     ("by_table", ("by_table", "framed"), 8, 136),

@@ -95,6 +95,18 @@
 	ret
 	end	page_by_page
 
+# a register goes through the frame in a loop, the stack pointer stays: 8 + 8192 = 8200
+	begin	walks_frame
+	sub	$8192, %rsp
+	lea	16(%rsp), %r11
+1:	movb	$1, (%r11)
+	add	$2, %r11
+	cmp	%rdi, %r11
+	jne	1b
+	add	$8192, %rsp
+	ret
+	end	walks_frame
+
 # of five calls open at once: 4 * (8 + 24) and, in the last, chain_second: 32 + 168 = 328
 	begin	recursive
 	sub	$24, %rsp
