@@ -16,7 +16,7 @@ use Rattle.memory.specs.declared.replay.Entry.{Entry}
 use Rattle.memory.specs.declared.session.Segment.{Segment}
 use Rattle.memory.specs.declared.session.Session.{Session}
 use Rattle.memory.specs.declared.session.Terms.{Terms}
-use Rattle.memory.specs.Decision.{joining, opening, decision}
+use Rattle.memory.specs.Decision.{joining, opening, decisionBy, decision}
 use Rattle.memory.specs.Pair.{samePair}
 use Rattle.memory.specs.Replay.{lookUp, stale, hasRoom, isLast}
 use Rattle.memory.specs.Session.{sessionSlots, sessionAt, segmentKey, sessionPlace, freePlace, sameBit, sameTerms}
@@ -43,7 +43,7 @@ module _ (replay : List Entry) (sessions : List Session) (src : ℕ) (seg : Segm
   pub decide-last :
       (seg .terms .dst ≡ 0 → ⊥) → lookUp replay src .last ≡ record { auth = seg .auth; segn = seg .terms .segn; dst = seg .terms .dst }
       → decided ≡ Repeat (allBits (seg .terms .segn))
-  unfolding decision isLast
+  unfolding decisionBy isLast
   decide-last z e =
       rw (e, ne-eqb (seg .terms .dst) 0 z, same-pair (seg .auth), eq-eqb (seg .terms .segn) (seg .terms .segn) refl, eq-eqb (seg .terms .dst) (seg .terms .dst) refl) refl
 
@@ -53,15 +53,15 @@ module _ (replay : List Entry) (sessions : List Session) (src : ℕ) (seg : Segm
   -- it is not of the last message handed up, and there is room for an entry
   module _ (other : isLast (lookUp replay src .last) (seg .auth) (seg .terms .segn) (seg .terms .dst) ≡ false) (room : hasRoom replay src ≡ true) where
     pub decide-open : stale (lookUp replay src) (seg .auth) ≡ false → sessionSlots ≤ own → freePlace sessions < sessionSlots → decided ≡ Open (freePlace sessions)
-    unfolding decision opening
+    unfolding decisionBy opening
     decide-open old out free = rw (other, le-ltb own sessionSlots out, old, room, lt-ltb (freePlace sessions) sessionSlots free) refl
 
     -- and the session s in the slot of its key is of its SeqAuth and terms
     module _ (s : Session) (within : own < sessionSlots) (held : sessionAt sessions own ≡ s) (auth : s .auth ≡ seg .auth) (terms : s .terms ≡ seg .terms) where
       pub decide-repeat : hasBit (s .filled) (seg .sego) ≡ true → decided ≡ Repeat (s .filled)
-      unfolding decision joining
+      unfolding decisionBy joining
       decide-repeat b = rw (other, lt-ltb own sessionSlots within, held, auth, same-pair (seg .auth), terms, same-terms (seg .terms), room, b) refl
 
       pub decide-join : hasBit (s .filled) (seg .sego) ≡ false → decided ≡ Join own
-      unfolding decision joining
+      unfolding decisionBy joining
       decide-join b = rw (other, lt-ltb own sessionSlots within, held, auth, same-pair (seg .auth), terms, same-terms (seg .terms), room, b) refl

@@ -19,7 +19,7 @@ use Rattle.memory.specs.declared.decision.Decision.the-variants.{Repeat,
 use Rattle.memory.specs.Pair.{newer, samePair}
 use Rattle.memory.specs.Replay.{lookUp, stale, hasRoom, isLast}
 use Rattle.memory.specs.Session.{sessionSlots, sessionAt, segmentKey, sessionPlace, freePlace, sameTerms}
-use Rattle.memory.specs.Decision.{Word, repeats, joins, opens, paper, PaperApart, joining, replacing, opening, decision}
+use Rattle.memory.specs.Decision.{Word, repeats, joins, opens, paper, PaperApart, joining, replacing, opening, decisionBy, decision}
 
 -- ---- it joins
 module _ (s : Session) (own : ℕ) (room : Bool) (seg : Segment) (t : Bool) (e : t ≡ sameTerms (s .terms) (seg .terms)) where
@@ -91,21 +91,21 @@ pub ruleset opening-rules = (opens-stale, opens-unlisted, opens-free, opens-none
 module _ (replay : List Entry) (sessions : List Session) (src : ℕ) (seg : Segment) {e : Entry} (ee : e ≡ lookUp replay src) where
   module _ {b : Bool} (eb : b ≡ isLast (e .last) (seg .auth) (seg .terms .segn) (seg .terms .dst)) where
     pub of-last : b ≡ true → {bits : ℕ} → bits ≡ allBits (seg .terms .segn) → Repeat bits ≡ decision replay sessions src seg
-    unfolding decision
+    unfolding decisionBy
     of-last h {bits} q = rw (← ee, ← eb, h, q)
 
     module _ (h1 : b ≡ false) {room : Bool} (er : room ≡ hasRoom replay src) {key : SessionKey} (ek : key ≡ segmentKey src seg) {own : ℕ} (eo : own ≡ sessionPlace sessions key) {d : Decision} where
       module _ (h2 : own < sessionSlots) {same : Bool} (es : same ≡ samePair (sessionAt sessions own .auth) (seg .auth)) where
         pub of-session : same ≡ true → d ≡ joining (sessionAt sessions own) own room seg → d ≡ decision replay sessions src seg
-        unfolding decision
+        unfolding decisionBy
         of-session h q = rw (← ee, ← eb, h1, ← ek, ← eo, lt-ltb own sessionSlots h2, ← es, h, ← er, q)
 
         pub of-another : same ≡ false → d ≡ replacing e (sessionAt sessions own .auth) own room (seg .auth) → d ≡ decision replay sessions src seg
-        unfolding decision
+        unfolding decisionBy
         of-another h q = rw (← ee, ← eb, h1, ← ek, ← eo, lt-ltb own sessionSlots h2, ← es, h, ← er, q)
 
       pub of-none : sessionSlots ≤ own → {free : ℕ} → free ≡ freePlace sessions → d ≡ opening e free room (seg .auth) → d ≡ decision replay sessions src seg
-      unfolding decision
+      unfolding decisionBy
       of-none h2 {free} f q = rw (← ee, ← eb, h1, ← ek, ← eo, le-ltb own sessionSlots h2, ← er, ← f, q)
 
 pub ruleset decision-rules = (of-last, of-session, of-another, of-none)

@@ -6,7 +6,12 @@ pub mod DecisionLaws
 pub mod OutgoingLaws
 pub mod CacheLaws
 pub mod Remembered
+pub mod ReplayOrder
+pub mod ReplayInsert
 pub mod ReplayMap
+pub mod WalkedMap
+pub mod Agree
+pub mod Alike
 pub mod SessionSlots
 pub mod Stored
 pub mod Within

@@ -1,5 +1,5 @@
--- The replay list is a map from sources: what is inserted is looked up, and every other source's entry stays, for an entry goes where its source's stood or none did. It stays as it is kept;
--- and where fewer sources than there are entries have one, there is room for any. Assumes nothing.
+-- The replay list is a map from sources: what is inserted is looked up, and every other source's entry stays. It stays as it is kept; and where fewer sources than there are entries have
+-- one, there is room for any. Assumes nothing.
 --   lookUp-.., hasRoom-..   what is found, and that there is room
 --   kept-..                 the list stays as it is kept
 --   each-..                 what holds of every entry's source
@@ -7,228 +7,195 @@
 --   room-left               and that there is room
 use mathlib.Core.Bool.{true, false, true≢false}
 use mathlib.Core.List.{List}
-use mathlib.Core.Logic.{_⊎_, inl, inr}
-use mathlib.Core.Path.{_≡_, refl, sym, ap, _∙_}
-use Prim.Native.Nat.{ℕ, _≤_, _<_}
+use mathlib.Core.Logic.{_⊎_, inl, inr, ⊎-elim}
+use mathlib.Core.Path.{_≡_, refl, sym, ap, _∙_, subst}
+use Prim.Native.Nat.{ℕ, _-_, _≤_, _<_}
 use native.Mathlib.Omega.{arith}
-use borrow.Author.Tests.{eq-eqb, eqb-true, eqb-false, lt-ltb, ltb-true, ltb-false}
+use borrow.Author.Tests.{eqb-true, eqb-false, ltb-true, ltb-false}
 use lib.Dec.{eqb, ltb}
-use lib.ListN.{length, getD, set, length-set, length-replicate, getD-replicate, List·getD-eq-default}
-use lib.Seq.{getD-set-same}
-use Rattle.common.specs.Choice.{if_then_else_}
-use Rattle.common.specs.Search.{first}
-use Rattle.common.proofs.Tests.{by-test}
+use lib.ListN.{length, getD, length-replicate, List·getD-eq-default}
+use Rattle.common.specs.Lists.{tab}
+use Rattle.common.proofs.Lists.{length-tab, getD-tab}
+use Rattle.common.proofs.Tests.{by-test, by-choice}
 use Rattle.memory.specs.declared.pair.Pair.{Pair}
 use Rattle.memory.specs.declared.replay.Entry.{Entry}
 use Rattle.memory.specs.Pair.{newer, greater}
-use Rattle.memory.specs.Replay.{replayEntries, noEntry, noEntries, entryPlace, lookUp, stale, hasRoom, inserted, raised, accepted, handedUp, ReplayKept}
+use Rattle.memory.specs.Replay.{replayEntries, noEntry, noEntries, entryPlace, standing, isListed, lookUp, lastFree, hasRoom, shiftedAt, inserted}
+use Rattle.memory.specs.Replay.{stale, raised, acceptedBy, accepted, handedUpBy, handedUp, ReplayKept}
 use Rattle.memory.proofs.Keyed as keyed
+use Rattle.memory.proofs.ReplayInsert.{goes, stands-new}
+use Rattle.memory.proofs.ReplayLaws.{room-own, room-last, stands-within, insert-full}
+use Rattle.memory.proofs.ReplayOrder.{entriesKeyed, sourceAt, sources-apart, last-free, last-free-by, lookUp-there, lookUp-not-there, looked-up, lookUp-of}
 use Rattle.memory.proofs.Room.{Owned, place-free}
 
-abbrev entriesKeyed : keyed.Keyed Entry ℕ
-entriesKeyed =
-    record { key = λ (e : Entry). e .src; same = eqb; none = λ a. eqb a 0; same-told = eqb-true; same-self = λ a. eq-eqb a a refl }
+-- no place has it: it has none
+pub lookUp-nowhere : (l : List Entry) (a : ℕ) → ((i : ℕ) → sourceAt l i ≡ a → ⊥) → lookUp l a ≡ noEntry
+lookUp-nowhere l a none = lookUp-not-there l a (none (entryPlace l a))
 
--- what stands at a source's place is that source's, or nothing
-stood-other : (l : List Entry) (src a : ℕ) → (a ≡ src → ⊥) → (a ≡ 0 → ⊥) → a ≡ getD l (entryPlace l src) noEntry .src → ⊥
-unfolding entryPlace
-stood-other l src a n z q =
-    let k = entryPlace l src in
-    by-test (ltb k (length l))
-    (λ t. n (q ∙ keyed.found-key entriesKeyed noEntry l src (ltb-true k (length l) t)))
-    (λ t. z (q ∙ ap (λ (e : Entry). e .src) (List·getD-eq-default l noEntry {n = k} (ltb-false k (length l) t))))
-
--- where a source's entry goes
-abbrev newPlace : List Entry → ℕ → ℕ
-newPlace l src = if ltb (entryPlace l src) replayEntries then entryPlace l src else entryPlace l 0
-
-inserted-is : (l : List Entry) (e : Entry) → inserted l e ≡ set l (newPlace l (e .src)) e
-unfolding inserted
-inserted-is l e = by-test (ltb (entryPlace l (e .src)) replayEntries) (λ t. rw t) (λ t. rw t)
-
-new-other : (l : List Entry) (src a : ℕ) → (a ≡ src → ⊥) → (a ≡ 0 → ⊥) → a ≡ getD l (newPlace l src) noEntry .src → ⊥
-new-other l src a n z =
-    by-test (ltb (entryPlace l src) replayEntries) (λ t. rw t (stood-other l src a n z)) (λ t. rw t (stood-other l 0 a z z))
-
-module _ (l : List Entry) (src : ℕ) (room : hasRoom l src ≡ true) where
-  new-within : newPlace l src < replayEntries
-  unfolding hasRoom
-  new-within =
-      by-test (ltb (entryPlace l src) replayEntries) (λ t. rw t (ltb-true (entryPlace l src) replayEntries t)) (λ t. rw t (ltb-true (entryPlace l 0) replayEntries (rw t at room)))
-
-  new-before : newPlace l src ≤ entryPlace l src
-  new-before =
-      let w = new-within in
-      by-test (ltb (entryPlace l src) replayEntries) (λ t. rw t (omega arith)) (λ t. let n = ltb-false (entryPlace l src) replayEntries t in omega arith)
-
--- an empty place is room for any source
-pub hasRoom-free : (l : List Entry) (src : ℕ) → entryPlace l 0 < replayEntries → hasRoom l src ≡ true
-unfolding hasRoom
-hasRoom-free l src f = by-test (ltb (entryPlace l src) replayEntries) (λ t. rw t refl) (λ t. rw (t, lt-ltb (entryPlace l 0) replayEntries f) refl)
+-- source 0 has none
+lookUp-zero : (l : List Entry) → lookUp l 0 .src ≡ 0
+lookUp-zero l = ⊎-elim (λ e. ap (λ (x : Entry). x .src) (lookUp-there l 0 e) ∙ e) (ap (λ (x : Entry). x .src)) (looked-up l 0)
 
 -- ---- a list with no entry
-pub hasRoom-none : (src : ℕ) → hasRoom noEntries src ≡ true
-unfolding entryPlace first
-hasRoom-none src = hasRoom-free noEntries src (omega arith)
+none-at : (i : ℕ) → getD noEntries i noEntry ≡ noEntry
+none-at = keyed.each-replicate (λ (e : Entry). e ≡ noEntry) noEntry replayEntries noEntry refl refl
+
+pub kept-none : ReplayKept noEntries
+kept-none =
+    record { places = length-replicate replayEntries noEntry; ascends = λ i j h k z. absurd (z (ap (λ (e : Entry). e .src) (none-at j))) }
 
 pub lookUp-none : (a : ℕ) → lookUp noEntries a ≡ noEntry
-unfolding lookUp
-lookUp-none a =
-    let k = entryPlace noEntries a in
-    by-test (ltb k replayEntries)
-    (λ t. getD-replicate replayEntries k noEntry noEntry (ltb-true k replayEntries t))
-    (λ t. List·getD-eq-default noEntries noEntry {n = k} (rw (length-replicate replayEntries noEntry) (ltb-false k replayEntries t)))
+lookUp-none a = ⊎-elim (λ e. lookUp-there noEntries a e ∙ none-at (entryPlace noEntries a)) (λ e. e) (looked-up noEntries a)
 
--- ---- a list with an entry inserted
-module _ (l : List Entry) (e : Entry) where
-  pub length-inserted : length (inserted l e) ≡ length l
-  length-inserted = rw (inserted-is l e) (length-set l (newPlace l (e .src)) e)
+-- the last place is room for any source
+pub hasRoom-free : (l : List Entry) (src : ℕ) → lastFree l ≡ true → hasRoom l src ≡ true
+unfolding hasRoom
+hasRoom-free l src f = by-test (isListed l src) (λ t. rw t refl) (λ t. rw (t, f) refl)
 
-  pub lookUp-inserted-other : (a : ℕ) → (a ≡ e .src → ⊥) → (a ≡ 0 → ⊥) → lookUp (inserted l e) a ≡ lookUp l a
-  unfolding lookUp entryPlace
-  lookUp-inserted-other a n z =
-      rw (inserted-is l e)
-      (keyed.found-set-other entriesKeyed noEntry l (newPlace l (e .src)) e a n (new-other l (e .src) a n z))
+pub hasRoom-none : (src : ℕ) → hasRoom noEntries src ≡ true
+hasRoom-none src = hasRoom-free noEntries src (last-free noEntries (kept-none .ascends) 0 (omega arith) (ap (λ (e : Entry). e .src) (none-at 0)))
 
-  module _ (long : length l ≡ replayEntries) (room : hasRoom l (e .src) ≡ true) where
-    place-inserted : entryPlace (inserted l e) (e .src) ≡ newPlace l (e .src)
-    unfolding entryPlace
-    place-inserted =
-        let w = new-within l (e .src) room in
-        rw (inserted-is l e)
-        (keyed.place-set-own entriesKeyed noEntry l (newPlace l (e .src)) e (omega arith) (new-before l (e .src) room))
+-- ---- an entry is inserted
+module _ (l : List Entry) (k : ReplayKept l) (e : Entry) where
+  pub kept-inserted : ReplayKept (inserted l e)
+  kept-inserted = goes l k e .kept
 
-    pub lookUp-inserted-own : lookUp (inserted l e) (e .src) ≡ e
-    unfolding lookUp
-    lookUp-inserted-own =
-        let w = new-within l (e .src) room in
-        rw (place-inserted, inserted-is l e) (getD-set-same l (newPlace l (e .src)) e noEntry (omega arith))
+  pub lookUp-inserted-own : (e .src ≡ 0 → ⊥) → hasRoom l (e .src) ≡ true → lookUp (inserted l e) (e .src) ≡ e
+  lookUp-inserted-own some room =
+      let s = stands-new l k e some room in
+      let at = ap (λ (x : Entry). x .src) (s .2) in
+      ap (lookUp (inserted l e)) (sym at) ∙ lookUp-of (inserted l e) (kept-inserted .ascends) (s .0) (s .1) (λ z. some (sym at ∙ z)) ∙ s .2
 
--- ---- after a segmented message was handed up
+  module _ (a : ℕ) (n : a ≡ e .src → ⊥) (z : a ≡ 0 → ⊥) where
+    abbrev b : List Entry
+    b = inserted l e
+
+    -- it stood, so it stands
+    other-stood : sourceAt l (entryPlace l a) ≡ a → lookUp b a ≡ lookUp l a
+    other-stood q =
+        let i = entryPlace l a in
+        let w = stands-within l i (getD l i noEntry) refl (λ y. z (sym q ∙ y)) in
+        let m = goes l k e .moved i (rw (← k .places) w) (λ y. z (sym q ∙ y)) (λ y. n (sym q ∙ y)) in
+        let at = ap (λ (x : Entry). x .src) (m .2) ∙ q in
+        ap (lookUp b) (sym at) ∙ lookUp-of b (kept-inserted .ascends) (m .0) (m .1) (λ y. z (sym at ∙ y)) ∙ m .2 ∙ sym (lookUp-there l a q)
+
+    -- it stands, so it stood
+    other-stands : sourceAt b (entryPlace b a) ≡ a → lookUp b a ≡ lookUp l a
+    other-stands q =
+        let j = entryPlace b a in
+        let w = stands-within b j (getD b j noEntry) refl (λ y. z (sym q ∙ y)) in
+        ⊎-elim (λ y. absurd (n (sym q ∙ ap (λ (x : Entry). x .src) y)))
+        (λ c.
+        let at = sym (ap (λ (x : Entry). x .src) (c .2)) ∙ q in
+        lookUp-there b a q ∙ c .2 ∙ sym (lookUp-of l (k .ascends) (c .0) (c .1) (λ y. z (sym at ∙ y))) ∙ ap (lookUp l) at)
+        (goes l k e .came j (rw (← kept-inserted .places) w))
+
+    pub lookUp-inserted-other : lookUp b a ≡ lookUp l a
+    lookUp-inserted-other = ⊎-elim other-stood (λ none. ⊎-elim other-stands (λ gone. gone ∙ sym none) (looked-up b a)) (looked-up l a)
+
+-- where there is no room it stays
+pub inserted-no-room : (l : List Entry) (e : Entry) → (e .src ≡ 0 → ⊥) → hasRoom l (e .src) ≡ false → inserted l e ≡ l
+inserted-no-room l e some t =
+    let new : (sourceAt l (entryPlace l (e .src)) ≡ e .src → ⊥) = λ own. true≢false (room-own l (e .src) (standing l (e .src)) refl own ∙ t) in
+    sym (insert-full l e some (standing l (e .src)) refl new (room-last l (e .src) (standing l (e .src)) refl new ∙ t))
+
+-- ---- after a message was accepted, or handed up
 -- a pair that the entry is not as new as is the greater
 raised-new : (e : Entry) (pair : Pair) → stale e pair ≡ false → raised e pair ≡ pair
 unfolding raised stale greater
 raised-new e pair old = by-test (eqb (e .src) 0) (λ t. rw t refl) (λ t. by-test (newer pair (e .pair)) (λ u. rw (t, u) refl) (λ u. absurd (true≢false (rw (t, u) at old))))
 
-module _ (l : List Entry) (src : ℕ) (auth : Pair) (segN dst : ℕ) where
-  pub lookUp-handedUp-other : (a : ℕ) → (a ≡ src → ⊥) → (a ≡ 0 → ⊥) → lookUp (handedUp l src auth segN dst) a ≡ lookUp l a
-  unfolding handedUp
-  lookUp-handedUp-other = lookUp-inserted-other l _
+module _ (l : List Entry) (k : ReplayKept l) (src : ℕ) where
+  pub kept-accepted : (pair : Pair) → ReplayKept (accepted l src pair)
+  unfolding acceptedBy
+  kept-accepted pair = kept-inserted l k _
 
-  module _ (long : length l ≡ replayEntries) (room : hasRoom l src ≡ true) where
-    pub lookUp-handedUp-own :
-        lookUp (handedUp l src auth segN dst) src
-        ≡ record { src = src; pair = raised (lookUp l src) auth; last = record { auth = auth; segn = segN; dst = dst } }
-    unfolding handedUp
-    lookUp-handedUp-own = lookUp-inserted-own l _ long room
+  module _ (auth : Pair) (segN dst : ℕ) where
+    pub kept-handedUp : ReplayKept (handedUp l src auth segN dst)
+    unfolding handedUpBy
+    kept-handedUp = kept-inserted l k _
+
+    pub lookUp-handedUp-other : (a : ℕ) → (a ≡ src → ⊥) → (a ≡ 0 → ⊥) → lookUp (handedUp l src auth segN dst) a ≡ lookUp l a
+    unfolding handedUpBy
+    lookUp-handedUp-other = lookUp-inserted-other l k _
 
     -- of a source whose entry was not as new
     pub lookUp-handedUp-new :
-        stale (lookUp l src) auth ≡ false
+        (src ≡ 0 → ⊥) → hasRoom l src ≡ true → stale (lookUp l src) auth ≡ false
         → lookUp (handedUp l src auth segN dst) src ≡ record { src = src; pair = auth; last = record { auth = auth; segn = segN; dst = dst } }
-    lookUp-handedUp-new old =
-        lookUp-handedUp-own ∙ ap (λ (p : Pair). record { src = src; pair = p; last = record { auth = auth; segn = segN; dst = dst } }) (raised-new (lookUp l src) auth old)
-
--- ---- the list stays as it is kept
-pub kept-none : ReplayKept noEntries
-kept-none =
-    record {
-      places = length-replicate replayEntries noEntry;
-      one-entry = λ i j hi hj z e.
-          absurd (true≢false (sym (ap (λ (e : Entry). eqb (e .src) 0) (getD-replicate replayEntries i noEntry noEntry hi)) ∙ z));
-    }
-
-module _ (l : List Entry) (k : ReplayKept l) where
-  kept-inserted : (e : Entry) → ReplayKept (inserted l e)
-  unfolding entryPlace
-  kept-inserted e =
-      record {
-        places = length-inserted l e ∙ k .places;
-        one-entry =
-            rw (inserted-is l e)
-            (keyed.apart-put entriesKeyed noEntry l (newPlace l (e .src)) e replayEntries (k .places) (k .one-entry)
-            (λ h. rw (lt-ltb (entryPlace l (e .src)) replayEntries h) refl));
-      }
-
-  pub kept-accepted : (src : ℕ) (pair : Pair) → ReplayKept (accepted l src pair)
-  unfolding accepted
-  kept-accepted src pair = kept-inserted _
-
-  pub kept-handedUp : (src : ℕ) (auth : Pair) (segN dst : ℕ) → ReplayKept (handedUp l src auth segN dst)
-  unfolding handedUp
-  kept-handedUp src auth segN dst = kept-inserted _
+    unfolding handedUpBy
+    lookUp-handedUp-new some room old =
+        lookUp-inserted-own l k _ some room
+        ∙ ap (λ (p : Pair). record { src = src; pair = p; last = record { auth = auth; segn = segN; dst = dst } }) (raised-new (lookUp l src) auth old)
 
 -- ---- which sources have an entry
 -- what holds of each place's source, and of the one whose message was accepted or handed up
-module _ (P : ℕ → Type 0) (l : List Entry) (each : (i : ℕ) → P (getD l i noEntry .src)) where
-  each-inserted : (e : Entry) → P (e .src) → (i : ℕ) → P (getD (inserted l e) i noEntry .src)
-  each-inserted e p = rw (inserted-is l e) (keyed.each-set (λ (x : Entry). P (x .src)) noEntry l (newPlace l (e .src)) e p each)
+module _ (P : ℕ → Type 0) (l : List Entry) (each : (i : ℕ) → P (sourceAt l i)) where
+  -- an empty place is behind the last
+  each-none : P 0
+  each-none = subst (λ (e : Entry). P (e .src)) (List·getD-eq-default l noEntry {n = length l} (omega arith)) (each (length l))
 
-  pub each-accepted : (src : ℕ) (pair : Pair) → P src → (i : ℕ) → P (getD (accepted l src pair) i noEntry .src)
-  unfolding accepted
+  each-shifted : (p : ℕ) (e : Entry) → P (e .src) → (i : ℕ) → P (shiftedAt l p e i .src)
+  unfolding shiftedAt
+  each-shifted p e new i =
+      by-choice (λ (x : Entry). P (x .src)) (ltb i p) (λ _. each i)
+      (λ _. by-choice (λ (x : Entry). P (x .src)) (eqb i p) (λ _. new) (λ _. each (i - 1)))
+
+  each-tab : (f : ℕ → Entry) → ((i : ℕ) → P (f i .src)) → (i : ℕ) → P (sourceAt (tab f replayEntries) i)
+  each-tab f of i =
+      by-test (ltb i replayEntries)
+      (λ t. subst (λ (e : Entry). P (e .src)) (sym (getD-tab f replayEntries i noEntry (ltb-true i replayEntries t))) (of i))
+      (λ t.
+      let past : length (tab f replayEntries) ≤ i = rw (length-tab f replayEntries) (ltb-false i replayEntries t) in
+      subst (λ (e : Entry). P (e .src)) (sym (List·getD-eq-default (tab f replayEntries) noEntry {n = i} past)) each-none)
+
+  each-inserted : (e : Entry) → P (e .src) → (i : ℕ) → P (sourceAt (inserted l e) i)
+  unfolding inserted
+  each-inserted e new =
+      let p = entryPlace l (e .src) in
+      by-choice (λ (b : List Entry). (i : ℕ) → P (sourceAt b i)) (eqb (e .src) 0) (λ _. each)
+      (λ _. by-choice (λ (b : List Entry). (i : ℕ) → P (sourceAt b i)) (isListed l (e .src)) (λ _. keyed.each-set (λ (x : Entry). P (x .src)) noEntry l p e new each)
+      (λ _. by-choice (λ (b : List Entry). (i : ℕ) → P (sourceAt b i)) (lastFree l) (λ _. each-tab (shiftedAt l p e) (each-shifted p e new)) (λ _. each)))
+
+  pub each-accepted : (src : ℕ) (pair : Pair) → P src → (i : ℕ) → P (sourceAt (accepted l src pair) i)
+  unfolding acceptedBy
   each-accepted src pair = each-inserted _
 
-  pub each-handedUp : (src : ℕ) (auth : Pair) (segN dst : ℕ) → P src → (i : ℕ) → P (getD (handedUp l src auth segN dst) i noEntry .src)
-  unfolding handedUp
+  pub each-handedUp : (src : ℕ) (auth : Pair) (segN dst : ℕ) → P src → (i : ℕ) → P (sourceAt (handedUp l src auth segN dst) i)
+  unfolding handedUpBy
   each-handedUp src auth segN dst = each-inserted _
-
--- no place has it: it has none
-pub lookUp-nowhere : (l : List Entry) (a : ℕ) → ((i : ℕ) → getD l i noEntry .src ≡ a → ⊥) → lookUp l a ≡ noEntry
-unfolding lookUp entryPlace
-lookUp-nowhere l a none = List·getD-eq-default l noEntry (keyed.place-nowhere entriesKeyed noEntry l a none)
 
 -- each is one of n
 abbrev pub Listed : ℕ → (ℕ → ℕ) → List Entry → Type 0
 Listed n source l = (a : ℕ) → (lookUp l a .src ≡ 0 → ⊥) → (m : ℕ) × (m < n) × (a ≡ source m)
-
--- source 0 has none
-lookUp-zero : (l : List Entry) → lookUp l 0 .src ≡ 0
-unfolding lookUp entryPlace
-lookUp-zero l =
-    let k = entryPlace l 0 in
-    by-test (ltb k (length l))
-    (λ t. keyed.found-key entriesKeyed noEntry l 0 (ltb-true k (length l) t))
-    (λ t. ap (λ (e : Entry). e .src) (List·getD-eq-default l noEntry {n = k} (ltb-false k (length l) t)))
 
 module _ (n : ℕ) (source : ℕ → ℕ) where
   pub listed-none : Listed n source noEntries
   listed-none a z = absurd (z (ap (λ (e : Entry). e .src) (lookUp-none a)))
 
   module _ (l : List Entry) (of : Listed n source l) where
-    pub listed-handedUp : (src : ℕ) (auth : Pair) (segN dst m : ℕ) → m < n → src ≡ source m → Listed n source (handedUp l src auth segN dst)
-    listed-handedUp src auth segN dst m h e a z =
-        by-test (eqb a src) (λ t. (m, h, eqb-true a src t ∙ e))
-        (λ t.
-        let some : (a ≡ 0 → ⊥) = λ q. z (ap (λ (b : ℕ). lookUp (handedUp l src auth segN dst) b .src) q ∙ lookUp-zero _) in
-        of a (λ q. z (ap (λ (x : Entry). x .src) (lookUp-handedUp-other l src auth segN dst a (eqb-false a src t) some) ∙ q)))
-
     -- a source has an entry and is one of them, or it has none
     pub listed-or-none : (a : ℕ) → (a ≡ 0 → ⊥) → ((m : ℕ) × (m < n) × (a ≡ source m)) ⊎ (lookUp l a ≡ noEntry)
-    unfolding lookUp entryPlace
     listed-or-none a z =
-        let k = entryPlace l a in
-        by-test (ltb k (length l))
-        (λ t. inl (of a (λ q. z (sym (keyed.found-key entriesKeyed noEntry l a (ltb-true k (length l) t)) ∙ q))))
-        (λ t. inr (List·getD-eq-default l noEntry {n = k} (ltb-false k (length l) t)))
+        ⊎-elim (λ e. inl (of a (λ q. z (sym e ∙ sym (ap (λ (x : Entry). x .src) (lookUp-there l a e)) ∙ q)))) inr (looked-up l a)
 
     module _ (k : ReplayKept l) where
-      -- what stands at a place is found again
-      found-again : (i : ℕ) → i < replayEntries → lookUp l (getD l i noEntry .src) .src ≡ getD l i noEntry .src
-      unfolding lookUp entryPlace
-      found-again i h =
-          let long = k .places in
-          let upto = keyed.place-upto entriesKeyed noEntry l (getD l i noEntry .src) i refl in
-          keyed.found-key entriesKeyed noEntry l (getD l i noEntry .src) (omega arith)
+      pub listed-handedUp : (src : ℕ) (auth : Pair) (segN dst m : ℕ) → m < n → src ≡ source m → Listed n source (handedUp l src auth segN dst)
+      listed-handedUp src auth segN dst m h e a z =
+          by-test (eqb a src) (λ t. (m, h, eqb-true a src t ∙ e))
+          (λ t.
+          let some : (a ≡ 0 → ⊥) = λ q. z (ap (λ (b : ℕ). lookUp (handedUp l src auth segN dst) b .src) q ∙ lookUp-zero _) in
+          of a (λ q. z (ap (λ (x : Entry). x .src) (lookUp-handedUp-other l k src auth segN dst a (eqb-false a src t) some) ∙ q)))
 
-      -- so it is one of them
-      whose : (i : ℕ) → (m : ℕ) × (i < replayEntries → eqb (getD l i noEntry .src) 0 ≡ false → (m < n) × (getD l i noEntry .src ≡ source m))
+      -- what stands at a place is one of them
+      whose : (i : ℕ) → (m : ℕ) × (i < replayEntries → eqb (sourceAt l i) 0 ≡ false → (m < n) × (sourceAt l i ≡ source m))
       whose i =
-          let a = getD l i noEntry .src in
+          let a = sourceAt l i in
           by-test (ltb i replayEntries)
           (λ t. by-test (eqb a 0) (λ u. (0, λ h z. absurd (true≢false (sym u ∙ z))))
           (λ u.
-          let found = found-again i (ltb-true i replayEntries t) in
-          let m = of a (λ q. eqb-false a 0 u (sym found ∙ q)) in
+          let some = eqb-false a 0 u in
+          let m = of a (λ q. some (sym (ap (λ (x : Entry). x .src) (lookUp-of l (k .ascends) i (ltb-true i replayEntries t) some)) ∙ q)) in
           (m .0, λ h z. (m .1, m .2))))
           (λ t. (0, λ h z. let past = ltb-false i replayEntries t in absurd (omega arith)))
 
@@ -237,5 +204,6 @@ module _ (n : ℕ) (source : ℕ → ℕ) where
 
       -- fewer sources than entries
       pub room-left : n < replayEntries → (src : ℕ) → hasRoom l src ≡ true
-      unfolding entryPlace
-      room-left few src = hasRoom-free l src (place-free entriesKeyed noEntry replayEntries n source l listed-owned (k .places) (k .one-entry) few)
+      room-left few src =
+          let free = place-free entriesKeyed noEntry replayEntries n source l listed-owned (k .places) (sources-apart l (k .ascends)) few in
+          hasRoom-free l src (last-free-by l (k .ascends) (k .places) free)

@@ -16,7 +16,7 @@ use Rattle.memory.specs.declared.session.Segment.{Segment}
 use Rattle.memory.specs.declared.session.Session.{Session}
 use Rattle.memory.specs.declared.session.SessionKey.{SessionKey}
 use Rattle.memory.specs.declared.session.Terms.{Terms}
-use Rattle.memory.specs.Decision.{joining, replacing, opening, decision}
+use Rattle.memory.specs.Decision.{joining, replacing, opening, decisionBy, decision}
 use Rattle.memory.specs.Pair.{newer, samePair}
 use Rattle.memory.specs.Replay.{lookUp, stale, hasRoom, isLast}
 use Rattle.memory.specs.Session.{sessionSlots, sessionAt, segmentKey, sessionPlace, freePlace, slotFor, sameBit, sameTerms}
@@ -107,7 +107,7 @@ module _ (replay : List Entry) (sessions : List Session) (src : ℕ) (seg : Segm
         (λ u. rw (t, u) (tt {0})))
 
   pub decision-within : Within sessions src seg (decision replay sessions src seg)
-  unfolding decision
+  unfolding decisionBy
   decision-within =
       let room = hasRoom replay src in
       by-test (isLast (entry .last) (seg .auth) (seg .terms .segn) (seg .terms .dst)) (λ t. rw t (tt {0}))

@@ -15,7 +15,7 @@ use Rattle.memory.specs.declared.session.Session.{Session}
 use Rattle.memory.specs.declared.decision.Decision.{Decision}
 use Rattle.memory.specs.declared.decision.Decision.the-variants.{Repeat, Join, Open, Stale, Differs, NoEntryLeft, NoSlotLeft}
 use Rattle.memory.specs.Pair.{newer, samePair}
-use Rattle.memory.specs.Replay.{lookUp, stale, hasRoom, isLast}
+use Rattle.memory.specs.Replay.{Listing, ascending, stale, isLast}
 use Rattle.memory.specs.Session.{sessionSlots, sessionAt, segmentKey, sessionPlace, freePlace, sameTerms}
 
 -- this paper's number and values of each decision: the places filled, or a slot
@@ -58,13 +58,16 @@ opening e free room auth =
     NoEntryLeft
 
 -- a segment of the last message handed up is a repeat with all bits set, open session or not
-unfoldable pub decision : List Entry → List Session → ℕ → Segment → Decision
-decision replay sessions src seg =
-    let e = lookUp replay src in
+unfoldable pub decisionBy : Listing → List Entry → List Session → ℕ → Segment → Decision
+decisionBy by replay sessions src seg =
+    let e = by .lookUp replay src in
     let own = sessionPlace sessions (segmentKey src seg) in
     let s = sessionAt sessions own in
-    let room = hasRoom replay src in
+    let room = by .hasRoom replay src in
     if isLast (e .last) (seg .auth) (seg .terms .segn) (seg .terms .dst) then Repeat (allBits (seg .terms .segn)) else
     if ltb own sessionSlots then
     (if samePair (s .auth) (seg .auth) then joining s own room seg else replacing e (s .auth) own room (seg .auth)) else
     opening e (freePlace sessions) room (seg .auth)
+
+abbrev pub decision : List Entry → List Session → ℕ → Segment → Decision
+decision replay sessions src seg = decisionBy ascending replay sessions src seg

@@ -3,6 +3,7 @@ pub mod Pair
 pub mod Cache
 pub mod Remembered
 pub mod Replay
+pub mod Walked
 pub mod Session
 pub mod Decision
 pub mod Outgoing

@@ -1,7 +1,10 @@
-// The replay list: of each source the newest pair accepted, and its last segmented message handed up.
+// The replay list: of each source the newest pair accepted, and its last segmented message handed up. It is in ascending order of source, empty places
+// last, and a source is found by halving.
 use super::pair::Pair;
 ghost use mathlib.Core.Path.{_≡_};
-ghost use Rattle.memory.specs.Replay.{noEntry, entryPlace, lookUp, stale, hasRoom, inserted, raised, isLast, accepted, handedUp};
+ghost use Prim.Native.Nat.{_<_};
+ghost use Rattle.common.specs.Lists.{tab};
+ghost use Rattle.memory.specs.Replay.{replayEntries, noEntry, before, standing, lookUp, hasRoom, shiftedAt, inserted, stale, raised, isLast, accepted, handedUp};
 
 // How many entries there are.
 pub const ENTRIES: usize = 32;
@@ -35,28 +38,55 @@ pub fn none() -> Entry
     }
 }
 
-// The place of a source's entry, or their number.
-fn place(replay: [Entry; ENTRIES], src: u16) -> usize
-    ensures { λ r. ⌜ r ≡ entryPlace replay src ⌝ }
+// Whether an entry stands before a source; an empty place stands behind all.
+fn is_before(e: Entry, src: u16) -> bool
+    ensures { λ r. ⌜ r ≡ before src e ⌝ }
 {
-    let mut i: usize = 0;
-    while i < ENTRIES {
-        let e = replay[i];
-        if e.src == src {
-            return i;
-        }
-        i += 1;
+    let empty = e.src == 0;
+    if empty {
+        return false;
     }
-    ENTRIES
+    e.src < src
+}
+
+// A place, and what stands there; nothing stands behind the last.
+struct Place {
+    at: usize,
+    held: Entry,
+}
+
+// Where a source's entry stands, or would stand. At most six places are looked at.
+fn find(replay: [Entry; ENTRIES], src: u16) -> Place
+    ensures { λ r. ⌜ r ≡ standing replay src ⌝ }
+{
+    let mut low: usize = 0;
+    let mut high: usize = ENTRIES;
+    while low < high {
+        let mid = (low + high) / 2;
+        if is_before(replay[mid], src) {
+            low = mid + 1;
+        } else {
+            high = mid;
+        }
+    }
+    if low < ENTRIES {
+        let held = replay[low];
+        return Place { at: low, held };
+    }
+    Place {
+        at: low,
+        held: none(),
+    }
 }
 
 // A source's entry, or an empty one.
 pub fn look_up(replay: [Entry; ENTRIES], src: u16) -> Entry
     ensures { λ r. ⌜ r ≡ lookUp replay src ⌝ }
 {
-    let i = place(replay, src);
-    if i < ENTRIES {
-        return replay[i];
+    let found = find(replay, src);
+    let e = found.held;
+    if e.src == src {
+        return e;
     }
     none()
 }
@@ -75,25 +105,60 @@ pub fn is_stale(e: Entry, pair: Pair) -> bool
 pub fn has_room(replay: [Entry; ENTRIES], src: u16) -> bool
     ensures { λ r. ⌜ r ≡ hasRoom replay src ⌝ }
 {
-    if place(replay, src) < ENTRIES {
+    let there = find(replay, src);
+    let held = there.held;
+    if held.src == src {
         return true;
     }
-    place(replay, 0) < ENTRIES
+    let last = replay[ENTRIES - 1];
+    last.src == 0
 }
 
-// The list with an entry in its source's place, or in the first empty one.
+// What stands at place i when e has gone in at place p.
+fn shifted(replay: [Entry; ENTRIES], p: usize, e: Entry, i: usize) -> Entry
+    requires { ⌜ i < replayEntries ⌝ }
+    ensures { λ r. ⌜ r ≡ shiftedAt replay p e i ⌝ }
+{
+    if i < p {
+        return replay[i];
+    }
+    if i == p {
+        return e;
+    }
+    replay[i - 1]
+}
+
+// The list with an entry gone in at place p: those from there on move up by one.
+fn shift(replay: [Entry; ENTRIES], p: usize, e: Entry) -> [Entry; ENTRIES]
+    ensures { λ r. ⌜ r ≡ tab (shiftedAt replay p e) replayEntries ⌝ }
+{
+    let mut after = replay;
+    let mut i: usize = 0;
+    while i < ENTRIES {
+        after[i] = shifted(replay, p, e, i);
+        i += 1;
+    }
+    after
+}
+
+// The list with an entry in its source's place, or between the lesser and the greater; it stays where there is no room, and for source 0.
 fn insert(replay: [Entry; ENTRIES], e: Entry) -> [Entry; ENTRIES]
     ensures { λ r. ⌜ r ≡ inserted replay e ⌝ }
 {
     let mut after = replay;
-    let own = place(replay, e.src);
-    if own < ENTRIES {
-        after[own] = e;
+    if e.src == 0 {
         return after;
     }
-    let free = place(replay, 0);
-    if free < ENTRIES {
-        after[free] = e;
+    let found = find(replay, e.src);
+    let p = found.at;
+    let held = found.held;
+    if held.src == e.src {
+        after[p] = e;
+        return after;
+    }
+    let end = replay[ENTRIES - 1];
+    if end.src == 0 {
+        return shift(replay, p, e);
     }
     after
 }

@@ -2,12 +2,12 @@
 -- Assumes nothing.
 use mathlib.Core.Path.{_∙_}
 use borrow.Author.Needs.{needs}
-use Rattle.memory.specs.Replay.{accepted}
+use Rattle.memory.specs.Replay.{acceptedBy}
 use Rattle.memory.proofs.replay.accept.Statement.{statement}
 use Rattle.memory.proofs.replay.accept.Tie as tie
 
 returns : tie.Need-returns
-unfolding accepted
+unfolding acceptedBy
 returns c = c .insert .ensures ∙ rw (c .before .raise .ensures, c .before .before .before .look-up .ensures)
 
 pub accept-spec : {M : Type 1} → statement M
