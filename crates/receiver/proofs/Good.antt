@@ -25,9 +25,9 @@ use Rattle.receiver.specs.declared.give_up.GivenUp.{GivenUp}
 use Rattle.receiver.specs.declared.state.Receiver.{Receiver}
 use Rattle.receiver.specs.Fresh.{fresh}
 use Rattle.receiver.specs.Good.{Gathering, Good, GoodFresh, GoodHear, GoodGiveUp}
-use Rattle.receiver.specs.Segmented.{accessUpAs, controlUp}
+use Rattle.receiver.specs.Segmented.{accessUpAsBy, controlUpBy}
 use Rattle.receiver.specs.State.{withSession}
-use Rattle.receiver.specs.Whole.{admitted, openedAs, wholeControlUp, acted}
+use Rattle.receiver.specs.Whole.{admitted, openedAsBy, wholeControlUpBy, actedBy}
 use Rattle.receiver.proofs.Gathered.{gathering-begun, gathering-stored}
 use Rattle.receiver.proofs.GoodState.{Left, good-caching, good-outgoing, good-admitted, good-upgraded, good-freed, good-opened}
 use Rattle.receiver.proofs.Laws.Fresh.{ready-made, fresh-is}
@@ -90,7 +90,7 @@ module _ (q : Receiver) (g : Good q) (h : Header) (c : Clear h) where
       (gathering-stored s h (seg .sego) (f .gathers) (c .places) (f .within) t)
 
   ways : (msg : List ℕ) → Ways q h msg Left
-  unfolding openedAs wholeControlUp acted accessUpAs controlUp
+  unfolding openedAsBy wholeControlUpBy actedBy accessUpAsBy controlUpBy
   ways msg =
       record {
         refuses = λ n trials l f. g;

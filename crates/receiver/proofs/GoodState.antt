@@ -29,9 +29,9 @@ use Rattle.memory.proofs.Within.{Opens}
 use Rattle.receiver.specs.declared.answer.Taken.{Taken}
 use Rattle.receiver.specs.declared.state.Receiver.{Receiver}
 use Rattle.receiver.specs.Good.{Gathering, Held, SessionsKept, Good}
-use Rattle.receiver.specs.Segmented.{upgraded}
+use Rattle.receiver.specs.Segmented.{upgraded, upgradedBy}
 use Rattle.receiver.specs.State.{withCache, withReplay, withSession, withOutgoing}
-use Rattle.receiver.specs.Whole.{pairOf, admitted}
+use Rattle.receiver.specs.Whole.{pairOf, admitted, admittedBy}
 use Rattle.receiver.proofs.Laws.Heard.{caching}
 
 -- what taking a PDU leaves is good
@@ -75,11 +75,11 @@ module _ (r : Receiver) (g : Good r) where
 
   -- ---- a message was accepted, or handed up
   pub good-admitted : (h : Header) → Good (admitted r h)
-  unfolding admitted
+  unfolding admittedBy
   good-admitted h = good-replay _ (kept-accepted (r .replay) (g .replay-kept) (h .src) (pairOf h))
 
   pub good-upgraded : (s : Session) → Good (upgraded r s)
-  unfolding upgraded
+  unfolding upgradedBy
   good-upgraded s = good-replay _ (kept-handedUp (r .replay) (g .replay-kept) (s .src) (s .auth) (s .terms .segn) (s .terms .dst))
 
   -- ---- a slot is zeroed, or holds a session that gathers

@@ -31,7 +31,7 @@ use Rattle.receiver.specs.declared.state.Receiver.{Receiver}
 use Rattle.receiver.specs.Segmented.{segmented}
 use Rattle.receiver.specs.State.{withCache}
 use Rattle.receiver.specs.Whole.{refusedAt, wholeAccess, wholeControl, wholeAcknowledgement}
-use Rattle.receiver.specs.Hearing.{outcome, refusedHeard, relayed, takenAs, taken, passed, uncached, voiced, openedAs, hearing}
+use Rattle.receiver.specs.Hearing.{outcome, refusedHeard, relayed, takenAs, takenAsBy, taken, takenBy, passed, passedBy, uncachedBy, voiced, voicedBy, openedAsBy, hearing, hearingBy}
 
 -- ---- forwarding
 module _ (node : Node) (h : Header) (fwd : List ℕ) (local : Bool) (el : local ≡ isLocal node (h .dst)) (on : Bool) (eo : on ≡ forwards (node .relay) local h) where
@@ -57,31 +57,31 @@ pub ruleset relayed-rules = (relayed-not, relayed-sealed, relayed-outside, relay
 -- ---- by the transport form
 module _ (r : Receiver) (h : Header) (msg : List ℕ) (f : Form) (e : f ≡ formOf h) (t : Taken) (left : List ℕ) where
   pub form-wrong : f ≡ form.Wrong → t ≡ refusedAt r refusal.WrongForm 0 → lent t msg ≡ takenAs (formOf h) r h msg
-  unfolding takenAs
+  unfolding takenAsBy
   form-wrong k et = rw (← e, k, et)
 
   pub form-access : (akf : Bool) (aid : ℕ) → f ≡ form.Access akf aid → lent t left ≡ wholeAccess r h akf aid msg → lent t left ≡ takenAs (formOf h) r h msg
-  unfolding takenAs
+  unfolding takenAsBy
   form-access akf aid k et = rw (← e, k) et
 
   pub form-control : (opcode : ℕ) → f ≡ form.Control opcode → lent t left ≡ wholeControl r h opcode msg → lent t left ≡ takenAs (formOf h) r h msg
-  unfolding takenAs
+  unfolding takenAsBy
   form-control opcode k et = rw (← e, k) et
 
   pub form-acknowledgement :
       (obo : Bool) (seqZero bits : ℕ) → f ≡ form.Acknowledgement obo seqZero bits → t ≡ wholeAcknowledgement r h obo seqZero bits
       → lent t msg ≡ takenAs (formOf h) r h msg
-  unfolding takenAs
+  unfolding takenAsBy
   form-acknowledgement obo seqZero bits k et = rw (← e, k, et)
 
   -- the two kinds of segments come to one call, with the fields of either
   module _ {f1 fields : SegmentFields} (ef : f1 ≡ fields) (et : lent t left ≡ segmented r h f1 msg) where
     pub form-access-segment : {akf : Bool} {aid : ℕ} → f ≡ form.AccessSegment akf aid fields → lent t left ≡ takenAs (formOf h) r h msg
-    unfolding takenAs
+    unfolding takenAsBy
     form-access-segment k = rw (← e, k, ← ef) et
 
     pub form-control-segment : {opcode : ℕ} → f ≡ form.ControlSegment opcode fields → lent t left ≡ takenAs (formOf h) r h msg
-    unfolding takenAs
+    unfolding takenAsBy
     form-control-segment k = rw (← e, k, ← ef) et
 
 pub ruleset form-rules = (form-wrong, form-access, form-control, form-acknowledgement)
@@ -89,11 +89,11 @@ pub ruleset form-rules = (form-wrong, form-access, form-control, form-acknowledg
 -- ---- 6
 module _ (r : Receiver) (h : Header) (msg : List ℕ) (ours : Bool) (e : ours ≡ forNode (r .node) (h .dst)) (t : Taken) where
   pub taken-ours : ours ≡ true → (left : List ℕ) → lent t left ≡ takenAs (formOf h) r h msg → lent t left ≡ taken r h msg
-  unfolding taken
+  unfolding takenBy
   taken-ours k left et = rw (← e, k) et
 
   pub taken-not : ours ≡ false → t ≡ refusedAt r refusal.NotForNode 0 → lent t msg ≡ taken r h msg
-  unfolding taken
+  unfolding takenBy
   taken-not k et = rw (← e, k, et)
 
 pub ruleset taken-rules = (taken-ours, taken-not)
@@ -104,22 +104,22 @@ pub passed-is :
     {c : Cache} → c ≡ remembered (r .cache) h → {q : Receiver} → q ≡ withCache r c
     → {n : ℕ} {fwd' : List ℕ} → lent n fwd' ≡ relayed (r .node) h fwd → {t : Taken} {msg' : List ℕ} → lent t msg' ≡ taken q h msg
     → outcome (record { answer = t .answer; network = trials; application = t .trials; forwarded = n; receiver = t .receiver }) fwd' msg' ≡ passed r h trials fwd msg
-unfolding passed
+unfolding passedBy
 passed-is r h trials fwd msg ec eq ef et = rw (← ec, ← eq, ← ef, ← et)
 
 -- ---- 22, 5
 module _ (r : Receiver) (h : Header) (trials : ℕ) (fwd msg : List ℕ) (t : Heard) (own : Bool) (e : own ≡ isLocal (r .node) (h .src)) where
   pub voiced-own : own ≡ true → t ≡ refusedHeard r refusal.OwnSource trials → outcome t fwd msg ≡ voiced r h trials fwd msg
-  unfolding voiced
+  unfolding voicedBy
   voiced-own k et = rw (← e, k, et)
 
   module _ (other : own ≡ false) (was : Bool) (f : was ≡ seen (r .cache) h) where
     pub voiced-seen : was ≡ true → t ≡ refusedHeard r refusal.Cached trials → outcome t fwd msg ≡ voiced r h trials fwd msg
-    unfolding voiced uncached
+    unfolding voicedBy uncachedBy
     voiced-seen k et = rw (← e, other, ← f, k, et)
 
     pub voiced-new : was ≡ false → (fwd' msg' : List ℕ) → outcome t fwd' msg' ≡ passed r h trials fwd msg → outcome t fwd' msg' ≡ voiced r h trials fwd msg
-    unfolding voiced uncached
+    unfolding voicedBy uncachedBy
     voiced-new k fwd' msg' et = rw (← e, other, ← f, k) et
 
 pub ruleset voiced-rules = (voiced-own, voiced-seen, voiced-new)
@@ -127,35 +127,35 @@ pub ruleset voiced-rules = (voiced-own, voiced-seen, voiced-new)
 -- ---- 16, 1 to 4
 module _ (r : Receiver) (pdu fwd msg : List ℕ) (t : Heard) where
   pub hear-short-forward : length fwd < pduOctets → t ≡ refusedHeard r refusal.ShortBuffer 0 → outcome t fwd msg ≡ hearing r pdu fwd msg
-  unfolding hearing
+  unfolding hearingBy
   hear-short-forward l et = rw (lt-ltb (length fwd) pduOctets l, et)
 
   module _ (lf : pduOctets ≤ length fwd) where
     pub hear-short-message : length msg < messageOctets → t ≡ refusedHeard r refusal.ShortBuffer 0 → outcome t fwd msg ≡ hearing r pdu fwd msg
-    unfolding hearing
+    unfolding hearingBy
     hear-short-message l et = rw (le-ltb (length fwd) pduOctets lf, lt-ltb (length msg) messageOctets l, et)
 
     module _ (lm : messageOctets ≤ length msg) (o : Opening) (e : o ≡ opening (r .node .materials) (r .node .networks) (r .node .iv) pdu) where
       pub hear-length : o .answer ≡ network.WrongLength → t ≡ refusedHeard r refusal.WrongLength (o .trials) → outcome t fwd msg ≡ hearing r pdu fwd msg
-      unfolding hearing openedAs
+      unfolding hearingBy openedAsBy
       hear-length k et = rw (le-ltb (length fwd) pduOctets lf, le-ltb (length msg) messageOctets lm, ← e, k, et)
 
       pub hear-candidate : o .answer ≡ network.NoCandidate → t ≡ refusedHeard r refusal.NoCandidate (o .trials) → outcome t fwd msg ≡ hearing r pdu fwd msg
-      unfolding hearing openedAs
+      unfolding hearingBy openedAsBy
       hear-candidate k et = rw (le-ltb (length fwd) pduOctets lf, le-ltb (length msg) messageOctets lm, ← e, k, et)
 
       pub hear-authentic : o .answer ≡ network.NotAuthentic → t ≡ refusedHeard r refusal.NotAuthentic (o .trials) → outcome t fwd msg ≡ hearing r pdu fwd msg
-      unfolding hearing openedAs
+      unfolding hearingBy openedAsBy
       hear-authentic k et = rw (le-ltb (length fwd) pduOctets lf, le-ltb (length msg) messageOctets lm, ← e, k, et)
 
       pub hear-address : o .answer ≡ network.WrongAddress → t ≡ refusedHeard r refusal.WrongAddress (o .trials) → outcome t fwd msg ≡ hearing r pdu fwd msg
-      unfolding hearing openedAs
+      unfolding hearingBy openedAsBy
       hear-address k et = rw (le-ltb (length fwd) pduOctets lf, le-ltb (length msg) messageOctets lm, ← e, k, et)
 
       pub hear-opened :
           o .answer ≡ network.Opened → (fwd' msg' : List ℕ) → outcome t fwd' msg' ≡ voiced r (o .header) (o .trials) fwd msg
           → outcome t fwd' msg' ≡ hearing r pdu fwd msg
-      unfolding hearing openedAs
+      unfolding hearingBy openedAsBy
       hear-opened k fwd' msg' et = rw (le-ltb (length fwd) pduOctets lf, le-ltb (length msg) messageOctets lm, ← e, k) et
 
 pub ruleset hear-rules = (hear-short-forward, hear-short-message, hear-length, hear-candidate, hear-authentic, hear-address, hear-opened)

@@ -10,6 +10,8 @@
 --   Sources   whom cache, replay list and sessions list
 --   Fresh     what a receiver holds that setup made
 --   GiveUp    giving up a session
+--   Alike     outcomes that differ in the replay list alone
+--   Agree     two replay lists that agree: their receivers do alike
 pub mod Heard
 pub mod Form
 pub mod Segment
@@ -21,3 +23,5 @@ pub mod Outgoing
 pub mod Sources
 pub mod Fresh
 pub mod GiveUp
+pub mod Alike
+pub mod Agree

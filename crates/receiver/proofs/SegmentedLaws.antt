@@ -40,7 +40,8 @@ use Rattle.receiver.specs.declared.answer.Taken.{Taken}
 use Rattle.receiver.specs.declared.state.Receiver.{Receiver}
 use Rattle.receiver.specs.State.{withSession}
 use Rattle.receiver.specs.Whole.{refusedAt}
-use Rattle.receiver.specs.Segmented.{segmentOf, upgraded, messageOf, sessionEnvelope, controlUp, accessUpAs, accessUp, gathered, placedAs, placed, segmentedAs, segmented}
+use Rattle.receiver.specs.Segmented.{segmentOf, upgraded, messageOf, sessionEnvelope, controlUp, accessUp, gathered, placed, segmented}
+use Rattle.receiver.specs.Segmented.{controlUpBy, accessUpAsBy, accessUpBy, gatheredBy, placedAsBy, placedBy, segmentedAsBy, segmentedBy}
 
 -- ---- the message of a session
 module _ (s : Session) (l : length (s .bytes) ≡ messageOctets) where
@@ -79,7 +80,7 @@ pub control-up :
     → (q : Receiver) → q ≡ upgraded r s
     → lent (record { answer = answer.Control (s .src) (s .terms .dst) (s .terms .key) (s .terms .first % 128) (s .auth) n; trials = 0; receiver = q }) left
     ≡ controlUp r s msg
-unfolding controlUp
+unfolding controlUpBy
 control-up r s msg n left e q eq =
     rw eq
     (ap
@@ -102,15 +103,15 @@ module _ (r : Receiver) (s : Session) (msg : List ℕ) (o : Opened) (left : List
   pub up-message :
       (opener : Opener) (trials len : ℕ) → o ≡ Message opener trials len → (q : Receiver) → q ≡ upgraded r s
       → lent (record { answer = answer.Access (s .src) (s .terms .dst) (s .terms .key) opener (s .auth) len; trials = trials; receiver = q }) left ≡ accessUp r s msg
-  unfolding accessUp accessUpAs
+  unfolding accessUpBy accessUpAsBy
   up-message opener trials len k q eq = rw (← e, k, eq)
 
   pub up-not : (trials : ℕ) → o ≡ NotOpened trials → (t : Taken) → t ≡ refusedAt r refusal.NotOpened trials → lent t left ≡ accessUp r s msg
-  unfolding accessUp accessUpAs
+  unfolding accessUpBy accessUpAsBy
   up-not trials k t et = rw (← e, k, et)
 
   pub up-short : o ≡ ShortBuffer → (t : Taken) → t ≡ refusedAt r refusal.ShortBuffer 0 → lent t left ≡ accessUp r s msg
-  unfolding accessUp accessUpAs
+  unfolding accessUpBy accessUpAsBy
   up-short k t et = rw (← e, k, et)
 
 pub ruleset up-rules = (up-message, up-not, up-short)
@@ -120,17 +121,17 @@ module _ (r : Receiver) (slot : ℕ) (s : Session) (msg : List ℕ) (whole : Boo
   pub gathered-stored :
       not whole ≡ true → (q : Receiver) → q ≡ withSession r slot s
       → lent (record { answer = answer.Stored (s .src) (s .auth) (s .filled); trials = 0; receiver = q }) msg ≡ gathered r slot s msg
-  unfolding gathered
+  unfolding gatheredBy
   gathered-stored t q eq = rw (← e, not-true whole t, eq)
 
   module _ (t : not whole ≡ false) (free : Session) (ef : free ≡ noSession) (q : Receiver) (eq : q ≡ withSession r slot free) (u : Taken) (left : List ℕ) where
     pub gathered-control : s .terms .ctl ≡ true → lent u left ≡ controlUp q s msg → lent u left ≡ gathered r slot s msg
-    unfolding gathered
+    unfolding gatheredBy
     gathered-control c eu =
         rw (← e, not-false whole t, ← ef, ← eq) (eu ∙ sym (ap (λ (b : Bool). if b then controlUp q s msg else accessUp q s msg) c))
 
     pub gathered-access : s .terms .ctl ≡ false → lent u left ≡ accessUp q s msg → lent u left ≡ gathered r slot s msg
-    unfolding gathered
+    unfolding gatheredBy
     gathered-access c eu =
         rw (← e, not-false whole t, ← ef, ← eq) (eu ∙ sym (ap (λ (b : Bool). if b then controlUp q s msg else accessUp q s msg) c))
 
@@ -139,36 +140,36 @@ pub ruleset gathered-rules = (gathered-stored, gathered-control, gathered-access
 -- ---- by the decision
 module _ (r : Receiver) (h : Header) (seg : Segment) (msg : List ℕ) (d : Decision) (e : d ≡ decision (r .replay) (r .sessions) (h .src) seg) where
   pub placed-stale : d ≡ Stale → (t : Taken) → t ≡ refusedAt r refusal.Replayed 0 → lent t msg ≡ placed r h seg msg
-  unfolding placed placedAs
+  unfolding placedBy placedAsBy
   placed-stale k t et = rw (← e, k, et)
 
   pub placed-differs : d ≡ Differs → (t : Taken) → t ≡ refusedAt r refusal.Differs 0 → lent t msg ≡ placed r h seg msg
-  unfolding placed placedAs
+  unfolding placedBy placedAsBy
   placed-differs k t et = rw (← e, k, et)
 
   pub placed-no-entry : d ≡ NoEntryLeft → (t : Taken) → t ≡ refusedAt r refusal.NoEntryLeft 0 → lent t msg ≡ placed r h seg msg
-  unfolding placed placedAs
+  unfolding placedBy placedAsBy
   placed-no-entry k t et = rw (← e, k, et)
 
   pub placed-no-slot : d ≡ NoSlotLeft → (t : Taken) → t ≡ refusedAt r refusal.NoSlotLeft 0 → lent t msg ≡ placed r h seg msg
-  unfolding placed placedAs
+  unfolding placedBy placedAsBy
   placed-no-slot k t et = rw (← e, k, et)
 
   pub placed-repeat :
       (bits : ℕ) → d ≡ Repeat bits
       → lent (record { answer = answer.Repeated (h .src) (seg .auth) bits; trials = 0; receiver = r }) msg ≡ placed r h seg msg
-  unfolding placed placedAs
+  unfolding placedBy placedAsBy
   placed-repeat bits k = rw (← e, k)
 
   module _ (slot : ℕ) (u : Taken) (left : List ℕ) where
     pub placed-join : d ≡ Join slot → lent u left ≡ gathered r slot (stored (sessionAt (r .sessions) slot) h (seg .sego)) msg → lent u left ≡ placed r h seg msg
-    unfolding placed placedAs
+    unfolding placedBy placedAsBy
     placed-join k eu = rw (← e, k) eu
 
     pub placed-open :
         d ≡ Open slot → (s : Session) → s ≡ begun (h .src) seg → (f : Session) → f ≡ stored s h (seg .sego) → lent u left ≡ gathered r slot f msg
         → lent u left ≡ placed r h seg msg
-    unfolding placed placedAs
+    unfolding placedBy placedAsBy
     placed-open k s es f ef eu = rw (← e, k, ← es, ← ef) eu
 
 pub ruleset placed-rules = (placed-stale, placed-differs, placed-no-entry, placed-no-slot, placed-repeat, placed-join, placed-open)
@@ -192,13 +193,13 @@ joined r h slot segO msg s es u left eu = rw (← es) eu
 -- ---- by SeqAuth
 module _ (r : Receiver) (h : Header) (fields : SegmentFields) (msg : List ℕ) (a : SeqAuth) (e : a ≡ seqAuth (h .seq) (fields .seqzero)) where
   pub segmented-nowhere : a ≡ Nowhere → (t : Taken) → t ≡ refusedAt r refusal.NoSeqAuth 0 → lent t msg ≡ segmented r h fields msg
-  unfolding segmented segmentedAs
+  unfolding segmentedBy segmentedAsBy
   segmented-nowhere k t et = rw (← e, k, et)
 
   pub segmented-at :
       (auth : ℕ) → a ≡ At auth → (seg : Segment) → seg ≡ segmentOf h fields auth → (u : Taken) (left : List ℕ) → lent u left ≡ placed r h seg msg
       → lent u left ≡ segmented r h fields msg
-  unfolding segmented segmentedAs
+  unfolding segmentedBy segmentedAsBy
   segmented-at auth k seg es u left eu = rw (← e, k, ← es) eu
 
 pub ruleset segmented-rules = (segmented-nowhere, segmented-at)

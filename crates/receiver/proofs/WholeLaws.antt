@@ -33,21 +33,22 @@ use Rattle.receiver.specs.declared.state.Receiver.{Receiver}
 use Rattle.receiver.specs.declared.whole.Admission.{Admission}
 use Rattle.receiver.specs.declared.whole.Admission.the-variants.{Admitted, Replayed, NoEntryLeft}
 use Rattle.receiver.specs.State.{withOutgoing}
-use Rattle.receiver.specs.Whole.{refusedAt, pairOf, admission, admitted, unless, wholeEnvelope, openedAs, openedWhole, wholeAccess, wholeControlUp, wholeControl, acted, wholeAcknowledgement}
+use Rattle.receiver.specs.Whole.{refusedAt, pairOf, admission, admitted, unless, wholeEnvelope, openedWhole, wholeAccess, wholeControlUp, wholeControl, acted, wholeAcknowledgement}
+use Rattle.receiver.specs.Whole.{admissionBy, openedAsBy, openedWholeBy, wholeAccessBy, wholeControlUpBy, wholeControlBy, actedBy, wholeAcknowledgementBy}
 
 -- ---- 9 and 11
 module _ (replay : List Entry) (h : Header) (e : Entry) (ee : e ≡ lookUp replay (h .src)) (late : Bool) (el : late ≡ stale e (pairOf h)) where
   pub admission-replayed : late ≡ true → Replayed ≡ admission replay h
-  unfolding admission
+  unfolding admissionBy
   admission-replayed t = rw (← ee, ← el, t)
 
   module _ (t : late ≡ false) (room : Bool) (er : room ≡ hasRoom replay (h .src)) where
     pub admission-admitted : room ≡ true → Admitted ≡ admission replay h
-    unfolding admission
+    unfolding admissionBy
     admission-admitted f = rw (← ee, ← el, t, ← er, f)
 
     pub admission-full : room ≡ false → NoEntryLeft ≡ admission replay h
-    unfolding admission
+    unfolding admissionBy
     admission-full f = rw (← ee, ← el, t, ← er, f)
 
 pub ruleset admission-rules = (admission-replayed, admission-admitted, admission-full)
@@ -69,44 +70,44 @@ module _ {A : Type 0} {a b : Admission} (refuse : Refusal → A) (t : A) (e : a 
 module _ (r : Receiver) (h : Header) (a : Admission) (e : a ≡ admission (r .replay) h) (t : Taken) where
   module _ (akf : Bool) (aid : ℕ) (msg : List ℕ) where
     pub access-replayed : a ≡ Replayed → t ≡ refusedAt r refusal.Replayed 0 → lent t msg ≡ wholeAccess r h akf aid msg
-    unfolding wholeAccess
+    unfolding wholeAccessBy
     access-replayed k et = rw et (unless-replayed _ _ e k)
 
     pub access-full : a ≡ NoEntryLeft → t ≡ refusedAt r refusal.NoEntryLeft 0 → lent t msg ≡ wholeAccess r h akf aid msg
-    unfolding wholeAccess
+    unfolding wholeAccessBy
     access-full k et = rw et (unless-full _ _ e k)
 
     pub access-admitted :
         a ≡ Admitted → (left : List ℕ)
         → lent t left ≡ openedWhole r h (unsecuring (heldBy (r .node)) (wholeEnvelope h akf aid) (drop 1 (transportOf h)) msg)
         → lent t left ≡ wholeAccess r h akf aid msg
-    unfolding wholeAccess
+    unfolding wholeAccessBy
     access-admitted k left et = et ∙ unless-admitted _ _ e k
 
   module _ (opcode : ℕ) (msg : List ℕ) where
     pub control-replayed : a ≡ Replayed → t ≡ refusedAt r refusal.Replayed 0 → lent t msg ≡ wholeControl r h opcode msg
-    unfolding wholeControl
+    unfolding wholeControlBy
     control-replayed k et = rw et (unless-replayed _ _ e k)
 
     pub control-full : a ≡ NoEntryLeft → t ≡ refusedAt r refusal.NoEntryLeft 0 → lent t msg ≡ wholeControl r h opcode msg
-    unfolding wholeControl
+    unfolding wholeControlBy
     control-full k et = rw et (unless-full _ _ e k)
 
     pub control-admitted : a ≡ Admitted → (left : List ℕ) → lent t left ≡ wholeControlUp r h opcode msg → lent t left ≡ wholeControl r h opcode msg
-    unfolding wholeControl
+    unfolding wholeControlBy
     control-admitted k left et = et ∙ unless-admitted _ _ e k
 
   module _ (obo : Bool) (seqZero bits : ℕ) where
     pub ack-replayed : a ≡ Replayed → t ≡ refusedAt r refusal.Replayed 0 → t ≡ wholeAcknowledgement r h obo seqZero bits
-    unfolding wholeAcknowledgement
+    unfolding wholeAcknowledgementBy
     ack-replayed k et = et ∙ unless-replayed _ _ e k
 
     pub ack-full : a ≡ NoEntryLeft → t ≡ refusedAt r refusal.NoEntryLeft 0 → t ≡ wholeAcknowledgement r h obo seqZero bits
-    unfolding wholeAcknowledgement
+    unfolding wholeAcknowledgementBy
     ack-full k et = et ∙ unless-full _ _ e k
 
     pub ack-admitted : a ≡ Admitted → t ≡ acted r h obo seqZero bits → t ≡ wholeAcknowledgement r h obo seqZero bits
-    unfolding wholeAcknowledgement
+    unfolding wholeAcknowledgementBy
     ack-admitted k et = et ∙ unless-admitted _ _ e k
 
 pub ruleset access-rules = (access-replayed, access-full, access-admitted)
@@ -120,7 +121,7 @@ pub acted-is :
     (r : Receiver) (h : Header) (obo : Bool) (seqZero bits : ℕ) (a : Acknowledged) → a ≡ acknowledging (r .out) h obo seqZero bits
     → (q : Receiver) → q ≡ admitted r h → (z : Receiver) → z ≡ withOutgoing q (a .out)
     → record { answer = Acknowledgement (h .src) bits (a .effect); trials = 0; receiver = z } ≡ acted r h obo seqZero bits
-unfolding acted
+unfolding actedBy
 acted-is r h obo seqZero bits a ea q eq z ez = rw (ez, eq, ea)
 
 -- ---- the octets behind octet 0
@@ -162,7 +163,7 @@ pub control-up :
     (r : Receiver) (h : Header) (opcode : ℕ) (msg : List ℕ) (n : ℕ) (left : List ℕ)
     → lent n left ≡ lent (length (drop 1 (transportOf h))) (onto (drop 1 (transportOf h)) msg) → (q : Receiver) → q ≡ admitted r h
     → lent (record { answer = Control (h .src) (h .dst) (h .key) opcode (pairOf h) n; trials = 0; receiver = q }) left ≡ wholeControlUp r h opcode msg
-unfolding wholeControlUp
+unfolding wholeControlUpBy
 control-up r h opcode msg n left e q eq =
     rw eq
     (ap (λ (c : Lent ℕ). lent {A = Taken} (record { answer = Control (h .src) (h .dst) (h .key) opcode (pairOf h) (c .answer); trials = 0; receiver = admitted r h }) (c .buffer)) e)
@@ -172,15 +173,15 @@ module _ (r : Receiver) (h : Header) {o : Opened} {left : List ℕ} {u : Lent Op
   pub opened-message :
       (opener : Opener) (trials len : ℕ) → o ≡ Message opener trials len → (q : Receiver) → q ≡ admitted r h
       → lent (record { answer = Access (h .src) (h .dst) (h .key) opener (pairOf h) len; trials = trials; receiver = q }) left ≡ openedWhole r h u
-  unfolding openedWhole openedAs
+  unfolding openedWholeBy openedAsBy
   opened-message opener trials len k q eq = rw (← e, k, eq)
 
   pub opened-not : (trials : ℕ) → o ≡ NotOpened trials → (t : Taken) → t ≡ refusedAt r refusal.NotOpened trials → lent t left ≡ openedWhole r h u
-  unfolding openedWhole openedAs
+  unfolding openedWholeBy openedAsBy
   opened-not trials k t et = rw (← e, k, et)
 
   pub opened-short : o ≡ ShortBuffer → (t : Taken) → t ≡ refusedAt r refusal.ShortBuffer 0 → lent t left ≡ openedWhole r h u
-  unfolding openedWhole openedAs
+  unfolding openedWholeBy openedAsBy
   opened-short k t et = rw (← e, k, et)
 
 pub ruleset opened-rules = (opened-message, opened-not, opened-short)

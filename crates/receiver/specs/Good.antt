@@ -49,7 +49,7 @@ pub record Good (r : Receiver) : Type 0 where
   pub next-well : NextWell (r .node .elements) (r .next)
   -- message cache: 16 entries
   pub cache-places : length (r .cache .entries) ≡ cacheEntries
-  -- replay list: 32 entries, of a source at most one
+  -- replay list: 32 entries, ascending by source
   pub replay-kept : ReplayKept (r .replay)
   pub sessions-kept : SessionsKept (r .sessions)
 

@@ -20,9 +20,9 @@ use Rattle.receiver.specs.declared.answer.Refusal.{Refusal}
 use Rattle.receiver.specs.declared.answer.Taken.{Taken}
 use Rattle.receiver.specs.declared.state.Receiver.{Receiver}
 use Rattle.receiver.specs.Hearing.{taken}
-use Rattle.receiver.specs.Segmented.{accessUpAs, controlUp}
+use Rattle.receiver.specs.Segmented.{accessUpAsBy, controlUpBy}
 use Rattle.receiver.specs.State.{withSession}
-use Rattle.receiver.specs.Whole.{openedAs, wholeControlUp, acted}
+use Rattle.receiver.specs.Whole.{openedAsBy, wholeControlUpBy, actedBy}
 use Rattle.receiver.proofs.Laws.Heard.{late}
 use Rattle.receiver.proofs.Laws.Ways.{goes-opens, freesSlot, Ways, walk-taken}
 
@@ -44,7 +44,7 @@ module _ (q : Receiver) (h : Header) (msg : List ℕ) (room : messageOctets ≤ 
   AfterTaken t = After q h msg (t .answer .answer) (t .answer .receiver) (t .buffer)
 
   ways : Ways q h msg AfterTaken
-  unfolding openedAs wholeControlUp acted accessUpAs controlUp
+  unfolding openedAsBy wholeControlUpBy actedBy accessUpAsBy controlUpBy
   ways =
       record {
         refuses = λ n trials l f. (rw f refl, refl, l);

@@ -16,9 +16,9 @@ use Rattle.memory.specs.declared.session.Session.{Session}
 use Rattle.node.specs.Index.{SameFixed, SameIndex}
 use Rattle.receiver.specs.declared.answer.Taken.{Taken}
 use Rattle.receiver.specs.declared.state.Receiver.{Receiver}
-use Rattle.receiver.specs.Hearing.{Outcome, taken, passed, hearing}
-use Rattle.receiver.specs.Segmented.{upgraded, accessUpAs, controlUp}
-use Rattle.receiver.specs.Whole.{admitted, openedAs, wholeControlUp, acted}
+use Rattle.receiver.specs.Hearing.{Outcome, taken, passed, passedBy, hearing}
+use Rattle.receiver.specs.Segmented.{upgradedBy, accessUpAsBy, controlUpBy}
+use Rattle.receiver.specs.Whole.{admittedBy, openedAsBy, wholeControlUpBy, actedBy}
 use Rattle.receiver.proofs.Laws.Heard.{caching, walk-hearing}
 use Rattle.receiver.proofs.Laws.Ways.{Ways, walk-taken}
 
@@ -40,7 +40,7 @@ module _ (q : Receiver) (h : Header) (msg : List ℕ) where
   written = (record { setup-stays = refl; index-stays = refl; next-stays = refl }, refl)
 
   ways : Ways q h msg (λ (t : Lent Taken). Stays (t .answer .receiver))
-  unfolding openedAs wholeControlUp acted accessUpAs controlUp admitted upgraded
+  unfolding openedAsBy wholeControlUpBy actedBy accessUpAsBy controlUpBy admittedBy upgradedBy
   ways =
       record {
         refuses = λ n trials l f. written;
@@ -60,7 +60,7 @@ module _ (q : Receiver) (h : Header) (msg : List ℕ) where
 -- ---- a call
 module _ (r : Receiver) (fwd msg : List ℕ) where
   fixed-passed : messageOctets ≤ length msg → (h : Header) (trials : ℕ) → Fixed r (passed r h trials fwd msg .heard .receiver)
-  unfolding passed
+  unfolding passedBy
   fixed-passed room h trials =
       let s = stays-taken (caching r h) h msg room .0 in
       record { setup-stays = s .setup-stays; index-stays = s .index-stays; next-stays = s .next-stays }

@@ -22,7 +22,7 @@ use Rattle.node.specs.Addresses.{heldBy}
 use Rattle.receiver.specs.declared.answer.Answer.the-variants as answer
 use Rattle.receiver.specs.declared.state.Receiver.{Receiver}
 use Rattle.receiver.specs.declared.whole.Admission.the-variants as admission
-use Rattle.receiver.specs.Hearing.{takenAs}
+use Rattle.receiver.specs.Hearing.{takenAs, takenAsBy}
 use Rattle.receiver.specs.Segmented.{segmented}
 use Rattle.receiver.specs.State.{withReplay, withOutgoing}
 use Rattle.receiver.specs.Whole as whole
@@ -30,12 +30,12 @@ use Rattle.receiver.specs.Whole as whole
 module _ (r : Receiver) (h : Header) (msg : List ℕ) where
   pub taken-access-segment :
       (akf : Bool) (aid : ℕ) (fields : SegmentFields) → formOf h ≡ form.AccessSegment akf aid fields → takenAs (formOf h) r h msg ≡ segmented r h fields msg
-  unfolding takenAs
+  unfolding takenAsBy
   taken-access-segment akf aid fields e = rw e refl
 
   pub taken-control-segment :
       (opcode : ℕ) (fields : SegmentFields) → formOf h ≡ form.ControlSegment opcode fields → takenAs (formOf h) r h msg ≡ segmented r h fields msg
-  unfolding takenAs
+  unfolding takenAsBy
   taken-control-segment opcode fields e = rw e refl
 
   -- a whole message that is admitted
@@ -45,7 +45,7 @@ module _ (r : Receiver) (h : Header) (msg : List ℕ) where
       ≡ lent (Message opener trials len) left
       → takenAs (formOf h) r h msg
       ≡ lent (record { answer = answer.Access (h .src) (h .dst) (h .key) opener (whole.pairOf h) len; trials = trials; receiver = whole.admitted r h }) left
-  unfolding takenAs whole.wholeAccess whole.unless whole.openedWhole whole.openedAs
+  unfolding takenAsBy whole.wholeAccessBy whole.unless whole.openedWholeBy whole.openedAsBy
   taken-access akf aid trials len opener left e a u = rw (e, a, u) refl
 
   pub taken-control :
@@ -54,7 +54,7 @@ module _ (r : Receiver) (h : Header) (msg : List ℕ) where
       ≡ lent
       (record { answer = answer.Control (h .src) (h .dst) (h .key) opcode (whole.pairOf h) (length parameters); trials = 0; receiver = whole.admitted r h })
       (onto parameters msg)
-  unfolding takenAs whole.wholeControl whole.unless whole.wholeControlUp
+  unfolding takenAsBy whole.wholeControlBy whole.unless whole.wholeControlUpBy
   taken-control opcode parameters e a m = rw (e, a, m) refl
 
   -- an acknowledgement that is admitted
@@ -63,10 +63,10 @@ module _ (r : Receiver) (h : Header) (msg : List ℕ) where
       → (let a = acknowledging (r .out) h obo seqZero bits in
       takenAs (formOf h) r h msg
       ≡ lent (record { answer = answer.Acknowledgement (h .src) bits (a .effect); trials = 0; receiver = withOutgoing (whole.admitted r h) (a .out) }) msg)
-  unfolding takenAs whole.wholeAcknowledgement whole.unless whole.acted
+  unfolding takenAsBy whole.wholeAcknowledgementBy whole.unless whole.actedBy
   taken-acknowledgement obo seqZero bits e a = rw (e, a) refl
 
   -- it leaves all but the replay list
   pub admitted-is : whole.admitted r h ≡ withReplay r (accepted (r .replay) (h .src) (whole.pairOf h))
-  unfolding whole.admitted
+  unfolding whole.admittedBy
   admitted-is = refl

@@ -23,7 +23,7 @@ use Rattle.receiver.specs.declared.fresh.Answer.{Answer}
 use Rattle.receiver.specs.declared.fresh.Answer.the-variants.{Ready, Refused}
 use Rattle.receiver.specs.declared.whole.Admission.the-variants.{Admitted}
 use Rattle.receiver.specs.Fresh.{paper, fresh, settingUp}
-use Rattle.receiver.specs.Whole.{pairOf, admission}
+use Rattle.receiver.specs.Whole.{pairOf, admission, admissionBy}
 
 module _ (s : Setup) where
   pub by-setting-up : (P : Answer → Type 0) → P Ready → P (Refused OutsideRules) → P (settingUp s .answer)
@@ -44,5 +44,5 @@ module _ (s : Setup) where
   fresh-unseen h z = rw fresh-is (seen-none h z)
 
   pub fresh-admits : (h : Header) → admission (settingUp s .receiver .replay) h ≡ Admitted
-  unfolding admission
+  unfolding admissionBy
   fresh-admits h = rw (fresh-is, lookUp-none (h .src), sym (stale-none noEntry (pairOf h) refl), hasRoom-none (h .src)) refl

@@ -36,7 +36,7 @@ use Rattle.receiver.specs.declared.answer.Refusal.the-variants as refusa
 use Rattle.receiver.specs.declared.answer.Taken.{Taken}
 use Rattle.receiver.specs.declared.state.Receiver.{Receiver}
 use Rattle.receiver.specs.Answer.{refusalNumber}
-use Rattle.receiver.specs.Hearing.{Outcome, outcome, refusedHeard, relayed, takenAs, taken, passed, uncached, voiced, openedAs, hearing}
+use Rattle.receiver.specs.Hearing.{Outcome, outcome, refusedHeard, relayed, takenAs, takenBy, passed, passedBy, uncachedBy, voiced, voicedBy, openedAs, openedAsBy, hearing, hearingBy}
 use Rattle.receiver.specs.Passing.{Opens, Ours, Passes}
 use Rattle.receiver.specs.State.{withCache}
 use Rattle.receiver.specs.Whole.{refusedAt}
@@ -70,6 +70,16 @@ module _ (r : Receiver) (fwd msg pdu : List ℕ) where
   abbrev o : Opening
   o = openingOf r pdu
 
+  -- the buffers are long enough, and it opens to its header
+  pub opens-so :
+      ltb (length fwd) pduOctets ≡ false → ltb (length msg) messageOctets ≡ false → o .answer ≡ network.Opened → Opens r pdu fwd msg (o .trials) (o .header)
+  opens-so t u e =
+      record {
+        wide = ltb-false (length fwd) pduOctets t;
+        big = ltb-false (length msg) messageOctets u;
+        opens = ap (λ (a : opening-answer.Answer). record { answer = a; trials = o .trials; header = o .header }) e;
+      }
+
   -- it passes, and opens to its header
   abbrev pub PassesSo : Type 0
   PassesSo = Passes r pdu fwd msg (o .trials) (o .header)
@@ -88,7 +98,7 @@ module _ (r : Receiver) (fwd msg pdu : List ℕ) where
         → (a ≡ network.Opened → isLocal (r .node) (h .src) ≡ true → Stops refusal.OwnSource)
         → (a ≡ network.Opened → isLocal (r .node) (h .src) ≡ false → seen (r .cache) h ≡ false → P (passed r h trials fwd msg))
         → P (openedAs a r h trials fwd msg)
-    unfolding openedAs voiced uncached
+    unfolding openedAsBy voicedBy uncachedBy
     walk-opened network.WrongLength h trials g f = refuses refusal.WrongLength trials (stops refusal.WrongLength refl refl)
     walk-opened network.NoCandidate h trials g f = refuses refusal.NoCandidate trials (stops refusal.NoCandidate refl refl)
     walk-opened network.NotAuthentic h trials g f = refuses refusal.NotAuthentic trials (stops refusal.NotAuthentic refl refl)
@@ -98,20 +108,13 @@ module _ (r : Receiver) (fwd msg pdu : List ℕ) where
         (λ t. by-choice P (seen (r .cache) h) {y = passed r h trials fwd msg} (λ _. refuses refusal.Cached trials (stops refusal.Cached refl refl)) (f refl t))
 
     pub walk-hearing : (PassesSo → P (passed r (o .header) (o .trials) fwd msg)) → P (hearing r pdu fwd msg)
-    unfolding hearing
+    unfolding hearingBy
     walk-hearing passes =
         by-choice P (ltb (length fwd) pduOctets) (λ _. refuses refusal.ShortBuffer 0 (stops refusal.ShortBuffer refl refl))
         (λ t. by-choice P (ltb (length msg) messageOctets) (λ _. refuses refusal.ShortBuffer 0 (stops refusal.ShortBuffer refl refl))
-        (λ u.
-        let opened : o .answer ≡ network.Opened → Opens r pdu fwd msg (o .trials) (o .header) =
-        λ e. record {
-          wide = ltb-false (length fwd) pduOctets t;
-          big = ltb-false (length msg) messageOctets u;
-          opens = ap (λ (a : opening-answer.Answer). record { answer = a; trials = o .trials; header = o .header }) e;
-        } in
-        walk-opened (o .answer) (o .header) (o .trials)
-        (λ e own. record { is-early = refl; if-own = λ _. record { opened = opened e; own = own } })
-        (λ e other new. passes (record { opened = opened e; other = other; new = new }))))
+        (λ u. walk-opened (o .answer) (o .header) (o .trials)
+        (λ e own. record { is-early = refl; if-own = λ _. record { opened = opens-so t u e; own = own } })
+        (λ e other new. passes (record { opened = opens-so t u e; other = other; new = new }))))
 
   pub heard-unopened : (o .answer ≡ network.Opened → ⊥) → Early r fwd msg (hearing r pdu fwd msg)
   heard-unopened n =
@@ -123,7 +126,7 @@ module _ (r : Receiver) (fwd msg pdu : List ℕ) where
   RefusedAs a trials x = (n : Refusal) × (refusalNumber n ≡ numberOf (opened.paper a)) × (x ≡ outcome (refusedHeard r n trials) fwd msg)
 
   closed-as : (a : opening-answer.Answer) (h : Header) (trials : ℕ) → (a ≡ network.Opened → ⊥) → RefusedAs a trials (openedAs a r h trials fwd msg)
-  unfolding openedAs
+  unfolding openedAsBy
   closed-as network.WrongLength h trials f = (refusal.WrongLength, refl, refl)
   closed-as network.NoCandidate h trials f = (refusal.NoCandidate, refl, refl)
   closed-as network.NotAuthentic h trials f = (refusal.NotAuthentic, refl, refl)
@@ -132,7 +135,7 @@ module _ (r : Receiver) (fwd msg pdu : List ℕ) where
 
   pub heard-closed :
       pduOctets ≤ length fwd → messageOctets ≤ length msg → (o .answer ≡ network.Opened → ⊥) → RefusedAs (o .answer) (o .trials) (hearing r pdu fwd msg)
-  unfolding hearing
+  unfolding hearingBy
   heard-closed wide big n = rw (le-ltb (length fwd) pduOctets wide, le-ltb (length msg) messageOctets big) (closed-as (o .answer) (o .header) (o .trials) n)
 
 -- ---- a PDU that opens
@@ -146,23 +149,23 @@ pub record Leaves (r : Receiver) (pdu fwd msg : List ℕ) (trials : ℕ) (t : Le
 
 module _ {r : Receiver} {pdu fwd msg : List ℕ} {trials : ℕ} {h : Header} where
   heard-opened : Opens r pdu fwd msg trials h → hearing r pdu fwd msg ≡ voiced r h trials fwd msg
-  unfolding hearing openedAs
+  unfolding hearingBy openedAsBy
   heard-opened p = rw (le-ltb (length fwd) pduOctets (p .wide), le-ltb (length msg) messageOctets (p .big), p .opens) refl
 
   pub heard-own : Ours r pdu fwd msg trials h → hearing r pdu fwd msg ≡ outcome (refusedHeard r refusal.OwnSource trials) fwd msg
-  unfolding voiced
+  unfolding voicedBy
   heard-own p = heard-opened (p .opened) ∙ rw (p .own) refl
 
   pub heard-again :
       Opens r pdu fwd msg trials h → isLocal (r .node) (h .src) ≡ false → seen (r .cache) h ≡ true
       → hearing r pdu fwd msg ≡ outcome (refusedHeard r refusal.Cached trials) fwd msg
-  unfolding voiced uncached
+  unfolding voicedBy uncachedBy
   heard-again p other e = heard-opened p ∙ rw (other, e) refl
 
   -- ---- it passes
   module _ (p : Passes r pdu fwd msg trials h) where
     pub heard-passed : hearing r pdu fwd msg ≡ passed r h trials fwd msg
-    unfolding voiced uncached
+    unfolding voicedBy uncachedBy
     heard-passed = heard-opened (p .opened) ∙ rw (p .other, p .new) refl
 
     -- whatever becomes of its message, it is sealed again where it is to be forwarded, and else the forward buffer stays
@@ -174,16 +177,16 @@ module _ {r : Receiver} {pdu fwd msg : List ℕ} {trials : ℕ} {h : Header} whe
 
     pub heard-forwarded :
         goesOn ≡ true → (let f = forwarding (r .node .materials) h fwd in forwardedIs (lent (sealedLength (f .answer)) (f .buffer)))
-    unfolding passed relayed
+    unfolding passedBy relayed
     heard-forwarded t = rw (heard-passed, t) refl
 
     pub heard-kept : goesOn ≡ false → forwardedIs (lent 0 fwd)
-    unfolding passed relayed
+    unfolding passedBy relayed
     heard-kept t = rw (heard-passed, t) refl
 
     -- it is not for this node
     pub heard-elsewhere : forNode (r .node) (h .dst) ≡ false → Leaves r pdu fwd msg trials (lent (refusedAt (caching r h) refusal.NotForNode 0) msg)
-    unfolding passed taken
+    unfolding passedBy takenBy
     heard-elsewhere f =
         record {
           answers = rw (heard-passed, f) refl;
@@ -195,7 +198,7 @@ module _ {r : Receiver} {pdu fwd msg : List ℕ} {trials : ℕ} {h : Header} whe
 
     -- it is for this node: it is taken by its form
     pub heard-new : forNode (r .node) (h .dst) ≡ true → (t : Lent Taken) → takenAs (formOf h) (caching r h) h msg ≡ t → Leaves r pdu fwd msg trials t
-    unfolding passed taken
+    unfolding passedBy takenBy
     heard-new f t g =
         record {
           answers = rw (heard-passed, f) (ap (λ (x : Lent Taken). x .answer .answer) g);

@@ -10,15 +10,15 @@ use Rattle.memory.proofs.OutgoingLaws.{by-acknowledging}
 use Rattle.receiver.specs.declared.answer.Taken.{Taken}
 use Rattle.receiver.specs.declared.state.Receiver.{Receiver}
 use Rattle.receiver.specs.Hearing.{hearing}
-use Rattle.receiver.specs.Segmented.{upgraded, accessUpAs, controlUp}
-use Rattle.receiver.specs.Whole.{admitted, openedAs, wholeControlUp, acted}
+use Rattle.receiver.specs.Segmented.{upgradedBy, accessUpAsBy, controlUpBy}
+use Rattle.receiver.specs.Whole.{admittedBy, openedAsBy, wholeControlUpBy, actedBy}
 use Rattle.receiver.proofs.Laws.Heard.{caching}
 use Rattle.receiver.proofs.Laws.Ways.{Ways, walk-left}
 
 -- what holds of the message, of it with other segments heard, and of none, holds of what hearing leaves of it
 module _ (P : Outgoing → Type 0) (r : Receiver) (none : P noOutgoing) (same : P (r .out)) (marked : (heard : ℕ) → P (withHeard (r .out) heard)) where
   ways : (h : Header) (msg : List ℕ) → Ways (caching r h) h msg (λ (t : Lent Taken). P (t .answer .receiver .out))
-  unfolding openedAs wholeControlUp acted accessUpAs controlUp admitted upgraded
+  unfolding openedAsBy wholeControlUpBy actedBy accessUpAsBy controlUpBy admittedBy upgradedBy
   ways h msg =
       record {
         refuses = λ n trials l f. same;

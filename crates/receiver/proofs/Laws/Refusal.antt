@@ -20,7 +20,7 @@ use Rattle.receiver.specs.declared.answer.Answer.the-variants.{Refused}
 use Rattle.receiver.specs.declared.answer.Refusal.{Refusal}
 use Rattle.receiver.specs.declared.answer.Refusal.the-variants.{OwnSource}
 use Rattle.receiver.specs.declared.state.Receiver.{Receiver}
-use Rattle.receiver.specs.Hearing.{Outcome, relayed, taken, passed, hearing}
+use Rattle.receiver.specs.Hearing.{Outcome, relayed, taken, passed, passedBy, hearing}
 use Rattle.receiver.specs.Passing.{Ours, Passes}
 use Rattle.receiver.proofs.Laws.After.{leftBehind, After, after-taken}
 use Rattle.receiver.proofs.Laws.Fixed.{stays-taken}
@@ -40,7 +40,7 @@ module _ (r : Receiver) (fwd msg : List ℕ) (h : Header) where
     pub refused-late : (n : Refusal) → o .heard .answer ≡ Refused n → Late n o
 
   passed-enters : messageOctets ≤ length msg → (trials : ℕ) → Enters (passed r h trials fwd msg)
-  unfolding passed
+  unfolding passedBy
   passed-enters room trials =
       let q = caching r h in
       let t = taken q h msg in

@@ -31,13 +31,14 @@ use Rattle.node.specs.Addresses.{heldBy}
 use Rattle.receiver.specs.declared.answer.Answer.the-variants as answer
 use Rattle.receiver.specs.declared.answer.Taken.{Taken}
 use Rattle.receiver.specs.declared.state.Receiver.{Receiver}
-use Rattle.receiver.specs.Segmented.{segmentOf, upgraded, messageOf, sessionEnvelope, accessUpAs, accessUp, controlUp, gathered, placedAs, placed, segmentedAs, segmented}
+use Rattle.receiver.specs.Segmented.{segmentOf, upgraded, messageOf, sessionEnvelope, accessUp, controlUp, gathered, placed, segmented}
+use Rattle.receiver.specs.Segmented.{upgradedBy, accessUpAsBy, accessUpBy, controlUpBy, gatheredBy, placedAsBy, placedBy, segmentedAsBy, segmentedBy}
 use Rattle.receiver.specs.State.{withReplay, withSession}
 
 module _ (r : Receiver) (h : Header) (msg : List ℕ) where
   pub segmented-placed :
       (fields : SegmentFields) (auth : ℕ) → seqAuth (h .seq) (fields .seqzero) ≡ At auth → segmented r h fields msg ≡ placed r h (segmentOf h fields auth) msg
-  unfolding segmented segmentedAs
+  unfolding segmentedBy segmentedAsBy
   segmented-placed fields auth e = rw e refl
 
 -- ---- where it is placed, by what entry and session its source has
@@ -56,7 +57,7 @@ module _ (r : Receiver) (h : Header) (msg : List ℕ) (seg : Segment) where
   pub placed-last :
       (seg .terms .dst ≡ 0 → ⊥) → lookUp (r .replay) (h .src) .last ≡ record { auth = seg .auth; segn = seg .terms .segn; dst = seg .terms .dst }
       → placed r h seg msg ≡ repeats (allBits (seg .terms .segn))
-  unfolding placed placedAs
+  unfolding placedBy placedAsBy
   placed-last z e = rw (decide-last (r .replay) (r .sessions) (h .src) seg z e) refl
 
   -- it is not of that one, and there is room for an entry
@@ -66,17 +67,17 @@ module _ (r : Receiver) (h : Header) (msg : List ℕ) (seg : Segment) where
       pub placed-open :
           stale (lookUp (r .replay) (h .src)) (seg .auth) ≡ false → sessionSlots ≤ own → free < sessionSlots
           → placed r h seg msg ≡ gathered r free (stored (begun (h .src) seg) h (seg .sego)) msg
-      unfolding placed placedAs
+      unfolding placedBy placedAsBy
       placed-open old out within = rw (decide-open (r .replay) (r .sessions) (h .src) seg other room old out within) refl
 
       -- a session of its SeqAuth and terms
       module _ (s : Session) (here : own < sessionSlots) (held : sessionAt (r .sessions) own ≡ s) (auth : s .auth ≡ seg .auth) (terms : s .terms ≡ seg .terms) where
         pub placed-repeat : hasBit (s .filled) (seg .sego) ≡ true → placed r h seg msg ≡ repeats (s .filled)
-        unfolding placed placedAs
+        unfolding placedBy placedAsBy
         placed-repeat b = rw (decide-repeat (r .replay) (r .sessions) (h .src) seg other room s here held auth terms b) refl
 
         pub placed-join : hasBit (s .filled) (seg .sego) ≡ false → placed r h seg msg ≡ gathered r own (stored s h (seg .sego)) msg
-        unfolding placed placedAs
+        unfolding placedBy placedAsBy
         placed-join b =
             rw (decide-join (r .replay) (r .sessions) (h .src) seg other room s here held auth terms b)
             (ap (λ (x : Session). gathered r own (stored x h (seg .sego)) msg) held)
@@ -87,7 +88,7 @@ module _ (r : Receiver) (slot : ℕ) (s : Session) (msg : List ℕ) where
   pub gathered-stored :
       (s .filled ≡ allBits (s .terms .segn) → ⊥)
       → gathered r slot s msg ≡ lent (record { answer = answer.Stored (s .src) (s .auth) (s .filled); trials = 0; receiver = withSession r slot s }) msg
-  unfolding gathered complete
+  unfolding gatheredBy complete
   gathered-stored n = rw (ne-eqb (s .filled) (allBits (s .terms .segn)) n) refl
 
   -- none is: it is handed up, and its slot is freed
@@ -95,7 +96,7 @@ module _ (r : Receiver) (slot : ℕ) (s : Session) (msg : List ℕ) where
       s .filled ≡ allBits (s .terms .segn)
       → gathered r slot s msg
       ≡ (if s .terms .ctl then controlUp (withSession r slot noSession) s msg else accessUp (withSession r slot noSession) s msg)
-  unfolding gathered complete
+  unfolding gatheredBy complete
   gathered-up e = rw (eq-eqb (s .filled) (allBits (s .terms .segn)) e) refl
 
 module _ (r : Receiver) (s : Session) (msg : List ℕ) where
@@ -105,7 +106,7 @@ module _ (r : Receiver) (s : Session) (msg : List ℕ) where
       ≡ lent (Message opener trials len) left
       → accessUp r s msg
       ≡ lent (record { answer = answer.Access (s .src) (s .terms .dst) (s .terms .key) opener (s .auth) len; trials = trials; receiver = upgraded r s }) left
-  unfolding accessUp accessUpAs messageOf
+  unfolding accessUpBy accessUpAsBy messageOf
   access-up opener trials len left u = rw u refl
 
   pub control-up :
@@ -117,10 +118,10 @@ module _ (r : Receiver) (s : Session) (msg : List ℕ) where
         receiver = upgraded r s;
       })
       (onto (take (s .len) (s .bytes)) msg)
-  unfolding controlUp messageOf
+  unfolding controlUpBy messageOf
   control-up = refl
 
   -- handing up raises the replay entry, and nothing else
   pub upgraded-is : upgraded r s ≡ withReplay r (handedUp (r .replay) (s .src) (s .auth) (s .terms .segn) (s .terms .dst))
-  unfolding upgraded
+  unfolding upgradedBy
   upgraded-is = refl

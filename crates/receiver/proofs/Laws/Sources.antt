@@ -28,9 +28,9 @@ use Rattle.receiver.specs.declared.answer.Taken.{Taken}
 use Rattle.receiver.specs.declared.state.Receiver.{Receiver}
 use Rattle.receiver.specs.Fresh.{fresh}
 use Rattle.receiver.specs.Hearing.{hearing}
-use Rattle.receiver.specs.Segmented.{upgraded, accessUpAs, controlUp}
+use Rattle.receiver.specs.Segmented.{upgraded, upgradedBy, accessUpAsBy, controlUpBy}
 use Rattle.receiver.specs.State.{withSession}
-use Rattle.receiver.specs.Whole.{admitted, openedAs, wholeControlUp, acted}
+use Rattle.receiver.specs.Whole.{admitted, admittedBy, openedAsBy, wholeControlUpBy, actedBy}
 use Rattle.receiver.proofs.Laws.Heard.{openingOf, caching, PassesSo}
 use Rattle.receiver.proofs.Laws.Ways.{Goes, Ways, walk-left}
 
@@ -62,7 +62,7 @@ module _ (P : ℕ → Type 0) (none : P 0) where
   module _ (q : Receiver) (l : Lists P q) (h : Header) (new : P (h .src)) where
     -- a whole message is accepted
     accepts : Lists P (admitted q h)
-    unfolding admitted
+    unfolding admittedBy
     accepts = record { cached = l .cached; entries = each-accepted P (q .replay) (l .entries) (h .src) _ new; held = l .held }
 
     module _ (seg : Segment) (slot : ℕ) (before : Session) (g : Goes q h seg slot before) where
@@ -73,12 +73,12 @@ module _ (P : ℕ → Type 0) (none : P 0) where
           ⊎-elim (λ j. subst (λ (s : Session). P (s .src)) (sym (j .1)) (l .held slot)) (λ j. subst (λ (s : Session). P (s .src)) (sym (j .1)) new) (g .stands)
 
       hands-up : Lists P (upgraded (withSession q slot noSession) (stored before h (seg .sego)))
-      unfolding upgraded
+      unfolding upgradedBy
       hands-up =
           record { cached = l .cached; entries = each-handedUp P (q .replay) (l .entries) _ _ _ _ its-source; held = lists-freed q l slot .held }
 
     ways : (msg : List ℕ) → Ways q h msg (λ (t : Lent Taken). Lists P (t .answer .receiver))
-    unfolding openedAs wholeControlUp acted accessUpAs controlUp
+    unfolding openedAsBy wholeControlUpBy actedBy accessUpAsBy controlUpBy
     ways msg =
         record {
           refuses = λ n trials late f. l;

@@ -57,10 +57,12 @@ use Rattle.receiver.specs.declared.state.Receiver.{Receiver}
 use Rattle.receiver.specs.declared.whole.Admission.{Admission}
 use Rattle.receiver.specs.declared.whole.Admission.the-variants.{Admitted, Replayed, NoEntryLeft}
 use Rattle.receiver.specs.Answer.{refusalNumber}
-use Rattle.receiver.specs.Hearing.{Outcome, takenAs, taken, passed, hearing}
-use Rattle.receiver.specs.Segmented.{segmentOf, messageOf, sessionEnvelope, controlUp, accessUpAs, accessUp, gathered, placedAs, placed, segmentedAs, segmented}
+use Rattle.receiver.specs.Hearing.{Outcome, takenAs, takenAsBy, taken, takenBy, passed, passedBy, hearing}
+use Rattle.receiver.specs.Segmented.{segmentOf, messageOf, sessionEnvelope, controlUp, accessUpAs, accessUp, gathered, placedAs, segmentedAs, segmented}
+use Rattle.receiver.specs.Segmented.{accessUpAsBy, accessUpBy, gatheredBy, placedAsBy, placedBy, segmentedAsBy, segmentedBy}
 use Rattle.receiver.specs.State.{withSession}
-use Rattle.receiver.specs.Whole.{refusedAt, admission, wholeEnvelope, openedAs, openedWhole, unless, wholeAccess, wholeControlUp, wholeControl, acted, wholeAcknowledgement}
+use Rattle.receiver.specs.Whole.{refusedAt, admission, wholeEnvelope, openedAs, unless, wholeAccess, wholeControlUp, wholeControl, acted, wholeAcknowledgement}
+use Rattle.receiver.specs.Whole.{openedAsBy, openedWholeBy, wholeAccessBy, wholeControlBy, wholeAcknowledgementBy}
 use Rattle.receiver.proofs.Laws.Heard.{late, openingOf, caching, PassesSo, walk-hearing}
 
 -- the session s that a segment goes to: its source's own, on whose terms it is, or one begun
@@ -145,23 +147,23 @@ module _ (q : Receiver) (h : Header) (msg : List ℕ) (room : messageOctets ≤ 
 
   -- ---- whole messages
   walk-access : (akf : Bool) (aid : ℕ) → isSegment (formOf h) ≡ false → P (wholeAccess q h akf aid msg)
-  unfolding wholeAccess openedWhole openedAs
+  unfolding wholeAccessBy openedWholeBy openedAsBy
   walk-access akf aid one =
       by-admission P h (admission (q .replay) h) refused
       (by-unsecuring (openedAs q h) (w .access-whole) (λ trials. w .refuses refusal.NotOpened trials refl one) (wholeEnvelope h akf aid) (drop 1 (transportOf h)))
 
   walk-control : (opcode : ℕ) → P (wholeControl q h opcode msg)
-  unfolding wholeControl
+  unfolding wholeControlBy
   walk-control opcode = by-admission P h (admission (q .replay) h) refused (w .control-whole opcode)
 
   walk-acknowledgement : (obo : Bool) (seqZero bits : ℕ) → P (lent (wholeAcknowledgement q h obo seqZero bits) msg)
-  unfolding wholeAcknowledgement
+  unfolding wholeAcknowledgementBy
   walk-acknowledgement obo seqZero bits = by-admission (λ (t : Taken). P (lent t msg)) h (admission (q .replay) h) refused (w .acknowledges obo seqZero bits)
 
   -- ---- segments
   module _ (many : isSegment (formOf h) ≡ true) (seg : Segment) (slot : ℕ) (before : Session) (g : Goes q h seg slot before) where
     walk-gathered : P (gathered q slot (stored before h (seg .sego)) msg)
-    unfolding gathered accessUp accessUpAs
+    unfolding gatheredBy accessUpBy accessUpAsBy
     walk-gathered =
         let s = stored before h (seg .sego) in
         let free = withSession q slot noSession in
@@ -172,7 +174,7 @@ module _ (q : Receiver) (h : Header) (msg : List ℕ) (room : messageOctets ≤ 
 
   module _ (many : isSegment (formOf h) ≡ true) (seg : Segment) (n : seg .terms .segn < 32) (o : seg .sego ≤ seg .terms .segn) where
     walk-placed : (d : Decision) → Within (q .sessions) (h .src) seg d → P (placedAs d q h seg msg)
-    unfolding placedAs
+    unfolding placedAsBy
     walk-placed (decided.Repeat bits) i = w .repeats (seg .auth) bits
     walk-placed (decided.Join slot) i = walk-gathered many seg slot _ (record { segN-fits = n; segO-most = o; stands = inl (i, refl) })
     walk-placed (decided.Open slot) i = walk-gathered many seg slot _ (record { segN-fits = n; segO-most = o; stands = inr (i, refl) })
@@ -183,19 +185,19 @@ module _ (q : Receiver) (h : Header) (msg : List ℕ) (room : messageOctets ≤ 
 
   module _ (many : isSegment (formOf h) ≡ true) (fields : SegmentFields) (full : ℕ) (i : InRange fields (h .len) full) where
     walk-segmented-as : (a : SeqAuth) → P (segmentedAs a q h fields msg)
-    unfolding segmentedAs placed
+    unfolding segmentedAsBy placedBy
     walk-segmented-as Nowhere = refused refusal.NoSeqAuth refl refl
     walk-segmented-as (At auth) =
         let seg = segmentOf h fields auth in
         walk-placed many seg (i .segN-fits) (segO-fits fields (h .len) full i) (decision (q .replay) (q .sessions) (h .src) seg) (decision-within (q .replay) (q .sessions) (h .src) seg)
 
     walk-segmented : P (segmented q h fields msg)
-    unfolding segmented
+    unfolding segmentedBy
     walk-segmented = walk-segmented-as (seqAuth (h .seq) (fields .seqzero))
 
   -- ---- by the form
   walk-form : (f : Form) → formOf h ≡ f → Kept h f → P (takenAs f q h msg)
-  unfolding takenAs
+  unfolding takenAsBy
   walk-form form.Wrong e k = refused refusal.WrongForm refl refl
   walk-form (form.Access akf aid) e k = walk-access akf aid (ap isSegment e)
   walk-form (form.AccessSegment akf aid fields) e k = walk-segmented (ap isSegment e) fields 16 (k .2)
@@ -204,7 +206,7 @@ module _ (q : Receiver) (h : Header) (msg : List ℕ) (room : messageOctets ≤ 
   walk-form (form.Acknowledgement obo seqZero bits) e k = walk-acknowledgement obo seqZero bits
 
   pub walk-taken : P (taken q h msg)
-  unfolding taken
+  unfolding takenBy
   walk-taken =
       by-choice P (forNode (q .node) (h .dst)) {x = takenAs (formOf h) q h msg} (λ _. walk-form (formOf h) refl (keeps-to-ranges h)) (λ _. refused refusal.NotForNode refl refl)
 
@@ -217,7 +219,7 @@ module _ (r : Receiver) (pdu fwd msg : List ℕ) (P : Receiver → Type 0) where
   WaysLeft = Ways (caching r h) h msg (λ t. P (t .answer .receiver))
 
   left-passed : WaysLeft → messageOctets ≤ length msg → (trials : ℕ) → P (passed r h trials fwd msg .heard .receiver)
-  unfolding passed
+  unfolding passedBy
   left-passed w room trials = walk-taken (caching r h) h msg room (λ t. P (t .answer .receiver)) w
 
   pub walk-left : P r → (PassesSo r fwd msg pdu → WaysLeft) → P (hearing r pdu fwd msg .heard .receiver)
