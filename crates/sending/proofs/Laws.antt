@@ -5,9 +5,11 @@
 --   Sendable      a message that a request begins may be in segments
 --   Transmitted   one transmission, starting a message, giving it up
 --   Calls         each call, down its tests
+--   Agree         receivers that differ in the replay list alone
 pub mod Allowed
 pub mod Stamped
 pub mod Shapes
 pub mod Sendable
 pub mod Transmitted
 pub mod Calls
+pub mod Agree

@@ -1,5 +1,6 @@
 -- Acknowledgements sent (document 01, "Transport"): the caller names the network key and the source.
---   chosen replay sessions src     what is acknowledged
+-- The operations of the replay list are a parameter, `by`, so that a receiver with another list is these same definitions.
+--   chosen replay sessions src        what is acknowledged
 --   acknowledging r network src buf   what a call leaves
 use mathlib.Core.Bool.{true, false}
 use mathlib.Core.List.{List}
@@ -18,7 +19,7 @@ use Rattle.transport.specs.Segment.{acknowledgementOctets}
 use Rattle.memory.specs.declared.replay.Entry.{Entry}
 use Rattle.memory.specs.declared.session.Session.{Session}
 use Rattle.memory.specs.Pair.{noPair}
-use Rattle.memory.specs.Replay.{lookUp}
+use Rattle.memory.specs.Replay.{Listing, ascending}
 use Rattle.memory.specs.Session.{sessionSlots, sessionAt, sessionPlace, blockAck}
 use Rattle.node.specs.Addresses.{elementPlaces}
 use Rattle.receiver.specs.declared.answer.Refusal.the-variants as refusal
@@ -35,14 +36,17 @@ abbrev pub noChoice : Chosen
 noChoice = record { auth = noPair; dst = 0; bits = 0 }
 
 -- the source's open session is acknowledged, else its last segmented message handed up
-unfoldable pub chosen : List Entry → List Session → ℕ → Chosen
-chosen replay sessions src =
+unfoldable pub chosenBy : Listing → List Entry → List Session → ℕ → Chosen
+chosenBy by replay sessions src =
     let own = sessionPlace sessions (record { src = src }) in
     let s = sessionAt sessions own in
-    let last = lookUp replay src .last in
+    let last = by .lookUp replay src .last in
     if eqb src 0 then noChoice else
     if ltb own sessionSlots then record { auth = s .auth; dst = s .terms .dst; bits = blockAck s } else
     record { auth = last .auth; dst = last .dst; bits = allBits (last .segn) }
+
+abbrev pub chosen : List Entry → List Session → ℕ → Chosen
+chosen replay sessions src = chosenBy ascending replay sessions src
 
 -- CTL 1, the TTL left unnamed, OBO 0, SeqZero of its SeqAuth; SEQ and SRC are stamped on when it is sent
 unfoldable pub acknowledgementHeader : ℕ → ℕ → ℕ → Chosen → Header
@@ -66,9 +70,9 @@ sayingAcknowledgement r element network src c buf =
     lent (spoken (t .answer)) (t .buffer)
 
 -- 16; 14 if there is neither, its DST is not unicast or no element's, or the key is not there; then it is sent by the DST's element, or 15
-unfoldable pub acknowledging : Receiver → ℕ → ℕ → List ℕ → Lent Spoken
-acknowledging r network src buf =
-    let c = chosen (r .replay) (r .sessions) src in
+unfoldable pub acknowledgingBy : Listing → Receiver → ℕ → ℕ → List ℕ → Lent Spoken
+acknowledgingBy by r network src buf =
+    let c = chosenBy by (r .replay) (r .sessions) src in
     let element = elementOf (r .node) (c .dst) in
     if ltb (length buf) pduOctets then lent (refusedAt r refusal.ShortBuffer) buf else
     if ltb network (min (r .node .networks) networkKeyPlaces) then
@@ -76,3 +80,6 @@ acknowledging r network src buf =
     (if ltb element elementPlaces then sayingAcknowledgement r element network src c buf else lent (refusedAt r refusal.OutsideRules) buf) else
     lent (refusedAt r refusal.OutsideRules) buf) else
     lent (refusedAt r refusal.OutsideRules) buf
+
+abbrev pub acknowledging : Receiver → ℕ → ℕ → List ℕ → Lent Spoken
+acknowledging r network src buf = acknowledgingBy ascending r network src buf

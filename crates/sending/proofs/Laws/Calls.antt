@@ -33,7 +33,7 @@ use Rattle.sending.specs.declared.acknowledge.Chosen.{Chosen}
 use Rattle.sending.specs.declared.answer.Spoken.{Spoken}
 use Rattle.sending.specs.declared.request.Request.{Request}
 use Rattle.sending.specs.Access.{keyed, isWhole, accessAllowed, envelopeOf, wholeHeader, outgoingOf, sayingAccess, sendingAccess}
-use Rattle.sending.specs.Acknowledge.{noChoice, chosen, acknowledgementHeader, sayingAcknowledgement, acknowledging}
+use Rattle.sending.specs.Acknowledge.{noChoice, chosenBy, chosen, acknowledgementHeader, sayingAcknowledgement, acknowledgingBy, acknowledging}
 use Rattle.sending.specs.Answer.{refusedAt}
 use Rattle.sending.specs.Control as control
 use Rattle.sending.specs.Request.{dstOf, additionalFor}
@@ -113,7 +113,7 @@ module _ (r : Receiver) (buf : List ℕ) (P : Lent Spoken → Type 0) (refused :
       → (let c = chosen (r .replay) (r .sessions) src in
       let element = elementOf (r .node) (c .dst) in
       (isUnicast (c .dst) ≡ true → element < elementPlaces → P (saying r element (acknowledgementHeader (sendingIv (r .node)) net src c) buf)) → P (acknowledging r net src buf))
-  unfolding acknowledging sayingAcknowledgement
+  unfolding acknowledgingBy sayingAcknowledgement
   walk-acknowledge net src said =
       let c = chosen (r .replay) (r .sessions) src in
       let element = elementOf (r .node) (c .dst) in
@@ -162,20 +162,20 @@ module _ (r : Receiver) (buf : List ℕ) (wide : pduOctets ≤ length buf) where
   pub acknowledgement-sent :
       (net src : ℕ) (c : Chosen) → chosen (r .replay) (r .sessions) src ≡ c → net < min (r .node .networks) networkKeyPlaces → isUnicast (c .dst) ≡ true
       → elementOf (r .node) (c .dst) < elementPlaces → acknowledging r net src buf ≡ sayingAcknowledgement r (elementOf (r .node) (c .dst)) net src c buf
-  unfolding acknowledging
+  unfolding acknowledgingBy
   acknowledgement-sent net src c e there unicast low =
       rw (e, le-ltb (length buf) pduOctets wide, lt-ltb net (min (r .node .networks) networkKeyPlaces) there, unicast, lt-ltb (elementOf (r .node) (c .dst)) elementPlaces low) refl
 
   -- ---- an acknowledgement is refused 14: the network key is not there, or what is chosen was not sent to a unicast address
   pub acknowledgement-no-key :
       (net src : ℕ) → min (r .node .networks) networkKeyPlaces ≤ net → acknowledging r net src buf ≡ lent (refusedAt r refusal.OutsideRules) buf
-  unfolding acknowledging
+  unfolding acknowledgingBy
   acknowledgement-no-key net src past = rw (le-ltb (length buf) pduOctets wide, le-ltb net (min (r .node .networks) networkKeyPlaces) past) refl
 
   pub acknowledgement-not-unicast :
       (net src : ℕ) (c : Chosen) → chosen (r .replay) (r .sessions) src ≡ c → isUnicast (c .dst) ≡ false
       → acknowledging r net src buf ≡ lent (refusedAt r refusal.OutsideRules) buf
-  unfolding acknowledging
+  unfolding acknowledgingBy
   acknowledgement-not-unicast net src c e other =
       by-test (ltb net (min (r .node .networks) networkKeyPlaces))
       (λ t. rw (e, le-ltb (length buf) pduOctets wide, t, other) refl)
@@ -191,7 +191,7 @@ acknowledgement-said r element net src c buf = refl
 -- ---- what is acknowledged of a source
 -- no source is 0
 pub chosen-zero : (replay : List Entry) (sessions : List Session) → chosen replay sessions 0 ≡ noChoice
-unfolding chosen
+unfolding chosenBy
 chosen-zero replay sessions = refl
 
 module _ (replay : List Entry) (sessions : List Session) (src : ℕ) (z : src ≡ 0 → ⊥) where
@@ -201,11 +201,11 @@ module _ (replay : List Entry) (sessions : List Session) (src : ℕ) (z : src �
   pub chosen-session :
       (s : Session) → own < sessionSlots → sessionAt sessions (own) ≡ s
       → chosen replay sessions src ≡ record { auth = s .auth; dst = s .terms .dst; bits = s .filled }
-  unfolding chosen
+  unfolding chosenBy
   chosen-session s p held = rw (ne-eqb src 0 z, lt-ltb (own) sessionSlots p, held) refl
 
   pub chosen-last :
       (e : Entry) → sessionSlots ≤ own → lookUp replay src ≡ e
       → chosen replay sessions src ≡ record { auth = e .last .auth; dst = e .last .dst; bits = allBits (e .last .segn) }
-  unfolding chosen
+  unfolding chosenBy
   chosen-last e p held = rw (ne-eqb src 0 z, le-ltb (own) sessionSlots p, held) refl
