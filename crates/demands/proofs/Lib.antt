@@ -47,3 +47,4 @@ pub mod OwnSegments
 pub mod CacheHolds
 pub mod ForwardingMet
 pub mod AcknowledgedMet
+pub mod OldList

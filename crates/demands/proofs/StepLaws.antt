@@ -155,12 +155,12 @@ module _ (node : Node) (made : WellMade node) (s : Speech) (w : Speakable node s
             answers = is-up node s bits i msg _ fresh c refl refl refl;
             own =
                 Done (eqb-true filled (allBits (lastOf node s)) c) (freed-none (r .sessions) slot (keyOf s) long (ne-eqb (s .src) 0 spoken) only)
-                (lookUp-handedUp-new (r .replay) (s .src) (s .auth) (lastOf node s) (s .dst) (g .replay-kept .places) room (unheard .newer));
+                (lookUp-handedUp-new (r .replay) (g .replay-kept) (s .src) (s .auth) (lastOf node s) (s .dst) spoken room (unheard .newer));
             others = λ o b n z k.
                 stage-other node o (r .replay) _ (r .sessions) b slot noSession (λ e. z (ap (λ (a : SessionKey). a .src) e)) (other-stood o n z)
-                (lookUp-handedUp-other (r .replay) (s .src) (s .auth) (lastOf node s) (s .dst) (o .src) n z) k;
+                (lookUp-handedUp-other (r .replay) (g .replay-kept) (s .src) (s .auth) (lastOf node s) (s .dst) (o .src) n z) k;
             sessions-owned = slot-owned noSession (λ z. absurd (true≢false z));
-            entries-listed = λ n speaker k h q o. listed-handedUp n speaker (r .replay) o (s .src) (s .auth) (lastOf node s) (s .dst) k h q;
+            entries-listed = λ n speaker k h q o. listed-handedUp n speaker (r .replay) o (g .replay-kept) (s .src) (s .auth) (lastOf node s) (s .dst) k h q;
             cache-stays = refl;
           }
 

@@ -6,11 +6,13 @@
 --   step r c     what call c leaves of receiver r
 --   run r l      what each call of a list leaves
 --   after r l    the receiver behind the last
+-- stepBy, runBy and afterBy are given the operations of a replay list: by another list's they are a receiver with that list.
 use mathlib.Core.Bool.{Bool, true, false}
 use mathlib.Core.List.{List, [], _∷_}
 use Prim.Native.Nat.{ℕ}
 use Rattle.common.specs.Lent.{Lent}
 use Rattle.transport.specs.declared.securing.MessageKey.{MessageKey}
+use Rattle.memory.specs.Replay.{Listing, ascending}
 use Rattle.receiver.specs.declared.answer.Answer as heard-answer
 use Rattle.receiver.specs.declared.give_up.Answer as ended-answer
 use Rattle.receiver.specs.declared.give_up.GivenUp.{GivenUp}
@@ -22,7 +24,7 @@ use Rattle.sending.specs.declared.answer.Answer.the-variants.{Sent, Started, Re
 use Rattle.sending.specs.declared.answer.Spoken.{Spoken}
 use Rattle.sending.specs.declared.request.Request.{Request}
 use Rattle.sending.specs.Access.{sendingAccess}
-use Rattle.sending.specs.Acknowledge.{acknowledging}
+use Rattle.sending.specs.Acknowledge.{acknowledgingBy}
 use Rattle.sending.specs.Control.{sendingControl}
 use Rattle.sending.specs.Segment.{sendingSegment}
 use Rattle.sending.specs.Stop.{stopping}
@@ -131,20 +133,29 @@ leftEnded g =
       tried = record { network = 0; application = 0 };
     }
 
+abbrev pub stepBy : Listing → Receiver → Call → Outcome
+stepBy by r (Hear pdu fwd msg) = leftHeard (hear.hearingBy by r pdu fwd msg)
+stepBy by r (GiveUp src) = leftEnded (givingUp r src)
+stepBy by r (SendAccess q key szmic payload buf) = leftSaid (sendingAccess r q key szmic payload buf)
+stepBy by r (SendControl q opcode parameters buf) = leftSaid (sendingControl r q opcode parameters buf)
+stepBy by r (SendSegment n buf) = leftSaid (sendingSegment r n buf)
+stepBy by r (Acknowledge net src buf) = leftSaid (acknowledgingBy by r net src buf)
+stepBy by r Stop = leftEnded (stopping r)
+
 abbrev pub step : Receiver → Call → Outcome
-step r (Hear pdu fwd msg) = leftHeard (hear.hearing r pdu fwd msg)
-step r (GiveUp src) = leftEnded (givingUp r src)
-step r (SendAccess q key szmic payload buf) = leftSaid (sendingAccess r q key szmic payload buf)
-step r (SendControl q opcode parameters buf) = leftSaid (sendingControl r q opcode parameters buf)
-step r (SendSegment n buf) = leftSaid (sendingSegment r n buf)
-step r (Acknowledge net src buf) = leftSaid (acknowledging r net src buf)
-step r Stop = leftEnded (stopping r)
+step r c = stepBy ascending r c
 
 -- each call finds what the one before it left
+abbrev pub runBy : Listing → Receiver → List Call → List Outcome
+runBy by r [] = []
+runBy by r (c ∷ l) = stepBy by r c ∷ runBy by (stepBy by r c .receiver) l
+
 abbrev pub run : Receiver → List Call → List Outcome
-run r [] = []
-run r (c ∷ l) = step r c ∷ run (step r c .receiver) l
+run r l = runBy ascending r l
+
+abbrev pub afterBy : Listing → Receiver → List Call → Receiver
+afterBy by r [] = r
+afterBy by r (c ∷ l) = afterBy by (stepBy by r c .receiver) l
 
 abbrev pub after : Receiver → List Call → Receiver
-after r [] = r
-after r (c ∷ l) = after (step r c .receiver) l
+after r l = afterBy ascending r l

@@ -17,3 +17,4 @@ pub mod OwnVoice
 pub mod OwnSegments
 pub mod Instance
 pub mod Invariant
+pub mod OldList
