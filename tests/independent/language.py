@@ -166,7 +166,7 @@ def shown(receiver):
     """The lines of `show`."""
     yield " ".join(["seq"] + [f"{seq:06x}" for seq in receiver.seqs])
     yield " ".join(["cache"] + [f"{src:04x}:{seq:06x}:{iv_index:08x}" for src, seq, iv_index in receiver.cache])
-    for entry in receiver.replay:
+    for entry in sorted(receiver.replay, key=lambda entry: entry.src):
         line = f"replay {entry.src:04x} {_pair(entry.pair, 'seq')}"
         if entry.last:
             (iv_index, seq), seg_n, dst = entry.last
