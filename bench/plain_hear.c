@@ -67,6 +67,9 @@ static bool is_for_node(const struct node *n, unsigned dst)
 	for (unsigned i = 0; i < n->listened; i++)
 		if (n->groups[i] == dst)
 			return true;
+	for (unsigned i = 0; i < n->labelled; i++)
+		if (n->labels[i].address == dst)
+			return true;
 	return false;
 }
 
@@ -107,13 +110,13 @@ static struct segmented *session_of(struct receiver *r, unsigned src)
 	return NULL;
 }
 
-// One key tried on an access message. Where it does not open it the message is as before.
-static bool try_key(const uint8_t key[16], const uint8_t nonce[NONCE_SIZE], size_t mic_size, uint8_t *text, size_t n)
+// One key tried on an access message, with a label or, where that is NULL, without. Where it does not open it the message is as before.
+static bool try_key(const uint8_t key[16], const uint8_t nonce[NONCE_SIZE], size_t mic_size, const uint8_t *label, uint8_t *text, size_t n)
 {
 	uint8_t ks[11][16];
 
 	expand(key, ks);
-	if (ccm_open(ks, nonce, mic_size, text, n))
+	if (ccm_open(ks, nonce, mic_size, label, text, n))
 		return true;
 	ccm_stream(ks, nonce, text, n);
 	return false;
@@ -141,6 +144,30 @@ struct whole {
 	bool ctl, szmic;
 };
 
+// Its highest two bits are 1 and 0.
+static bool is_virtual(unsigned address)
+{
+	return address >> 14 == 2;
+}
+
+// One application key tried: alone or, where DST is virtual, with each label of that address.
+static bool try_pairs(const struct node *n, const uint8_t key[16], const uint8_t nonce[NONCE_SIZE], size_t mic_size, const struct whole *w,
+		      struct answer *a)
+{
+	if (!is_virtual(a->dst)) {
+		a->application_trials++;
+		return try_key(key, nonce, mic_size, NULL, w->octets, a->len);
+	}
+	for (a->label = 0; a->label < n->labelled; a->label++) {
+		if (n->labels[a->label].address != a->dst)
+			continue;
+		a->application_trials++;
+		if (try_key(key, nonce, mic_size, n->labels[a->label].octets, w->octets, a->len))
+			return true;
+	}
+	return false;
+}
+
 // Opens an access message in place by the keys that fit; the answer has its SRC, DST, pair and network key already.
 static bool open_access(const struct node *n, const struct whole *w, struct answer *a)
 {
@@ -154,15 +181,13 @@ static bool open_access(const struct node *n, const struct whole *w, struct answ
 	a->len = (uint16_t)(w->size - mic_size);
 	message_nonce(nonce, akf, w->szmic, a);
 	a->key = DEVICE_KEY;
+	a->label = NO_LABEL;
 	if (!akf)
-		return try_key(n->device_key, nonce, mic_size, w->octets, a->len);
-	for (a->key = 0; a->key < n->applications; a->key++) {
-		if (keys[a->key].aid != (w->first & 0x3f) || keys[a->key].bound != a->network)
-			continue;
-		a->application_trials++;
-		if (try_key(keys[a->key].key, nonce, mic_size, w->octets, a->len))
+		return try_key(n->device_key, nonce, mic_size, NULL, w->octets, a->len);
+	for (a->key = 0; a->key < n->applications; a->key++)
+		if (keys[a->key].aid == (w->first & 0x3f) && keys[a->key].bound == a->network &&
+		    try_pairs(n, keys[a->key].key, nonce, mic_size, w, a))
 			return true;
-	}
 	return false;
 }
 

@@ -6,7 +6,7 @@
 #include <stddef.h>
 #include <stdint.h>
 
-enum { KEYS = 4, ELEMENTS = 8, GROUPS = 8, CACHED = 16, ENTRIES = 32, SLOTS = 8, MESSAGE_SIZE = 384 };
+enum { KEYS = 4, LABELS = 4, ELEMENTS = 8, GROUPS = 8, CACHED = 16, ENTRIES = 32, SLOTS = 8, MESSAGE_SIZE = 384 };
 
 // An IV Index and a sequence number.
 struct pair {
@@ -18,18 +18,24 @@ struct application_key {
 	uint8_t bound; // the place of its network key
 };
 
+struct label {
+	uint8_t octets[16];
+	uint16_t address;
+};
+
 // What setup fixes, and each element's next SEQ.
 struct node {
 	uint32_t iv;
 	uint32_t next[ELEMENTS];
 	uint16_t first; // the first element's address
 	uint16_t groups[GROUPS];
-	uint8_t networks, applications, elements, listened; // how many there are
+	uint8_t networks, applications, elements, listened, labelled; // how many there are
 	bool flag, relay;
 	uint8_t network_keys[KEYS][16];
 	uint8_t credentials[KEYS][33]; // of each network key NID, encryption key and privacy key
 	struct application_key application_keys[KEYS];
 	uint8_t device_key[16];
+	struct label labels[LABELS];
 };
 
 // A PDU that was heard; SRC 0 marks an empty place, here and below.
@@ -69,15 +75,17 @@ struct receiver {
 
 enum kind { REFUSED, STORED, REPEATED, ACCESS, CONTROL, ACKNOWLEDGEMENT };
 enum effect { NOTHING, MARKED, COMPLETED, CANCELLED };
-enum { DEVICE_KEY = 0xff };
+enum { DEVICE_KEY = 0xff, NO_LABEL = 0xff };
 
 // What became of a PDU. A field that its kind has no use for means nothing.
 struct answer {
 	uint8_t kind, refusal;
-	uint8_t network_trials, application_trials; // how many keys were tried
+	uint8_t network_trials; // how many network keys were tried
+	uint8_t application_trials; // how many application keys, or pairs of one and a label
 	uint8_t forwarded; // octets of the forward buffer that were written
 	uint8_t network; // the place of the network key
 	uint8_t key; // the place of the application key, or DEVICE_KEY
+	uint8_t label; // the place of the label, or NO_LABEL
 	uint8_t opcode, effect;
 	uint16_t src, dst;
 	uint16_t len; // octets of the message buffer that were written
@@ -85,7 +93,7 @@ struct answer {
 	uint32_t bits;
 };
 
-// Makes a receiver of a node whose numbers, addresses and keys are within the rules: fills in what is derived from the keys, and empties the rest.
+// Makes a receiver of a node whose numbers, addresses and keys are within the rules: fills in what is derived from keys and labels, and empties the rest.
 void plain_setup(struct receiver *r);
 
 // Hears a PDU. Where it is refused the message buffer stays as it was, and where nothing is forwarded the forward buffer.

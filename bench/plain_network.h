@@ -35,13 +35,22 @@ static void ccm_stream(const uint8_t ks[11][16], const uint8_t nonce[NONCE_SIZE]
 	}
 }
 
-// A block whose first octets are the MIC of n octets in clear.
-static void ccm_mac(const uint8_t ks[11][16], const uint8_t nonce[NONCE_SIZE], size_t mic_size, const uint8_t *clear, size_t n, uint8_t mac[16])
+// A block whose first octets are the MIC of n octets in clear; the additional data is a label of 16 octets or, where that is NULL, none.
+static void ccm_mac(const uint8_t ks[11][16], const uint8_t nonce[NONCE_SIZE], size_t mic_size, const uint8_t *label, const uint8_t *clear, size_t n,
+		    uint8_t mac[16])
 {
 	uint8_t s[16];
 
-	ccm_block(mac, (uint8_t)((mic_size - 2) / 2 * 8 + 1), nonce, n);
+	ccm_block(mac, (uint8_t)((label ? 64 : 0) + (mic_size - 2) / 2 * 8 + 1), nonce, n);
 	encrypt(ks, mac);
+	if (label) {
+		// its length in two octets and 14 of its own, then the other two
+		mac[1] ^= 16;
+		xor_octets(mac + 2, label, 14);
+		encrypt(ks, mac);
+		xor_octets(mac, label + 14, 2);
+		encrypt(ks, mac);
+	}
 	for (size_t at = 0; at < n; at += 16) {
 		xor_octets(mac, clear + at, n - at < 16 ? n - at : 16);
 		encrypt(ks, mac);
@@ -51,13 +60,13 @@ static void ccm_mac(const uint8_t ks[11][16], const uint8_t nonce[NONCE_SIZE], s
 	xor_octets(mac, s, 16);
 }
 
-// Decrypts n octets in place, and says whether the MIC behind them is right.
-static bool ccm_open(const uint8_t ks[11][16], const uint8_t nonce[NONCE_SIZE], size_t mic_size, uint8_t *text, size_t n)
+// Decrypts n octets in place, and says whether the MIC behind them is right with the label, or NULL, as additional data.
+static bool ccm_open(const uint8_t ks[11][16], const uint8_t nonce[NONCE_SIZE], size_t mic_size, const uint8_t *label, uint8_t *text, size_t n)
 {
 	uint8_t mac[16], wrong = 0;
 
 	ccm_stream(ks, nonce, text, n);
-	ccm_mac(ks, nonce, mic_size, text, n, mac);
+	ccm_mac(ks, nonce, mic_size, label, text, n, mac);
 	for (size_t i = 0; i < mic_size; i++)
 		wrong |= mac[i] ^ text[n + i];
 	return !wrong;
@@ -68,7 +77,7 @@ static void ccm_seal(const uint8_t ks[11][16], const uint8_t nonce[NONCE_SIZE], 
 {
 	uint8_t mac[16];
 
-	ccm_mac(ks, nonce, mic_size, text, n, mac);
+	ccm_mac(ks, nonce, mic_size, NULL, text, n, mac);
 	ccm_stream(ks, nonce, text, n);
 	memcpy(text + n, mac, mic_size);
 }
@@ -107,7 +116,7 @@ static size_t try_credential(const uint8_t credential[CREDENTIAL_SIZE], uint32_t
 	if (mic_size == 8 && size < 18)
 		return 0;
 	expand(credential + 1, ks);
-	return ccm_open(ks, nonce, mic_size, clear + 7, size - 7 - mic_size) ? size - mic_size : 0;
+	return ccm_open(ks, nonce, mic_size, NULL, clear + 7, size - 7 - mic_size) ? size - mic_size : 0;
 }
 
 // The IV Index now, or the one before it, whichever has IVI as its lowest bit.

@@ -20,6 +20,7 @@ sys.path.insert(0, str(ROOT / "tests" / "independent"))
 
 import language
 import model
+import network
 import program
 import script
 
@@ -27,15 +28,16 @@ CONSOLE = [str(ROOT / "bin" / "program"), "console"]
 LOGS = ("crates/console/stdin", "class/*.log", "tests/answers/*.log", "tests/console/*.in")
 FIXED = range(1, 25)
 CHANGING = (b"hear", b"setup", b"access", b"control", b"stop", b"drop")
-ROOM, DEVICE_KEY = 384, 0xFF
+ROOM, DEVICE_KEY, NO_LABEL = 384, 0xFF, 0xFF
 # The words for the numbers of plain_hear.h.
 WORDS = ("refused", "stored", "repeat", "access", "control", "acknowledgement")
 EFFECTS = ("nothing", "marked", "complete", "cancelled")
 # Every kind of answer to `hear`: refusals that leave everything, and what can come with and without forwarding; an access message under the
-# device key and an acknowledgement that fits are for an element, so they are never forwarded.
+# device key and an acknowledgement that fits are for an element, so they are never forwarded. At a label is what comes to the address of one.
 KINDS = {f"refused {number}" for number in (16, 1, 2, 3, 4, 22, 5)} | {"access by the device key"} | {f"acknowledgement {effect}" for effect in EFFECTS}
-KINDS |= {kind + behind for kind in (*(f"refused {number}" for number in range(6, 14)), "stored", "repeat", "access by an application key", "control",
-                                     "acknowledgement nothing") for behind in ("", ", forwarded")}
+KINDS |= {kind + behind for kind in (*(f"refused {number}" for number in range(6, 14)), "refused 13 at a label", "stored", "repeat",
+                                     "access by an application key", "access by an application key and a label", "control", "acknowledgement nothing")
+          for behind in ("", ", forwarded")}
 
 U8, U16, U32 = ctypes.c_uint8, ctypes.c_uint16, ctypes.c_uint32
 
@@ -47,14 +49,16 @@ def structure(**fields):
 
 Pair = structure(iv=U32, seq=U32)
 ApplicationKey = structure(key=U8 * 16, aid=U8, bound=U8)
-Node = structure(iv=U32, next=U32 * 8, first=U16, groups=U16 * 8, networks=U8, applications=U8, elements=U8, listened=U8, flag=U8, relay=U8,
-                 network_keys=U8 * 16 * 4, credentials=U8 * 33 * 4, application_keys=ApplicationKey * 4, device_key=U8 * 16)
+Label = structure(octets=U8 * 16, address=U16)
+Node = structure(iv=U32, next=U32 * 8, first=U16, groups=U16 * 8, networks=U8, applications=U8, elements=U8, listened=U8, labelled=U8, flag=U8,
+                 relay=U8, network_keys=U8 * 16 * 4, credentials=U8 * 33 * 4, application_keys=ApplicationKey * 4, device_key=U8 * 16,
+                 labels=Label * 4)
 Seen = structure(pair=Pair, src=U16)
 Entry = structure(pair=Pair, last=Pair, src=U16, dst=U16, segn=U8)
 Segmented = structure(auth=Pair, filled=U32, src=U16, dst=U16, len=U16, first=U8, segn=U8, key=U8, ctl=U8, szmic=U8, ttl=U8, bytes=U8 * 384)
 Receiver = structure(node=Node, cache=Seen * 16, oldest=U32, replay=Entry * 32, sessions=Segmented * 8, sending=Segmented)
-Answer = structure(kind=U8, refusal=U8, network_trials=U8, application_trials=U8, forwarded=U8, network=U8, key=U8, opcode=U8, effect=U8, src=U16,
-                   dst=U16, len=U16, pair=Pair, bits=U32)
+Answer = structure(kind=U8, refusal=U8, network_trials=U8, application_trials=U8, forwarded=U8, network=U8, key=U8, label=U8, opcode=U8, effect=U8,
+                   src=U16, dst=U16, len=U16, pair=Pair, bits=U32)
 
 
 def pair_of(pair):
@@ -68,7 +72,7 @@ class Differs(Exception):
 def node_of(given):
     """What a setup gives, but for what plain_setup derives."""
     node = Node(iv=given.iv_index, first=given.first, networks=len(given.net_keys), applications=len(given.app_keys), elements=len(given.seqs),
-                listened=len(given.groups), flag=given.flag, relay=given.relay)
+                listened=len(given.groups), labelled=len(given.labels), flag=given.flag, relay=given.relay)
     node.next[:len(given.seqs)] = given.seqs
     node.groups[:len(given.groups)] = given.groups
     for at, key in enumerate(given.net_keys):
@@ -77,22 +81,27 @@ def node_of(given):
         node.application_keys[at].key[:] = key
         node.application_keys[at].bound = bound
     node.device_key[:] = given.device_key
+    for at, label in enumerate(given.labels):
+        node.labels[at].octets[:] = label
     return node
 
 
 def said(answer, message):
     """The answer as one of the model's, and the words for its kind."""
-    pair, key, effect = pair_of(answer.pair), None if answer.key == DEVICE_KEY else answer.key, EFFECTS[answer.effect]
+    pair, effect = pair_of(answer.pair), EFFECTS[answer.effect]
     match WORDS[answer.kind]:
         case "refused":
-            return model.Refused(answer.refusal, ""), f"refused {answer.refusal}"
+            # of 13 the plain C has DST
+            at_label = answer.refusal == 13 and network.kind(answer.dst) == "virtual"
+            return model.Refused(answer.refusal, ""), f"refused {answer.refusal}" + (" at a label" if at_label else "")
         case "stored":
             return model.Stored(answer.src, pair, answer.bits), "stored"
         case "repeat":
             return model.Repeat(answer.src, pair, answer.bits), "repeat"
         case "access":
-            return (model.Access(answer.src, answer.dst, answer.network, key, pair, message),
-                    "access by the device key" if key is None else "access by an application key")
+            key, label = None if answer.key == DEVICE_KEY else answer.key, None if answer.label == NO_LABEL else answer.label
+            kind = "access by the device key" if key is None else "access by an application key" + ("" if label is None else " and a label")
+            return model.Access(answer.src, answer.dst, answer.network, key, label, pair, message), kind
         case "control":
             return model.Control(answer.src, answer.dst, answer.network, answer.opcode, pair, message), "control"
         case "acknowledgement":
