@@ -1,5 +1,6 @@
 """Checks what is said to who types at the console: see tests/keyboard/run."""
 import argparse
+import signal
 import sys
 from pathlib import Path
 
@@ -14,6 +15,7 @@ from program import asked  # noqa: E402
 
 
 def main():
+    signal.signal(signal.SIGINT, signal.default_int_handler)  # a shell that starts this behind other work has Ctrl-C ignored by all that is started
     _, words = asked(argparse.ArgumentParser(description=__doc__))
     wrong, counts = [], []
     for check in (explaining.logs, explaining.sessions, typing_in.passes, typing_in.help_fits, building.builds, earlier.early):
