@@ -1,4 +1,6 @@
 // The console's lines, read: what a line says, and what is kept of it beside the receiver.
+#![tactic(auto)]
+
 mod command;
 pub mod desk;
 pub mod line;

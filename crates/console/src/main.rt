@@ -2,6 +2,8 @@
 //
 // The crate `commands` has the form of each line over the function that reads it, the crate `answers` that of each answer. A line that fits no form
 // is answered `unread` and changes nothing.
+#![tactic(auto)]
+
 mod bench;
 mod input;
 mod lent;

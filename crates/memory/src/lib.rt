@@ -1,4 +1,6 @@
 // What the receiver remembers of what it heard and sent: the message cache, the replay list, the sessions, the outgoing message.
+#![tactic(auto)]
+
 pub mod cache;
 pub mod decision;
 pub mod outgoing;

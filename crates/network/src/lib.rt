@@ -1,4 +1,6 @@
 // The Network PDU (MP 3.4): address kinds, the IV Index, the nonces, sealing one PDU, trying keys on one, opening it, forwarding it.
+#![tactic(auto)]
+
 pub mod address;
 pub mod header;
 pub mod iv_index;

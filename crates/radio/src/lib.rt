@@ -1,5 +1,7 @@
 // The C radio firmware's functions: the credential of a network key, opening and sealing one Network PDU, on plain numbers and byte
 // buffers. None keeps state.
+#![tactic(auto)]
+
 mod clear_pdu;
 mod credential;
 

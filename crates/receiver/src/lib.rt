@@ -1,4 +1,6 @@
 // The receiver: set up with keys and addresses, it hears Network PDUs one by one, forwards them and hands up their messages.
+#![tactic(auto)]
+
 pub mod answer;
 pub mod fresh;
 pub mod give_up;

@@ -3,6 +3,8 @@
 // A line that begins with # is written out as it is. A request is a word and its fields, with one space between them. Octets are
 // hex pairs, at most 384 in a message or in additional data, and - stands for none. A line that is no request, or not of its form,
 // is answered `unread`. The form of each request stands over its function, in ciphers.rt, derivation.rt and pdu.rt.
+#![tactic(auto)]
+
 mod ciphers;
 mod derivation;
 mod part;

@@ -1,4 +1,6 @@
 // What bench/ times: blocks of AES-128, CMAC and CCM opening, and hearing, on plain numbers and byte buffers. Each call expands its key once.
+#![tactic(auto)]
+
 pub mod hearing;
 
 ghost use Rattle.std.specs.Prelude.{◌≡◌, length};

@@ -1,6 +1,8 @@
 // Sends MP's sample messages (MP 8.3) from their payloads through the sending operations, and writes each Network PDU with its SEQ.
 //
 // A line that begins with # names the message. Friends and low power nodes, whose credentials we have not, are left out.
+#![tactic(auto)]
+
 mod exchange;
 
 use receiver::state::Receiver;

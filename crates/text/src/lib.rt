@@ -1,4 +1,6 @@
 // Text as programs read and write it: a line's fields, octets as hex pairs, numbers, a refusal's number in words, and text put behind text in a lent buffer.
+#![tactic(auto)]
+
 pub mod field;
 pub mod hex;
 pub mod number;

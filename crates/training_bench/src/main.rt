@@ -1,6 +1,8 @@
 // The training bench: a box sends one long message to the receiver, segment by segment, and the receiver's answers and the message are shown.
 //
 // A line of output is a PDU that was sent, with its SEQ, or what the node that hears it answers.
+#![tactic(auto)]
+
 use receiver::state::Receiver;
 use sending::answer::{Answer, Spoken};
 use sending::request::{Destination, Request, Ttl};

@@ -2,6 +2,8 @@
 //
 // Each digit of standard input asks, while the wind blows with that force (Beaufort); every other octet asks nothing. A line of output is
 // what the box sent: its SEQ and the Network PDU.
+#![tactic(auto)]
+
 use receiver::state::Receiver;
 use sending::request::{Destination, Request, Ttl};
 use transport::securing::MessageKey;
