@@ -6,9 +6,8 @@ use Prim.Native.Nat.{ℕ}
 use borrow.Author.Rules.{rules}
 use lib.ListN.{get_or}
 use Rattle.aes.specs.Sbox.{sbox}
-use Rattle.aes.proofs.sbox.looked_up.Statement.{statement}
-use Rattle.aes.proofs.sbox.looked_up.Tie as tie
+use Rattle.aes.proofs.sbox.looked_up.Goals as goal
 
-pub looked-up-spec : {M : Type 1} → statement M
+pub returns : goal.returns
 unfolding sbox
-looked-up-spec = tie.close (tie.spec (λ c. search rules) (λ c. ap (λ (l : List ℕ). get_or l c.before.args.x 0) c.before.requires))
+returns c = ap (λ (l : List ℕ). get_or l c.args.x 0) c.requires

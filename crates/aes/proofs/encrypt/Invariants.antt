@@ -1,0 +1,14 @@
+-- `aes::encrypt` meets its contract: after i turns the state is that after i rounds, of which the tenth is the last.
+-- Assumes nothing.
+use mathlib.Core.Path.{◌≡◌}
+use Prim.Native.Nat.{◌≤◌, ◌-◌}
+use native.Mathlib.Omega.{arith}
+use borrow.Author.Rules.{rules}
+use Rattle.aes.proofs.Rounds.{turned, turned_none, turned_more, turned_all}
+use Rattle.aes.proofs.encrypt.Given as goal
+
+abbrev pub invariant-loop-i : goal.invariant-loop-i
+invariant-loop-i l = (l.i ≤ 10) × (l.s ≡ turned l.ks l.initial.s l.i)
+
+abbrev pub decreases-loop-i : goal.decreases-loop-i
+decreases-loop-i l = 10 - l.i
