@@ -22,7 +22,7 @@ use transport::vetting;
 use transport::vetting::Vetted;
 
 // How many network keys and application keys were tried.
-#[derive(Drop)]
+#[derive(Clone, Copy)]
 pub struct Trials {
     pub network: usize,
     pub application: usize,

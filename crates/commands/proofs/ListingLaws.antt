@@ -170,7 +170,8 @@ module _
       let most : n ≤ 0xFF = pdu_at_most text octets a r n k in
       let many : length pdu ≡ n = ap length s ∙ length-take-le n octets (omega arith) in
       let both : lent r2 o2 ≡ putting (n ∷ pdu) out to = put_then (n ∷ []) pdu out to r1 r2 o1 o2 p1 p2 in
-      rw (field_left line at end h space e text t, ← r, k, ← s, many, ← both)
+      let put : putting (length (take n octets) ∷ take n octets) out to ≡ lent r2 o2 = cc in
+      rw (field_left line at end h space e text t, ← r, k) (ap (λ (p : Lent ℕ). list_from p (drop 1 (fields (drop end line)))) put)
 
   pub list_wrong : a ≡ NotHex → lent NotHex out ≡ list_from (lent to out) (drop 1 (fields (drop at line)))
   unfolding list_from

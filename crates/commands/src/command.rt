@@ -5,7 +5,7 @@ ghost use Rattle.commands.specs.Command.{apart, giving_key, setting_up, speaking
 use super::setting::Item;
 use text::field;
 
-#[derive(Drop)]
+#[derive(Clone, Copy)]
 pub(crate) enum Command {
     // One of the lines that lead to `setup`.
     Give(Item),
@@ -25,7 +25,7 @@ pub(crate) enum Command {
 }
 
 // What is asked where there is a receiver.
-#[derive(Drop)]
+#[derive(Clone, Copy)]
 pub(crate) enum Order {
     Hear,
     Access,

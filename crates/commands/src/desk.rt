@@ -11,13 +11,13 @@ use sensor::properties;
 use sensor::properties::{Answer, Kind, Properties};
 
 // The lengths of the buffers lent for a PDU and for a message.
-#[derive(Drop)]
+#[derive(Clone, Copy)]
 pub struct Room {
     pub forward: usize,
     pub message: usize,
 }
 
-#[derive(Drop)]
+#[derive(Clone, Copy)]
 pub struct Desk {
     // Whether a `setup` was ready: before, there is no receiver.
     pub ready: bool,
@@ -28,7 +28,7 @@ pub struct Desk {
 }
 
 // What a line is answered that needs no receiver.
-#[derive(Drop)]
+#[derive(Clone, Copy)]
 pub enum Reply {
     Ok,
     Unread,
@@ -39,7 +39,7 @@ pub enum Reply {
 }
 
 // What a line leaves.
-#[derive(Drop)]
+#[derive(Clone, Copy)]
 pub struct Noted {
     pub desk: Desk,
     pub reply: Reply,

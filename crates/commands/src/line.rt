@@ -16,7 +16,7 @@ use text::number::{Bit, Number, Octet, Short};
 use text::{field, hex, number};
 use transport::securing::MessageKey;
 
-#[derive(Drop)]
+#[derive(Clone, Copy)]
 pub enum Line {
     // No octets, or a line that begins with #: nothing is answered.
     Skipped,
@@ -42,7 +42,7 @@ pub enum Line {
 }
 
 // What is sent.
-#[derive(Drop)]
+#[derive(Clone, Copy)]
 pub enum Sending {
     // An access message of so many octets.
     Access {
@@ -67,7 +67,7 @@ pub enum Sending {
 }
 
 // What is given up.
-#[derive(Drop)]
+#[derive(Clone, Copy)]
 pub enum GivingUp {
     // The outgoing message.
     Message,

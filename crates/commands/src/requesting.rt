@@ -8,7 +8,7 @@ use text::{field, number};
 use transport::securing::MessageKey;
 
 // A TTL field: - is one left unnamed.
-#[derive(Drop)]
+#[derive(Clone, Copy)]
 enum TtlField {
     Fits(Ttl),
     Unfit,
@@ -27,7 +27,7 @@ fn ttl_of(text: &[u8]) -> TtlField
 }
 
 // A field that names a destination: an address, or `label:` with a label's number behind it.
-#[derive(Drop)]
+#[derive(Clone, Copy)]
 enum DestinationField {
     Fits(Destination),
     Unfit,
@@ -49,7 +49,7 @@ fn destination_of(dst: &[u8]) -> DestinationField
 }
 
 // Fields 1 to 4 of a line, `E DST TTL K`.
-#[derive(Drop)]
+#[derive(Clone, Copy)]
 pub(crate) enum Asked {
     For(Request),
     Unfit,
@@ -79,7 +79,7 @@ pub(crate) fn request_of(line: &[u8]) -> Asked
 }
 
 // A field that names the key of an access message: an application key's number, or `dev`.
-#[derive(Drop)]
+#[derive(Clone, Copy)]
 pub(crate) enum KeyField {
     Fits(MessageKey),
     Unfit,
@@ -98,7 +98,7 @@ pub(crate) fn key_of(text: &[u8]) -> KeyField
 }
 
 // A field that says how many octets the MIC has.
-#[derive(Drop)]
+#[derive(Clone, Copy)]
 pub(crate) enum MicField {
     // Whether it has 8, and not 4.
     Fits(bool),

@@ -12,7 +12,7 @@ use text::number::{Bit, Number, Octet, Short};
 use text::{field, hex, number};
 
 // What a line gives.
-#[derive(Drop)]
+#[derive(Clone, Copy)]
 pub enum Item {
     NetKey,
     AppKey,
@@ -25,7 +25,7 @@ pub enum Item {
 }
 
 // The setup with what a line gives; where its fields do not fit, the setup is what it was.
-#[derive(Drop)]
+#[derive(Clone, Copy)]
 pub(crate) struct Given {
     pub fits: bool,
     pub setup: Setup,
@@ -109,7 +109,7 @@ fn label(s: Setup, line: &[u8]) -> Given
 }
 
 // Each element's next SEQ, as far as there are places, and how many were said.
-#[derive(Drop)]
+#[derive(Clone, Copy)]
 struct Sequences {
     fits: bool,
     count: usize,

@@ -13,7 +13,7 @@ const ROOM: usize = 8192;
 
 // What a block leaves. `gathered` is how many octets of a line have come; of a line that is too long 4,096 are kept. `written` is how far the
 // answers went that were written last.
-#[derive(Drop)]
+#[derive(Clone, Copy)]
 pub(crate) struct Left {
     pub desk: Desk,
     pub receiver: Receiver,
@@ -33,7 +33,7 @@ fn flushed(out: &[u8], at: usize) -> usize
 }
 
 // How far a block is read, how many octets of a line are gathered then, and whether it is whole.
-#[derive(Drop)]
+#[derive(Clone, Copy)]
 struct Piece {
     at: usize,
     gathered: usize,

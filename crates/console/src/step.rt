@@ -13,7 +13,7 @@ use receiver::fresh::Answer as SettingUp;
 use receiver::state::Receiver;
 
 // What the console carries from line to line.
-#[derive(Drop)]
+#[derive(Clone, Copy)]
 pub(crate) struct Console {
     pub desk: Desk,
     pub receiver: Receiver,

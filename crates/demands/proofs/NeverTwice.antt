@@ -208,8 +208,9 @@ rise r [] g = tt {0}
 rise r (c ∷ l) g =
     let q = (step r c).receiver in
     let rest = rise q l (good_step r c g) in
+    let u : Use = record { element = speaker r c; iv = index_sent r c; seq = next_seq r (speaker r c) } in
     by_choice (λ (us : List Use). Rising (us ++ uses q l)) (step r c).made
-    (λ m. (above_from _ q (takes_next r c g m) (uses q l) (from_uses q l), rest))
+    (λ m. (above_from u q (takes_next r c g m) (uses q l) (from_uses q l), rest))
     (λ _. rest)
 
 -- ---- so none is used twice

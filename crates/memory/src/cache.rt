@@ -9,7 +9,7 @@ use network::header::Header;
 pub const ENTRIES: usize = 16;
 
 // A cache entry; SRC 0 marks an empty place.
-#[derive(Drop)]
+#[derive(Clone, Copy)]
 pub struct Seen {
     pub src: u16,
     pub seq: u32,
@@ -17,7 +17,7 @@ pub struct Seen {
     pub iv: u32,
 }
 
-#[derive(Drop)]
+#[derive(Clone, Copy)]
 pub struct Cache {
     pub entries: [Seen; ENTRIES],
     // The place that is filled next: an empty one, or that of the oldest entry. Of a number past the last its remainder counts.

@@ -6,7 +6,7 @@ use super::pair::Pair;
 use super::replay::{ENTRIES, Entry};
 use super::session::{SLOTS, Segment, Session};
 
-#[derive(Drop)]
+#[derive(Clone, Copy)]
 pub enum Decision {
     // It has come before; the bits report the places filled.
     Repeat(u32),

@@ -7,7 +7,7 @@ use super::session::{MESSAGE, Terms};
 use network::header::Header;
 
 // SRC 0 marks that none is kept.
-#[derive(Drop)]
+#[derive(Clone, Copy)]
 pub struct Outgoing {
     // The sending element's address.
     pub src: u16,
@@ -23,7 +23,7 @@ pub struct Outgoing {
 }
 
 // What a heard acknowledgement does.
-#[derive(Drop)]
+#[derive(Clone, Copy)]
 pub enum Effect {
     // It fits nothing, or marks nothing new.
     Nothing,
@@ -35,7 +35,7 @@ pub enum Effect {
     Cancelled,
 }
 
-#[derive(Drop)]
+#[derive(Clone, Copy)]
 pub struct Acknowledged {
     pub effect: Effect,
     pub out: Outgoing,

@@ -3,7 +3,7 @@ ghost use Rattle.std.specs.Prelude.{◌≡◌};
 ghost use Rattle.memory.specs.Pair.{newer, same_pair, greater};
 
 // An IV Index and a sequence number: those of a whole message, or the SeqAuth of a segmented one.
-#[derive(Drop)]
+#[derive(Clone, Copy)]
 pub struct Pair {
     pub iv: u32,
     pub seq: u32,

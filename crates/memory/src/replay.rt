@@ -10,7 +10,7 @@ use super::pair::Pair;
 pub const ENTRIES: usize = 32;
 
 // The last segmented message of a source that was handed up; DST 0 marks that there is none.
-#[derive(Drop)]
+#[derive(Clone, Copy)]
 pub struct Last {
     pub auth: Pair,
     pub segn: u8,
@@ -18,7 +18,7 @@ pub struct Last {
 }
 
 // A replay entry; SRC 0 marks an empty place.
-#[derive(Drop)]
+#[derive(Clone, Copy)]
 pub struct Entry {
     pub src: u16,
     pub pair: Pair,
@@ -52,7 +52,7 @@ fn is_before(e: Entry, src: u16) -> bool
 }
 
 // A place, and what stands there; nothing stands behind the last.
-#[derive(Drop)]
+#[derive(Clone, Copy)]
 struct Place {
     at: usize,
     held: Entry,

@@ -13,7 +13,7 @@ pub const SLOTS: usize = 8;
 pub const MESSAGE: usize = transport::securing::MESSAGE;
 
 // What all segments of a message share: a segment that joins a session may differ in none of it.
-#[derive(Drop)]
+#[derive(Clone, Copy)]
 pub struct Terms {
     pub ctl: bool,
     // Octet 0 of the transport PDU: SEG, then AKF and AID, or the opcode.
@@ -26,7 +26,7 @@ pub struct Terms {
 }
 
 // One segment, as its header and transport form tell it.
-#[derive(Drop)]
+#[derive(Clone, Copy)]
 pub struct Segment {
     // SeqAuth.
     pub auth: Pair,
@@ -35,13 +35,13 @@ pub struct Segment {
 }
 
 // What a session is found by.
-#[derive(Drop)]
+#[derive(Clone, Copy)]
 pub struct SessionKey {
     pub src: u16,
 }
 
 // SRC 0 marks a free slot.
-#[derive(Drop)]
+#[derive(Clone, Copy)]
 pub struct Session {
     pub src: u16,
     pub auth: Pair,

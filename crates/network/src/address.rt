@@ -3,7 +3,7 @@ ghost use Rattle.std.specs.Prelude.{◌≡◌};
 ghost use Rattle.network.specs.Address.{kind_of, unicast_kind, is_unicast, is_reserved, destination_kind, addresses_allowed};
 
 // What an address names.
-#[derive(Drop)]
+#[derive(Clone, Copy)]
 pub enum AddressKind {
     // No element.
     Unassigned,

@@ -5,7 +5,7 @@ ghost use Rattle.network.specs.Header.{no_header};
 // The most octets that a PDU has.
 pub const PDU: usize = 29;
 
-#[derive(Drop)]
+#[derive(Clone, Copy)]
 pub struct Header {
     // The place of the network key that opened it.
     pub key: usize,

@@ -3,7 +3,7 @@ ghost use Rattle.std.specs.Prelude.{◌≡◌};
 ghost use Rattle.network.specs.IvIndex.{iv_index_heard, iv_index_sent};
 
 // What a heard PDU's IVI picks.
-#[derive(Drop)]
+#[derive(Clone, Copy)]
 pub enum IvIndex {
     // The IV Index that the PDU was sealed with.
     Index(u32),

@@ -10,7 +10,7 @@ use keys::NetworkKeys;
 // How many network keys can be held.
 pub const KEYS: usize = 4;
 
-#[derive(Drop)]
+#[derive(Clone, Copy)]
 pub enum Answer {
     // The PDU is opened, and its header stands beside.
     Opened,
@@ -24,7 +24,7 @@ pub enum Answer {
     WrongAddress,
 }
 
-#[derive(Drop)]
+#[derive(Clone, Copy)]
 pub struct Opening {
     pub answer: Answer,
     // How many keys were tried: the opening key's place among the candidates, from 1, or their number where none opens it.

@@ -11,7 +11,7 @@ ghost use Rattle.network.specs.Sealing.{paper, most_transport, sealable, sealing
 use super::header::Header;
 use keys::NetworkKeys;
 
-#[derive(Drop)]
+#[derive(Clone, Copy)]
 pub enum Answer {
     // The PDU stands in the first octets of the buffer, as many as named.
     Sealed(usize),

@@ -11,14 +11,14 @@ use super::header::Header;
 use keys::NetworkKeys;
 
 // What one key makes of a PDU: its header, or zeros where it does not authenticate.
-#[derive(Drop)]
+#[derive(Clone, Copy)]
 pub struct Trial {
     pub ok: bool,
     pub header: Header,
 }
 
 // What the candidates make of a PDU: the header under the first that authenticates, and the number of trials.
-#[derive(Drop)]
+#[derive(Clone, Copy)]
 pub struct Found {
     pub ok: bool,
     pub trials: usize,

@@ -11,19 +11,19 @@ pub const ELEMENTS: usize = 8;
 pub const GROUPS: usize = 8;
 
 // Sixteen octets of a key.
-#[derive(Drop)]
+#[derive(Clone, Copy)]
 pub struct Key {
     pub octets: [u8; 16],
 }
 
 // Sixteen octets of a label.
-#[derive(Drop)]
+#[derive(Clone, Copy)]
 pub struct Label {
     pub octets: [u8; 16],
 }
 
 // Each number of keys, elements, groups or labels is read as at most the places that its array has.
-#[derive(Drop)]
+#[derive(Clone, Copy)]
 pub struct Node {
     // How many network keys there are, in their fixed order; and the security material that is derived from each: NID, encryption key and privacy key.
     pub networks: usize,

@@ -13,13 +13,13 @@ use network::address::AddressKind;
 use transport::securing::{ApplicationKey, LabelUuid};
 
 // An application key, and the place of the network key that it is bound to.
-#[derive(Drop)]
+#[derive(Clone, Copy)]
 pub struct BoundKey {
     pub key: [u8; 16],
     pub network: usize,
 }
 
-#[derive(Drop)]
+#[derive(Clone, Copy)]
 pub struct Setup {
     // How many network keys there are: 1 to 4.
     pub networks: usize,
@@ -44,7 +44,7 @@ pub struct Setup {
 }
 
 // The node, with each element's next SEQ.
-#[derive(Drop)]
+#[derive(Clone, Copy)]
 pub struct Made {
     // False where the setup is outside the rules: then all is zero.
     pub ok: bool,

@@ -8,7 +8,7 @@ use memory::pair::Pair;
 use transport::securing::Opener;
 
 // The refusals, in their order of checking.
-#[derive(Drop)]
+#[derive(Clone, Copy)]
 pub enum Refusal {
     // 16: a buffer lent for writing is shorter than 29 (PDU) or 384 (message).
     ShortBuffer,
@@ -72,7 +72,7 @@ pub fn number(refusal: Refusal) -> u32
 }
 
 // What became of a PDU that was heard.
-#[derive(Drop)]
+#[derive(Clone, Copy)]
 pub enum Answer {
     Refused(Refusal),
     // A segment was stored; the bits report the places filled.
@@ -114,14 +114,14 @@ pub enum Answer {
 }
 
 // What became of a PDU behind the network layer, with the number of pairs tried.
-#[derive(Drop)]
+#[derive(Clone, Copy)]
 pub struct Taken {
     pub answer: Answer,
     pub trials: usize,
     pub receiver: Receiver,
 }
 
-#[derive(Drop)]
+#[derive(Clone, Copy)]
 pub struct Heard {
     pub answer: Answer,
     // How many network keys were tried, and pairs of an application key and a label, or of a key alone.

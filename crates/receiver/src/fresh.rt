@@ -7,14 +7,14 @@ use super::state::Receiver;
 use node::addresses::Node;
 use node::setup::Setup;
 
-#[derive(Drop)]
+#[derive(Clone, Copy)]
 pub enum Answer {
     // The receiver stands beside.
     Ready,
     Refused(Refusal),
 }
 
-#[derive(Drop)]
+#[derive(Clone, Copy)]
 pub struct Ready {
     pub answer: Answer,
     pub receiver: Receiver,

@@ -6,14 +6,14 @@ use super::answer::Refusal;
 use super::state::Receiver;
 use memory::session::SessionKey;
 
-#[derive(Drop)]
+#[derive(Clone, Copy)]
 pub enum Answer {
     // What was there is given up.
     Done,
     Refused(Refusal),
 }
 
-#[derive(Drop)]
+#[derive(Clone, Copy)]
 pub struct GivenUp {
     pub answer: Answer,
     pub receiver: Receiver,

@@ -9,7 +9,7 @@ use memory::replay::{ENTRIES, Entry};
 use memory::session::{SLOTS, Session};
 use node::addresses::Node;
 
-#[derive(Drop)]
+#[derive(Clone, Copy)]
 pub struct Receiver {
     pub node: Node,
     // Each element's next SEQ.

@@ -17,7 +17,7 @@ use node::addresses::Node;
 use transport::securing::{Envelope, Opened};
 
 // Whether a whole message may be accepted.
-#[derive(Drop)]
+#[derive(Clone, Copy)]
 pub enum Admission {
     Admitted,
     // 9: the replay entry is newer or equal.

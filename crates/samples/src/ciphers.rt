@@ -59,7 +59,7 @@ fn mac(line: &[u8], out: &mut [u8]) -> usize {
 }
 
 // What CCM is used with. The MIC has no octets where a line does not say all three.
-#[derive(Drop)]
+#[derive(Clone, Copy)]
 struct Terms {
     key: [u8; 16],
     nonce: [u8; 13],

@@ -88,7 +88,7 @@ fn long(high: u16, low: u16) -> u32 {
 }
 
 // The network keys that a line says. There is none where it does not say one to four.
-#[derive(Drop)]
+#[derive(Clone, Copy)]
 struct Held {
     list: [NetworkKeys; network::opening::KEYS],
     count: usize,

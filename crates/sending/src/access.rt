@@ -20,7 +20,7 @@ use receiver::state::Receiver;
 use transport::securing::{Envelope, MessageKey};
 
 // The key that secures a message, and what octet 0 and the nonce say of it.
-#[derive(Drop)]
+#[derive(Clone, Copy)]
 pub struct KeyUsed {
     pub akf: bool,
     pub aid: u8,

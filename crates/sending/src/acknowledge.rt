@@ -13,7 +13,7 @@ use receiver::answer::Refusal;
 use receiver::state::Receiver;
 
 // The message that is acknowledged; DST 0 marks that there is none.
-#[derive(Drop)]
+#[derive(Clone, Copy)]
 pub struct Chosen {
     pub auth: Pair,
     pub dst: u16,

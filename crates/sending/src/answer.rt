@@ -6,7 +6,7 @@ use super::transmission::{Transmission, Transmitted};
 use receiver::answer::Refusal;
 use receiver::state::Receiver;
 
-#[derive(Drop)]
+#[derive(Clone, Copy)]
 pub enum Answer {
     // One PDU is made: so many octets of the buffer.
     Sent(usize),
@@ -19,7 +19,7 @@ pub enum Answer {
     Refused(Refusal),
 }
 
-#[derive(Drop)]
+#[derive(Clone, Copy)]
 pub struct Spoken {
     pub answer: Answer,
     pub receiver: Receiver,

@@ -6,14 +6,14 @@ use network::address::AddressKind;
 use node::addresses::Node;
 
 // A TTL, or none named.
-#[derive(Drop)]
+#[derive(Clone, Copy)]
 pub enum Ttl {
     Unnamed,
     Named(u8),
 }
 
 // Where a message goes.
-#[derive(Drop)]
+#[derive(Clone, Copy)]
 pub enum Destination {
     // To a unicast address or a group.
     Address(u16),
@@ -21,7 +21,7 @@ pub enum Destination {
     Label(usize),
 }
 
-#[derive(Drop)]
+#[derive(Clone, Copy)]
 pub struct Request {
     // The element's number, from 0.
     pub element: usize,

@@ -9,7 +9,7 @@ use network::sealing::Answer as Sealing;
 use node::addresses::Node;
 use receiver::state::Receiver;
 
-#[derive(Drop)]
+#[derive(Clone, Copy)]
 pub enum Transmission {
     // The PDU stands in the first octets of the buffer, as many as named.
     Sent(usize),
@@ -19,7 +19,7 @@ pub enum Transmission {
     Unsealed,
 }
 
-#[derive(Drop)]
+#[derive(Clone, Copy)]
 pub struct Transmitted {
     pub answer: Transmission,
     pub receiver: Receiver,

@@ -6,7 +6,7 @@ ghost use Rattle.text.specs.Hex.{hex_value, reading_pairs, reading, filling, hex
 ghost use Rattle.text.specs.Written.{putting};
 
 // What a text reads as.
-#[derive(Drop)]
+#[derive(Clone, Copy)]
 pub enum Octets {
     // So many octets.
     Count(usize),

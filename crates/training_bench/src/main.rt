@@ -9,7 +9,7 @@ use sending::request::{Destination, Request, Ttl};
 use transport::securing::MessageKey;
 
 // The two nodes, side by side.
-#[derive(Drop)]
+#[derive(Clone, Copy)]
 struct Bench {
     sender: Receiver,
     station: Receiver,

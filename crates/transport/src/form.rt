@@ -7,7 +7,7 @@ use super::opcode::OpcodeKind;
 use network::header::Header;
 
 // Which segment of which message a segment is. SZMIC says that the message has the long TransMIC; of a control segment it is false.
-#[derive(Drop)]
+#[derive(Clone, Copy)]
 pub struct SegmentFields {
     pub szmic: bool,
     pub seqzero: u16,
@@ -16,7 +16,7 @@ pub struct SegmentFields {
 }
 
 // What a transport PDU is.
-#[derive(Drop)]
+#[derive(Clone, Copy)]
 pub enum Form {
     // A whole access message.
     Access {

@@ -3,7 +3,7 @@ ghost use Rattle.std.specs.Prelude.{◌≡◌};
 ghost use Rattle.transport.specs.Opcode.{opcode_kind};
 
 // What an opcode stands for.
-#[derive(Drop)]
+#[derive(Clone, Copy)]
 pub enum OpcodeKind {
     // An acknowledgement.
     OfAcknowledgement,

@@ -19,7 +19,7 @@ pub const LABELS: usize = 4;
 pub const MESSAGE: usize = modes::ccm::LONGEST;
 
 // An application key, its AID, and the place of the network key that it is bound to.
-#[derive(Drop)]
+#[derive(Clone, Copy)]
 pub struct ApplicationKey {
     pub key: [u8; 16],
     pub aid: u8,
@@ -27,14 +27,14 @@ pub struct ApplicationKey {
 }
 
 // A label, and its virtual address.
-#[derive(Drop)]
+#[derive(Clone, Copy)]
 pub struct LabelUuid {
     pub octets: [u8; 16],
     pub address: u16,
 }
 
 // What a node opens access messages by. Each number is read as at most the places that its array has.
-#[derive(Drop)]
+#[derive(Clone, Copy)]
 pub struct Held {
     // How many application keys there are, in their fixed order.
     pub applications: usize,
@@ -46,7 +46,7 @@ pub struct Held {
 }
 
 // What the keys and the nonce of an access message rest on. Of a segmented message iv and seq are those of its SeqAuth.
-#[derive(Drop)]
+#[derive(Clone, Copy)]
 pub struct Envelope {
     // The place of the network key that opened it.
     pub network: usize,
@@ -60,7 +60,7 @@ pub struct Envelope {
 }
 
 // The key that secures a message.
-#[derive(Drop)]
+#[derive(Clone, Copy)]
 pub enum MessageKey {
     // The application key at this place.
     Application(usize),
@@ -68,7 +68,7 @@ pub enum MessageKey {
 }
 
 // What opened a message.
-#[derive(Drop)]
+#[derive(Clone, Copy)]
 pub enum Opener {
     // The application key at this place, alone.
     Application(usize),
@@ -77,7 +77,7 @@ pub enum Opener {
     Device,
 }
 
-#[derive(Drop)]
+#[derive(Clone, Copy)]
 pub enum Opened {
     // The message stands in the first octets of the buffer.
     Message {
@@ -95,7 +95,7 @@ pub enum Opened {
 }
 
 // What became of the trials under one application key.
-#[derive(Drop)]
+#[derive(Clone, Copy)]
 pub struct Tried {
     pub opened: bool,
     pub trials: usize,

@@ -3,7 +3,7 @@ ghost use Rattle.std.specs.Prelude.{◌≡◌};
 ghost use Rattle.transport.specs.SeqAuth.{seq_auth};
 
 // The sequence number of a segment's SeqAuth.
-#[derive(Drop)]
+#[derive(Clone, Copy)]
 pub enum SeqAuth {
     // The number that the message was begun with.
     At(u32),

@@ -9,7 +9,7 @@ ghost use Rattle.transport.specs.Listed.{pdus};
 ghost use Rattle.transport.specs.Segment.{full_octets};
 ghost use Rattle.transport.specs.Vetting.{octet_allowed, bit_allowed, least, stated_by, fills, fits, judged_from, judged, joined, vetting, paper};
 
-#[derive(Drop)]
+#[derive(Clone, Copy)]
 pub enum Vetted {
     // The upper transport PDU stands in the first octets of the buffer: so many.
     Approved(usize),
@@ -22,7 +22,7 @@ pub enum Vetted {
 }
 
 // What PDU 0 states of the message.
-#[derive(Drop)]
+#[derive(Clone, Copy)]
 struct Stated {
     first: u8,
     szmic: bool,
@@ -31,7 +31,7 @@ struct Stated {
 }
 
 // What the PDUs are: all of a message, or not; the first at fault is named.
-#[derive(Drop)]
+#[derive(Clone, Copy)]
 enum Judged {
     Whole,
     Fault(usize),
