@@ -73,21 +73,12 @@ unicast_bounds a u = (kind_exactly a Unicast).0 (unicast_kind_law a u)
 pub unicast_some : (a : ℕ) → is_unicast a ≡ true → a ≡ 0 → ⊥
 unicast_some a u e = let b = (unicast_bounds a u).0 in omega arith
 
--- ---- reserved
--- by the variant's number: it is the last of five
-told : (k : AddressKind) → OneOf (4 ∷ []) (tag_of the_type k) → true ≡ reserved_kind k
-told Unassigned t = absurd (miss (4 ∷ []) 0 tt t)
-told Unicast t = absurd (miss (4 ∷ []) 1 tt t)
-told Virtual t = absurd (miss (4 ∷ []) 2 tt t)
-told Group t = absurd (miss (4 ∷ []) 3 tt t)
-told Reserved t = refl
-
-untold : (k : AddressKind) → OneOf (0 ∷ 1 ∷ 2 ∷ 3 ∷ []) (tag_of the_type k) → false ≡ reserved_kind k
-untold Unassigned t = refl
-untold Unicast t = refl
-untold Virtual t = refl
-untold Group t = refl
-untold Reserved t = absurd (miss (0 ∷ 1 ∷ 2 ∷ 3 ∷ []) 4 tt t)
+untold : (k : AddressKind) → (k ≡ Reserved → ⊥) → false ≡ reserved_kind k
+untold Unassigned n = refl
+untold Unicast n = refl
+untold Virtual n = refl
+untold Group n = refl
+untold Reserved n = absurd (n refl)
 
 pub not_reserved : (a : ℕ) (k : AddressKind) → kind_of a ≡ k → reserved_kind k ≡ false → is_reserved a ≡ false
 unfolding is_reserved
@@ -102,13 +93,13 @@ reserved_not_unicast a t =
 
 -- what the code answers, by the variant of its kind
 module _ (a : ℕ) {k : AddressKind} (e : k ≡ kind_of a) where
-  pub reserved_told : OneOf (4 ∷ []) (tag_of the_type k) → true ≡ is_reserved a
+  pub reserved_told : k ≡ Reserved → true ≡ is_reserved a
   unfolding is_reserved
-  reserved_told t = rw (← e) (told k t)
+  reserved_told t = rw (← e, t) refl
 
-  pub reserved_untold : OneOf (0 ∷ 1 ∷ 2 ∷ 3 ∷ []) (tag_of the_type k) → false ≡ is_reserved a
+  pub reserved_untold : (k ≡ Reserved → ⊥) → false ≡ is_reserved a
   unfolding is_reserved
-  reserved_untold t = rw (← e) (untold k t)
+  reserved_untold n = rw (← e) (untold k n)
 
 -- ---- SRC and DST
 module _ (ctl : Bool) (src dst : ℕ) where
