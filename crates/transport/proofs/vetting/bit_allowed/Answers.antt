@@ -1,0 +1,10 @@
+-- `transport::vetting::bit_allowed` meets its contract: CTL says which it is.
+-- Assumes nothing.
+use Rattle.transport.proofs.VettingRules.{ctl-rules}
+use Rattle.transport.proofs.vetting.bit_allowed.Goals as goal
+
+pub returns-then-ctl : goal.returns-then-ctl
+returns-then-ctl c = search ctl-rules
+
+pub returns : goal.returns
+returns c = search ctl-rules
