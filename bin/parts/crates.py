@@ -6,49 +6,37 @@ from pathlib import Path
 ROOT = Path(__file__).resolve().parents[2]
 TARGET = ROOT / "target"
 PROVED = ("src", "specs", "proofs")
-# `rt` counts these in, too: a program is run on them.
-RUN = ("stdin", "stdout", "args", "data")
 
 
 def listed():
     """Each crate of crates.txt with what it depends on; the toolchain's own libraries are left out."""
     table = {}
     for line in (ROOT / "crates.txt").read_text().splitlines():
-        name, colon, needs = line.partition("#")[0].partition(":")
+        named, colon, needs = line.partition("#")[0].partition(":")
         if colon:
-            table[name.strip()] = needs.split()
+            table[named.split()[0]] = needs.split()  # behind the name of a static library stands its kind
     return {name: [one for one in needs if one in table] for name, needs in table.items()}
 
 
 def ordered(table, name):
-    """A crate and all it depends on, by levels: a crate's level is one above the highest of what it depends on."""
-    levels, found = {}, []
+    """All that a crate depends on, and then the crate itself: each behind what it depends on, as `rt` proves them, one after another."""
+    seen, found = set(), []
 
     def visit(one):
-        if one not in levels:
-            levels[one] = 0
+        if one not in seen:
+            seen.add(one)
             for other in table[one]:
                 visit(other)
-            levels[one] = max((levels[other] + 1 for other in table[one]), default=0)
             found.append(one)
 
     visit(name)
-    by_level = [[one for one in found if levels[one] == level] for level in range(levels[name] + 1)]
-    return [level for level in by_level if level]
-
-
-def batches(levels, jobs):
-    """The crates that are proved beside each other: of one level, so many at a time."""
-    return [level[at:at + jobs] for level in levels for at in range(0, len(level), jobs)]
+    return found
 
 
 def files(name, parts):
     """The files of these parts of a crate, in order."""
-    crate = ROOT / "crates" / name
     for part in parts:
-        if (crate / part).is_file():
-            yield crate / part
-        yield from sorted(path for path in (crate / part).rglob("*") if path.is_file())
+        yield from sorted(path for path in (ROOT / "crates" / name / part).rglob("*") if path.is_file())
 
 
 def digest_of(path):
@@ -66,12 +54,18 @@ def digest(table, crates, version):
     return whole.hexdigest()
 
 
+def stamp(name):
+    """The file that `rt` writes when it has built a library or a program, None where there is none; of a static library it writes none."""
+    out = ROOT / "crates" / name / "out"
+    return next((path for path in (out / "rlib" / "stamp", out / f"{name}.stamp") if path.is_file()), None)
+
+
 def stale(table, crates):
     """The crates that `rt` will probably prove: nothing says that they were proved, or a file is newer, or they depend on such a crate."""
     found = set()
     for name in crates:
-        stamp = TARGET / "stamp" / name
-        since = stamp.stat().st_mtime if stamp.is_file() else 0
-        if found.intersection(table[name]) or not since or any(path.stat().st_mtime > since for path in files(name, PROVED + RUN)):
+        kept = stamp(name)
+        since = kept.stat().st_mtime if kept else 0
+        if found.intersection(table[name]) or not since or any(path.stat().st_mtime > since for path in files(name, PROVED)):
             found.add(name)
     return found

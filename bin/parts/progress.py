@@ -29,45 +29,45 @@ def span(seconds):
 
 
 class Progress:
-    """The state of one proof; `batches` are the crates in the order of their proof, `again` those that are expected to be proved."""
+    """The state of one proof; `crates` are those of it in the order of their proof, one after another, `again` those that are expected to be proved."""
 
-    def __init__(self, name, batches, again):
-        self.name, self.batches, self.again = name, batches, set(again)
+    def __init__(self, name, crates, again):
+        self.name, self.crates, self.again = name, crates, set(again)
         self.seconds = known()
-        self.done, self.at, self.since, self.news = 0, 0, time.monotonic(), ""
+        self.done, self.since, self.news = 0, time.monotonic(), ""
         self.proved = {}
         self.rewrites = sys.stderr.isatty() and os.environ.get("TERM") != "dumb"
 
-    def took(self, crate, seconds):
-        """A crate is proved, in so many seconds, or unchanged where these are None. Those of one batch are told at the same time."""
-        self.done += 1
-        self.at = 1 + next((place for place, batch in enumerate(self.batches) if crate in batch), self.at)
-        self.since = time.monotonic()
-        if seconds is None:
-            return
+    def begins(self, crate):
+        """A crate is being proved, so those before it are; nothing is told of one that is unchanged."""
+        self.done, self.since = self.crates.index(crate), time.monotonic()
         if crate not in self.again:
             # that was not expected, so all that comes behind it may be proved anew, too
-            self.again.update(one for batch in self.batches[self.at:] for one in batch)
-        self.proved[crate] = self.seconds[crate] = seconds
-        self.news = f", {crate} took {seconds} s"
+            self.again.update(self.crates[self.done:])
+
+    def ends(self):
+        """The crate that began last is proved."""
+        crate = self.crates[self.done]
+        self.proved[crate] = self.seconds[crate] = round(time.monotonic() - self.since)
+        self.done, self.since = self.done + 1, time.monotonic()
+        self.news = f", {crate} took {self.seconds[crate]} s"
         if not self.rewrites:
             self.say()
 
     def ahead(self):
-        """The crates that are still to be proved, batch by batch; the first are being proved now."""
-        batches = ([crate for crate in batch if crate in self.again] for batch in self.batches[self.at:])
-        return [batch for batch in batches if batch]
+        """The crates that are still to be proved; the first is being proved now."""
+        return [crate for crate in self.crates[self.done:] if crate in self.again]
 
     def left(self):
-        """The seconds that are left: each batch takes as long as the longest of its crates."""
-        times = [max(self.seconds.get(crate, UNKNOWN) for crate in batch) for batch in self.ahead()]
+        """The seconds that are left."""
+        times = [self.seconds.get(crate, UNKNOWN) for crate in self.ahead()]
         return sum(times) - min(time.monotonic() - self.since, times[0]) if times else 0
 
     def line(self):
         """The progress in one line."""
         ahead = self.ahead()
-        rest = f"; now {' and '.join(ahead[0])}; {span(self.left())} left" if ahead else ""
-        return f"{self.name}: {self.done} of {sum(map(len, self.batches))} crates proved{self.news}{rest}"
+        rest = f"; now {ahead[0]}; {span(self.left())} left" if ahead else ""
+        return f"{self.name}: {self.done} of {len(self.crates)} crates proved{self.news}{rest}"
 
     def say(self):
         """Shows the line: a terminal's last line is written anew."""

@@ -12,4 +12,4 @@ pub returns : goal.returns
 returns c =
     let from = c.start-from.result in
     let line = c.args.line.now in
-    take_all (length line - from) (drop from line) (simp length-drop (omega arith)) ∙ c.start-from.ensures.1
+    take_all (length line - from) (drop from line) (simp length-drop (omega arith)) ∙ c.start-from.ensures.exact

@@ -13,5 +13,5 @@ pub returns : goal.returns
 unfolding field_of
 returns c =
     let rest = c.last-rest.result.now in
-    let place = c.until.ensures.0 ∙ zero-add (first (is 32) rest) in
+    let place = c.until.ensures.value ∙ zero-add (first (is 32) rest) in
     c.first.ensures ∙ ap (λ (n : ℕ). take n rest) place ∙ ap (λ l. take (first (is 32) l) l) c.last-rest.ensures

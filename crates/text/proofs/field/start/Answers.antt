@@ -32,10 +32,10 @@ returns-else-left-gt0 c =
     let l = c.loop-i in
     let line = c.args.line.now in
     let none : l.left ≡ 0 = omega (arith, ltb-false 0 l.left c.if-left-gt0.false-raw) in
-    (l.invariant.0, sym (l.invariant.1 ∙ ap (λ (k : ℕ). behind k (drop l.i line)) none ∙ behind_first (drop l.i line)))
+    record { within = l.invariant.0; exact = sym (l.invariant.1 ∙ ap (λ (k : ℕ). behind k (drop l.i line)) none ∙ behind_first (drop l.i line)) }
 
 pub returns-after-loop-i : goal.returns-after-loop-i
 returns-after-loop-i c =
     let l = c.loop-i in
     let past = drop_past c.args.line.now l.i (omega arith) in
-    (l.invariant.0, past ∙ sym (l.invariant.1 ∙ ap (behind l.left) past ∙ behind_none l.left))
+    record { within = l.invariant.0; exact = past ∙ sym (l.invariant.1 ∙ ap (behind l.left) past ∙ behind_none l.left) }

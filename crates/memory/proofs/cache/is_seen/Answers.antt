@@ -1,0 +1,9 @@
+-- `memory::cache::is_seen` meets its contract: `seen` asks whether the place is one of them.
+-- Assumes nothing.
+use borrow.Author.Rules.{rules}
+use Rattle.memory.specs.Cache.{seen}
+use Rattle.memory.proofs.cache.is_seen.Goals as goal
+
+pub returns : goal.returns
+unfolding seen
+returns c = rw (c.place.ensures, c.entry.ensures)

@@ -1,0 +1,14 @@
+-- `memory::cache::place` meets its contract: no entry before i is it, so the first that is ends the search. The measure is how many are left.
+-- Assumes nothing.
+use mathlib.Core.Path.{sym, ◌∙◌}
+use Prim.Native.Nat.{◌-◌}
+use borrow.Author.Rules.{rules}
+use Rattle.common.proofs.Search.{Seeking, seek_start, seek_here, seek_on, seek_past}
+use Rattle.memory.specs.Cache.{cache_entries, same_seen}
+use Rattle.memory.proofs.cache.place.Given as goal
+
+abbrev pub invariant-loop-i : goal.invariant-loop-i
+invariant-loop-i l = Seeking (λ e. same_seen e l.x) cache_entries l.entries l.i
+
+abbrev pub decreases-loop-i : goal.decreases-loop-i
+decreases-loop-i l = cache_entries - l.i

@@ -1,0 +1,13 @@
+-- `memory::replay::shift` meets its contract: place by place the list is what it is to be. The measure is what is left of the places.
+-- Assumes nothing.
+use Prim.Native.Nat.{◌-◌}
+use borrow.Author.Rules.{rules}
+use Rattle.common.proofs.Fill.{Filled, filled_none, filled_more, filled_all}
+use Rattle.memory.specs.Replay.{replay_entries, no_entry, shifted_at}
+use Rattle.memory.proofs.replay.shift.Given as goal
+
+abbrev pub invariant-loop-i : goal.invariant-loop-i
+invariant-loop-i l = Filled no_entry (shifted_at l.replay l.p l.e) replay_entries l.after l.i
+
+abbrev pub decreases-loop-i : goal.decreases-loop-i
+decreases-loop-i l = replay_entries - l.i

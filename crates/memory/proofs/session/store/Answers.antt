@@ -1,0 +1,15 @@
+-- `memory::session::store` meets its contract: each field of the session is what its own function gives.
+-- Assumes nothing.
+use borrow.Author.Rules.{rules}
+use Rattle.memory.specs.Session.{stored}
+use Rattle.memory.proofs.SessionLaws.{place_most}
+use Rattle.memory.proofs.session.store.Goals as goal
+
+pub put_octets-after-requires : goal.put_octets-after-requires
+put_octets-after-requires c = rw c.octet_place.ensures (place_most _ _)
+
+pub returns : goal.returns
+unfolding stored
+returns c =
+    let p = c in
+    rw (c.with.ensures, c.len_with.ensures, c.put_octets-after.ensures, c.octet_place.ensures)
