@@ -65,7 +65,8 @@ record Held : Type 0 where
   second_derived : key_at node.materials 1 ≡ k2 second_key
 
 holds : Held
-unfolding setting_up making valid keys_valid bound_within elements_valid next_within groups_valid index_valid first kind_of node_of material_at bound_key_at group_at is_reserved answers_to for_node is_local listens
+unfolding setting_up making valid keys_valid bound_within elements_valid next_within groups_valid index_valid first kind_of node_of material_at bound_key_at group_at is_reserved answers_to
+    for_node is_local listens
 holds =
     record {
       two_networks = refl;

@@ -111,8 +111,8 @@ record Held : Type 0 where
   address_sent : address_of sender 0 ≡ 0x0002
 
 holds : Held
-unfolding setting_up making valid keys_valid bound_within elements_valid next_within groups_valid index_valid first kind_of node_of bound_key_at label_uuid_at label_place address_of is_local next_of next_at
-    sending_iv iv_index_sent
+unfolding setting_up making valid keys_valid bound_within elements_valid next_within groups_valid index_valid first kind_of node_of bound_key_at label_uuid_at label_place address_of is_local next_of
+    next_at sending_iv iv_index_sent
 holds =
     record {
       one_application = refl;

@@ -276,7 +276,7 @@ module _ (node : Node) (speeches : List Speech) (spent : Spent) where
   due_of filled (Segment k i seq ttl) =
       if is_last_missing (filled k) i (last_of node (speech_at speeches k)) then hand_up node (speech_at speeches k) ∷ [] else
       []
-  due_of filled (Foreign pdu) = []
+  due_of filled (Foreign _) = []
   due_of filled (Ask net src) = []
   due_of filled (Own c) = []
 
@@ -284,7 +284,7 @@ module _ (node : Node) (speeches : List Speech) (spent : Spent) where
   abbrev pub StoresAt : (ℕ → ℕ) → Event → Outcome → Type 0
   StoresAt filled (Segment k i seq ttl) o =
       has_bit (filled k) i ≡ false → eqb (with_bit (filled k) i) (all_bits (last_of node (speech_at speeches k))) ≡ false → is_stored o.answer ≡ true
-  StoresAt filled (Foreign pdu) o = Unit {0}
+  StoresAt filled (Foreign _) o = Unit {0}
   StoresAt filled (Ask net src) o = Unit {0}
   StoresAt filled (Own c) o = Unit {0}
 
@@ -294,26 +294,26 @@ module _ (node : Node) (speeches : List Speech) (spent : Spent) where
       let s = speech_at speeches k in
       o.tried
       ≡ record { network = network_place node s; application = if is_last_missing (filled k) i (last_of node s) then application_place node s s.words else 0 }
-  CountsAt filled (Foreign pdu) o = Unit {0}
+  CountsAt filled (Foreign _) o = Unit {0}
   CountsAt filled (Ask net src) o = Unit {0}
   CountsAt filled (Own c) o = Unit {0}
 
   module _ (r : Receiver) (filled : ℕ → ℕ) (c : Call) where
     hands_as : (e : Event) → Next node speeches spent r filled e c → handed (step r c) ≡ due_of filled e
     hands_as (Segment k i seq ttl) n = answered_hands node (speech_at speeches k) (filled k) i (message_for c) (step r c) n.answers
-    hands_as (Foreign pdu) n = ap handed n.answers.2
+    hands_as (Foreign _) n = ap handed n.answers.2
     hands_as (Ask net src) n = n.answers
     hands_as (Own c) n = n.answers
 
     stores_as : (e : Event) → Next node speeches spent r filled e c → StoresAt filled e (step r c)
     stores_as (Segment k i seq ttl) n = answered_stores node (speech_at speeches k) (filled k) i (message_for c) (step r c) n.answers
-    stores_as (Foreign pdu) n = tt {0}
+    stores_as (Foreign _) n = tt {0}
     stores_as (Ask net src) n = tt {0}
     stores_as (Own c) n = tt {0}
 
     counts_as : (e : Event) → Next node speeches spent r filled e c → CountsAt filled e (step r c)
     counts_as (Segment k i seq ttl) n = n.answers.tried_is
-    counts_as (Foreign pdu) n = tt {0}
+    counts_as (Foreign _) n = tt {0}
     counts_as (Ask net src) n = tt {0}
     counts_as (Own c) n = tt {0}
 

@@ -119,8 +119,8 @@ reserved_met = ((met_to 0xFF00 (omega arith) refl refl, refl), (met_to 0xFFFB (o
 -- ---- to another box
 -- it is not for the shed
 elsewhere : for_node node 0x0003 ≡ false
-unfolding setting_up making valid keys_valid bound_within elements_valid next_within groups_valid index_valid first kind_of is_reserved node_of group_at answers_to for_node is_local listens holds_label
-    label_uuid_at
+unfolding setting_up making valid keys_valid bound_within elements_valid next_within groups_valid index_valid first kind_of is_reserved node_of group_at answers_to for_node is_local listens
+    holds_label label_uuid_at
 elsewhere = refl
 
 may_three : destination_kind true (kind_of 0x0003) ≡ true

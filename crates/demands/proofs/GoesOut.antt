@@ -214,7 +214,8 @@ module _ (sender : Receiver) (good : Good sender) (q : Request) (buf : List ℕ)
       let left_seq : next_seq sender q.element + 1 ≤ 0x1000000 = rw w at enough in
       rw (control_whole sender buf wide q code parameters a w)
       (said_all q.element (header_as sender q words)
-      (whole_made sender good q words buf a wide (header_as sender q words) true (control_octet false code ∷ parameters) (λ _. (control_allows sender q code (length parameters) a).no_label) (omega arith)
+      (whole_made sender good q words buf a wide (header_as sender q words) true (control_octet false code ∷ parameters)
+      (λ _. (control_allows sender q code (length parameters) a).no_label) (omega arith)
       (control_stamped sender sender.node (shared_itself sender.node) q code parameters) (omega arith) (omega arith))))
       (λ w.
       let words = Control code parameters in

@@ -155,19 +155,19 @@ module _ (setup : Setup) (speeches : List Speech) where
 answers_as :
     (node : Node) (speeches : List Speech) (spent : Spent) (r : Receiver) (filled : ℕ → ℕ) (e : Event) (fwd msg : List ℕ)
     → Next node speeches spent r filled e (call_as node speeches e fwd msg) → AnsweredAs node speeches filled r e fwd msg (step r (call_as node speeches e fwd msg))
-answers_as node speeches spent r filled (Segment k i seq ttl) fwd msg n = n.answers
-answers_as node speeches spent r filled (Foreign pdu) fwd msg n = n.answers
-answers_as node speeches spent r filled (Ask net src) fwd msg n = n.answers
-answers_as node speeches spent r filled (Own c) fwd msg n = n.answers
+answers_as _ speeches spent r filled (Segment k i seq ttl) fwd msg n = n.answers
+answers_as _ speeches spent r filled (Foreign pdu) fwd msg n = n.answers
+answers_as _ speeches spent r filled (Ask net src) fwd msg n = n.answers
+answers_as _ speeches spent r filled (Own c) fwd msg n = n.answers
 
 -- what is due behind a list of arrivals
 arrival_hands :
     (node : Node) (speeches : List Speech) (spent : Spent) (before : List Arrival) (e : Event) {x : List Handed}
     → x ≡ due_of node speeches spent (λ k. come k before) e → x ≡ due_as node speeches before e
-arrival_hands node speeches spent before (Segment k i seq ttl) h = h
-arrival_hands node speeches spent before (Foreign pdu) h = h
-arrival_hands node speeches spent before (Ask net src) h = h
-arrival_hands node speeches spent before (Own c) h = h
+arrival_hands _ speeches spent before (Segment k i seq ttl) h = h
+arrival_hands _ speeches spent before (Foreign pdu) h = h
+arrival_hands _ speeches spent before (Ask net src) h = h
+arrival_hands _ speeches spent before (Own c) h = h
 
 -- the same speakers, and other arrivals
 abbrev with_arrivals :

@@ -188,7 +188,8 @@ record Allowed : Type 0 where
   shed_allowed : accepted (start shed) to_box short ≡ true
 
 allowed : Allowed
-unfolding setting_up making valid keys_valid bound_within elements_valid next_within groups_valid index_valid first kind_of node_of bound_key_at access_allowed control_allowed request_allowed size_allowed is_whole
+unfolding setting_up making valid keys_valid bound_within elements_valid next_within groups_valid index_valid first kind_of node_of bound_key_at access_allowed control_allowed request_allowed
+    size_allowed is_whole
 allowed = record { report_allowed = refl; short_allowed = refl; command_allowed = refl; updating_allowed = refl; shed_allowed = refl }
 
 -- which of them go whole
@@ -241,7 +242,16 @@ to_shed_law :
     → Between sender shed to_shed words
 unfolding is_virtual kind_of
 to_shed_law sender words good shared other own =
-    record { good = good; ready = ready; shared = shared; other_node = other; for_here = holds.here; dst_fits = omega arith; holds_label_law = λ t. absurd (true≢false (sym t)); own_message_first = own }
+    record {
+      good = good;
+      ready = ready;
+      shared = shared;
+      other_node = other;
+      for_here = holds.here;
+      dst_fits = omega arith;
+      holds_label_law = λ t. absurd (true≢false (sym t));
+      own_message_first = own;
+    }
 
 -- the shed's address is not virtual
 shed_plain : is_virtual 0x0001 ≡ false

@@ -45,7 +45,8 @@ use Rattle.receiver.specs.declared.whole.Admission.{Admission}
 use Rattle.receiver.specs.declared.whole.Admission.TheVariants.{Admitted, Replayed, NoEntryLeft}
 use Rattle.receiver.specs.GiveUp.{giving_up}
 use Rattle.receiver.specs.Hearing.{Outcome, outcome, relayed, taken_as_by, taken_by, passed_by, uncached_by, voiced_by, opened_as_by, hearing_by}
-use Rattle.receiver.specs.Segmented.{segment_of, message_of, session_envelope, upgraded_by, control_up_by, access_up_as_by, access_up_by, gathered_by, placed_as_by, placed_by, segmented_as_by, segmented_by}
+use Rattle.receiver.specs.Segmented.{segment_of, message_of, session_envelope, upgraded_by, control_up_by, access_up_as_by, access_up_by, gathered_by, placed_as_by, placed_by}
+use Rattle.receiver.specs.Segmented.{segmented_as_by, segmented_by}
 use Rattle.receiver.specs.State.{with_replay, with_session}
 use Rattle.receiver.specs.Whole as whole
 use Rattle.receiver.specs.Whole.{pair_of, whole_envelope, unless, admission_by, admitted_by, whole_access_by, whole_control_up_by, whole_control_by, acted_by, whole_acknowledgement_by}

@@ -10,21 +10,20 @@ use lib.ListN.{length, drop}
 use Rattle.text.specs.Field.{behind}
 use Rattle.text.proofs.FieldLaws.{behind_space, behind_other, behind_none, behind_first, drop_past}
 use Rattle.text.proofs.field.start.Goals as goal
+use Rattle.text.proofs.field.start.Goals.{then-line-i-eq32, else-line-i-eq32}
 
 pub loop-i-preserved : goal.loop-i-preserved
 loop-i-preserved c =
     let l = c.loop-i in
     let line = c.args.line.now in
     let more = ltb-true 0 l.left c.if-left-gt0.true-raw in
-    let step : behind l.left (drop l.i line) ≡ behind c.if-line-i-eq32.false (drop (l.i + 1) line) =
-    ⊎_elim
-    (λ w.
-    behind_space line l.i l.left (search rules) more w.0.taken
-    ∙ ap (λ (k : ℕ). behind k (drop (l.i + 1) line)) (sym w.1))
-    (λ w.
-    behind_other line l.i l.left (search rules) more w.0.left
-    ∙ ap (λ (k : ℕ). behind k (drop (l.i + 1) line)) (sym w.1))
-    c.if-line-i-eq32.branch in
+    let step : behind l.left (drop l.i line) ≡ behind c.if-line-i-eq32.left (drop (l.i + 1) line) =
+    elim c.if-line-i-eq32.branch [
+      | then-line-i-eq32 w ↦
+          behind_space line l.i l.left (search rules) more w.if-line-i-eq32.true ∙ ap (λ (k : ℕ). behind k (drop (l.i + 1) line)) (sym w.left-is)
+      | else-line-i-eq32 w ↦
+          behind_other line l.i l.left (search rules) more w.if-line-i-eq32.false ∙ ap (λ (k : ℕ). behind k (drop (l.i + 1) line)) (sym w.left-is)
+    ] in
     (omega arith, l.invariant.1 ∙ step)
 
 pub returns-else-left-gt0 : goal.returns-else-left-gt0

@@ -9,5 +9,5 @@ pub returns : goal.returns
 returns c =
     let first = c.put-from in
     let made = c.hex-k in
-    put_number 16 16 _ _ made.result (omega arith) made.ensures.1.0 (omega arith) (omega arith)
-    _ _ _ _ first.result _ _ _ first.ensures c.put.ensures made.ensures.1.1
+    put_number 16 16 _ _ made.result (omega arith) made.ensures.len (omega arith) (omega arith)
+    _ _ _ _ first.result _ _ _ first.ensures c.put.ensures made.ensures.digits

@@ -7,7 +7,7 @@ use Rattle.text.proofs.number.read_short.Goals as goal
 
 pub overflow_cast-result : goal.overflow_cast-result
 overflow_cast-result c = let read = c.read_up_to in
-    omega (arith, number_fits 0xFFFF _ read.result read.ensures c.n-1.given.0.0 (search rules))
+    omega (arith, number_fits 0xFFFF _ read.result read.ensures c.in-Value.n (search rules))
 
 pub returns-in-Value : goal.returns-in-Value
 returns-in-Value c = search (number_made, rules)

@@ -1,0 +1,15 @@
+-- `setup::group_at` meets its contract: the test says whether the place is used.
+-- Assumes nothing.
+use native.Mathlib.Omega.{arith}
+use borrow.Author.Rules.{rules}
+use borrow.Author.Tests.{lt-ltb, le-ltb}
+use Rattle.node.specs.Setup.{group_at}
+use Rattle.node.proofs.setup.group_at.Goals as goal
+
+pub returns-then-i-s : goal.returns-then-i-s
+unfolding group_at
+returns-then-i-s c = let a = c.args in simp (lt-ltb a.i a.s.listened (omega arith))
+
+pub returns-else-i-s : goal.returns-else-i-s
+unfolding group_at
+returns-else-i-s c = let a = c.args in simp (le-ltb a.i a.s.listened (omega arith))

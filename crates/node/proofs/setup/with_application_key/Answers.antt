@@ -1,0 +1,21 @@
+-- `setup::with_application_key` meets its contract: past its end a list has no place to set.
+-- Assumes nothing.
+use mathlib.Core.Path.{◌≡◌}
+use native.Mathlib.Omega.{arith}
+use borrow.Author.Rules.{rules}
+use lib.ListN.{length}
+use lib.Seq.{set_out}
+use Rattle.common.proofs.Lists.{length_mapped}
+use Rattle.transport.specs.Securing.{application_key_places}
+use Rattle.node.specs.declared.setup.BoundKey.{BoundKey}
+use Rattle.node.proofs.setup.with_application_key.Goals as goal
+
+pub returns-then-n-lt-KEYS : goal.returns-then-n-lt-KEYS
+returns-then-n-lt-KEYS c = rw c.counted.ensures
+
+pub returns : goal.returns
+returns c =
+    let s = c.args.s in
+    let long : length s.appkeys ≡ application_key_places = search (rules, length_mapped) in
+    let k : BoundKey = record { key = c.args.key; network = c.args.network } in
+    rw (c.counted.ensures, set_out s.appkeys s.applications k (omega arith))
