@@ -213,18 +213,18 @@ module _ (out : List ℕ) (at r : ℕ) (o : List ℕ) where
     unfolding heard_text
     heard_control src dst network opcode pair len s k h e f = rw (k, ← h) (put_then _ _ out at r1 r o1 o e f)
 
-pub ruleset opener-rules = (opener_application, opener_labelled, opener_device)
+pub ruleset opener_rules = (opener_application, opener_labelled, opener_device)
 
-pub ruleset effect-rules = (effect_nothing, effect_marked, effect_complete, effect_cancelled)
+pub ruleset effect_rules = (effect_nothing, effect_marked, effect_complete, effect_cancelled)
 
-pub ruleset noted-rules = (noted_ok, noted_unread, noted_silence, noted_refused)
+pub ruleset noted_rules = (noted_ok, noted_unread, noted_silence, noted_refused)
 
-pub ruleset set-up-rules = (set_up_ready, set_up_refused)
+pub ruleset set_up_rules = (set_up_ready, set_up_refused)
 
-pub ruleset given-up-rules = (given_up_done, given_up_refused)
+pub ruleset given_up_rules = (given_up_done, given_up_refused)
 
-pub ruleset spoken-rules = (spoken_sent, spoken_started, spoken_refused)
+pub ruleset spoken_rules = (spoken_sent, spoken_started, spoken_refused)
 
-pub ruleset vetted-rules = (vetted_approved, vetted_short, vetted_fault, vetted_unfinished)
+pub ruleset vetted_rules = (vetted_approved, vetted_short, vetted_fault, vetted_unfinished)
 
-pub ruleset heard-rules = (heard_refused, heard_stored, heard_repeated, heard_access, heard_control, heard_acknowledgement)
+pub ruleset heard_rules = (heard_refused, heard_stored, heard_repeated, heard_access, heard_control, heard_acknowledgement)

@@ -69,4 +69,4 @@ module _ (out : List ℕ) (at r : ℕ) (o : List ℕ) (n : ℕ) (s : List ℕ) w
   pub where_some : (n ≡ 0 → ⊥) → lent r o ≡ putting s out at → lent r o ≡ putting (if eqb n 0 then [] else s) out at
   where_some h e = rw (ne_eqb n 0 h) e
 
-pub ruleset held-rules = (where_none, where_some, put_then)
+pub ruleset held_rules = (where_none, where_some, put_then)

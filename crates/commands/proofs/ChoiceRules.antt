@@ -30,4 +30,4 @@ module _ {A : Type 0} (n most : ℕ) (x y z : A) where
   pub number_above : most < n → z ≡ y → z ≡ (if leb n most then x else y)
   number_above h k = rw (lt-leb n most h) k
 
-pub ruleset choice-rules = (word_is, word_is_not, number_is, number_is_not, number_within, number_above)
+pub ruleset choice_rules = (word_is, word_is_not, number_is, number_is_not, number_within, number_above)

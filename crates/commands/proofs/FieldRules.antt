@@ -152,7 +152,7 @@ module _ (text front : List ℕ) (t : front ≡ take 6 text) (b : Bool) (e : b �
     unfolding with_destination
     address_is a v h r k q = rw (← t, ← e, h) (short_read text text refl destination.Unfit z (λ n. destination.Fits (Address n)) a v r k q)
 
-pub ruleset destination-rules = (label_is, address_is)
+pub ruleset destination_rules = (label_is, address_is)
 
 -- ---- octets, read into a buffer
 pub octets_read :
@@ -160,4 +160,4 @@ pub octets_read :
     → lent z left ≡ with_octets text out f
 octets_read text t out left same_text f z a b e k r = rw (← same_text, ← e, k, r)
 
-pub ruleset field-rules = (number_read, octet_read, short_read, bit_read, kind_read, ttl_read, destination_read, key_read, mic_read, request_read, octets_read)
+pub ruleset field_rules = (number_read, octet_read, short_read, bit_read, kind_read, ttl_read, destination_read, key_read, mic_read, request_read, octets_read)

@@ -26,7 +26,7 @@ module _ (line word : List ℕ) (first : word ≡ field_of 0 line) (ready : Bool
   unfolding command_of
   command_not_ready h e = rw (← first, h) e
 
-pub ruleset command-rules = (command_ready, command_not_ready)
+pub ruleset command_rules = (command_ready, command_not_ready)
 
 -- ---- an order, and a command
 module _ (line out : List ℕ) (p : Lent Line) where
@@ -39,7 +39,7 @@ module _ (line out : List ℕ) (p : Lent Line) where
 pub answer_is : (out : List ℕ) (a b : Line) → a ≡ b → lent a out ≡ lent b out
 answer_is out a b e = ap (λ (x : Line). lent x out) e
 
-pub ruleset order-rules = (order_is, answer_is)
+pub ruleset order_rules = (order_is, answer_is)
 
 -- ---- a line
 pub line_none : (line : List ℕ) (ready : Bool) (out : List ℕ) → length line ≡ 0 → lent Skipped out ≡ line_of line ready out
@@ -67,4 +67,4 @@ unfolding line_of
 line_said [] ready out h c w k p e r = absurd (h refl)
 line_said (x ∷ line) ready out h c w k p e r = rw (ne_eqb x 0x23 c, le-ltb 4095 (length (x ∷ line)) w, ← e) r
 
-pub ruleset line-rules = (line_none, line_comment, line_long, line_said, command_is, answer_is)
+pub ruleset line_rules = (line_none, line_comment, line_long, line_said, command_is, answer_is)

@@ -196,7 +196,7 @@ pub list_read :
     → a ≡ b → z ≡ counted b f → lent z left ≡ saying (listing (drop 2 (fields line)) out) f
 list_read line rest out left e f z a b l k r = rw (fields_from_two line, ← e, ← l, k, r)
 
-pub ruleset listing-rules = (room_none, room_enough, list_read)
+pub ruleset listing_rules = (room_none, room_enough, list_read)
 
 -- what stands behind a space is no longer than the line
 pub behind_le : (n : ℕ) (l : List ℕ) → length (behind n l) ≤ length l

@@ -65,7 +65,7 @@ module _ (c : Console) (said : Line) (text octets : List ℕ) where
   unfolding notes
   fits_note k = rw (noted_is c text octets said k) (noted_fits _)
 
-pub ruleset fits-rules = (fits_hear, fits_send, fits_show, fits_give_up, fits_readings, fits_vet, fits_set_up, fits_note)
+pub ruleset fits_rules = (fits_hear, fits_send, fits_show, fits_give_up, fits_readings, fits_vet, fits_set_up, fits_note)
 
 -- ---- what fits stands whole behind the others
 pub put_whole : (text out : List ℕ) (end : ℕ) → Fits text → 8192 ≤ length out → behind_answers text (lent end out) ≡ putting text out (freed (length out) end)

@@ -155,4 +155,4 @@ pub shown_fits : (r : Receiver) → length r.cache.entries ≡ cache_entries →
 unfolding shows
 shown_fits r h1 h2 h3 = receiver_fits r (omega (arith, h1)) (omega (arith, h2)) (omega (arith, h3))
 
-pub ruleset sent-rules = (sent_access, sent_control, sent_segment, sent_acknowledgement)
+pub ruleset sent_rules = (sent_access, sent_control, sent_segment, sent_acknowledgement)

@@ -133,6 +133,6 @@ module _ (out : List ℕ) (at n : ℕ) (o : List ℕ) where
     step_note d k e =
         rw (noted_is c text octets said k) (put_part out at n o (λ (x : Desk). console x c.receiver) d _ e)
 
-pub ruleset set-up-rules = (set_up_ready, set_up_refused)
+pub ruleset set_up_rules = (set_up_ready, set_up_refused)
 
-pub ruleset step-rules = (step_hear, step_send, step_give_up, step_show, step_readings, step_vet, step_set_up, step_note)
+pub ruleset step_rules = (step_hear, step_send, step_give_up, step_show, step_readings, step_vet, step_set_up, step_note)

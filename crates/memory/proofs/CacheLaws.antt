@@ -48,7 +48,7 @@ module _ (a b : Seen) where
     pub same_number : a.seq ≡ b.seq → eqb a.iv b.iv ≡ same_seen a b
     same_number q = rw (eq-eqb a.src b.src e, eq-eqb a.seq b.seq q)
 
-pub ruleset same-rules = (other_source, other_number, same_number)
+pub ruleset same_rules = (other_source, other_number, same_number)
 
 -- ---- what is seen stands at a place
 module _ (c : Cache) (k : Header) where

@@ -41,7 +41,7 @@ module _ (s : Session) (own : ℕ) (room : Bool) (seg : Segment) (t : Bool) (e :
       unfolding joining
       joins_new h = rw (← e, not-false t h1, not-false room h2, ← eb, h)
 
-pub ruleset joining-rules = (joins_differing, joins_unlisted, joins_again, joins_new)
+pub ruleset joining_rules = (joins_differing, joins_unlisted, joins_again, joins_new)
 
 -- ---- it replaces a session, or opens one
 module _ (e : Entry) (room : Bool) (auth : Pair) (t : Bool) (et : t ≡ stale e auth) where
@@ -83,9 +83,9 @@ module _ (e : Entry) (room : Bool) (auth : Pair) (t : Bool) (et : t ≡ stale e 
         unfolding opening
         opens_none h = rw (← et, h1, not-false room h2, le-ltb free session_slots h)
 
-pub ruleset replacing-rules = (replaces_stale, replaces_newer, replaces_unlisted, replaces_older)
+pub ruleset replacing_rules = (replaces_stale, replaces_newer, replaces_unlisted, replaces_older)
 
-pub ruleset opening-rules = (opens_stale, opens_unlisted, opens_free, opens_none)
+pub ruleset opening_rules = (opens_stale, opens_unlisted, opens_free, opens_none)
 
 -- ---- which of them
 module _ (replay : List Entry) (sessions : List Session) (src : ℕ) (seg : Segment) {e : Entry} (ee : e ≡ look_up replay src) where
@@ -108,7 +108,7 @@ module _ (replay : List Entry) (sessions : List Session) (src : ℕ) (seg : Segm
       unfolding decision_by
       of_none h2 {free} f q = rw (← ee, ← eb, h1, ← ek, ← eo, le-ltb own session_slots h2, ← er, ← f, q)
 
-pub ruleset decision-rules = (of_last, of_session, of_another, of_none)
+pub ruleset decision_rules = (of_last, of_session, of_another, of_none)
 
 -- ---- how a decision is given
 abbrev read : Paper Word → Decision

@@ -41,7 +41,7 @@ module _ (out : Outgoing) (h : Header) (obo : Bool) (seq_zero : ℕ) where
         unfolding fits_outgoing
         fits_by_source e = rw (ne_eqb out.src 0 h1, eq-eqb h.dst out.src h2, eq-eqb seq_zero (out.auth.seq % 8192) h3, e)
 
-pub ruleset fits-rules = (fits_none, fits_other_dst, fits_other_zero, fits_on_behalf, fits_by_source)
+pub ruleset fits_rules = (fits_none, fits_other_dst, fits_other_zero, fits_on_behalf, fits_by_source)
 
 -- ---- its effect
 module _ (out : Outgoing) (h : Header) (obo : Bool) (seq_zero bits : ℕ) {f : Bool} (e : f ≡ fits_outgoing out h obo seq_zero) where
@@ -68,7 +68,7 @@ module _ (out : Outgoing) (h : Header) (obo : Bool) (seq_zero bits : ℕ) {f : B
         unfolding acknowledging
         heard_some t = rw (← e, not-false f h1, ne_eqb bits 0 h2, ← eh, ← ea, ne_eqb heard all h3, ne_eqb heard out.heard t)
 
-pub ruleset acknowledging-rules = (heard_unfit, heard_zero, heard_all_law, heard_again, heard_some)
+pub ruleset acknowledging_rules = (heard_unfit, heard_zero, heard_all_law, heard_again, heard_some)
 
 -- ---- what it leaves of the message: it, with other segments heard, or none
 pub by_acknowledging :

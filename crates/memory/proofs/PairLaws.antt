@@ -35,8 +35,8 @@ module _ (a b : Pair) where
     unfolding greater
     greater_other t = rw (← e, t)
 
-pub ruleset newer-rules = (newer_by_seq, newer_by_iv)
+pub ruleset newer_rules = (newer_by_seq, newer_by_iv)
 
-pub ruleset same-rules = (same_by_seq, same_other_iv)
+pub ruleset same_rules = (same_by_seq, same_other_iv)
 
-pub ruleset greater-rules = (greater_newer, greater_other)
+pub ruleset greater_rules = (greater_newer, greater_other)

@@ -90,7 +90,7 @@ module _ (l : List Entry) (p : ℕ) (e : Entry) (i : ℕ) where
     unfolding shifted_at
     shift_above k = rw (le-ltb i p h, ne_eqb i p k)
 
-pub ruleset shift-rules = (shift_below, shift_here, shift_above)
+pub ruleset shift_rules = (shift_below, shift_here, shift_above)
 
 -- ---- an entry goes in
 module _ (l : List Entry) (e : Entry) where
@@ -132,9 +132,9 @@ module _ (e : Entry) (pair : Pair) where
     unfolding raised
     raise_held p ep = rw (ne_eqb e.src 0 h, ep)
 
-pub ruleset stale-rules = (stale_none, stale_held)
+pub ruleset stale_rules = (stale_none, stale_held)
 
-pub ruleset raise-rules = (raise_none, raise_held)
+pub ruleset raise_rules = (raise_none, raise_held)
 
 -- ---- the last segmented message handed up
 module _ (last : Last) (auth : Pair) (seg_n dst : ℕ) where
@@ -156,4 +156,4 @@ module _ (last : Last) (auth : Pair) (seg_n dst : ℕ) where
       unfolding is_last
       last_by_dst h = rw (ne_eqb last.dst 0 h1, ← e, not-false s h2, eq-eqb last.segn seg_n h)
 
-pub ruleset last-rules = (last_none, last_other_pair, last_other_segn, last_by_dst)
+pub ruleset last_rules = (last_none, last_other_pair, last_other_segn, last_by_dst)

@@ -64,7 +64,7 @@ module _ (a b : Terms) where
           pub same_by_key : a.dst ≡ b.dst → eqb a.key b.key ≡ same_terms a b
           same_by_key h = rw (same_front, eq-eqb a.segn b.segn h4, eq-eqb a.dst b.dst h)
 
-pub ruleset terms-rules = (other_ctl, other_first, other_szmic, other_segn, other_dst, same_by_key)
+pub ruleset terms_rules = (other_ctl, other_first, other_szmic, other_segn, other_dst, same_by_key)
 
 -- ---- where the octets of a segment begin
 module _ (ctl : Bool) (seg_o : ℕ) where
@@ -81,7 +81,7 @@ module _ (ctl : Bool) (seg_o : ℕ) where
   unfolding octet_place
   place_most = by_test ctl (λ t. rw t (omega arith)) (λ t. rw t (omega arith))
 
-pub ruleset place-rules = (place_control, place_access)
+pub ruleset place_rules = (place_control, place_access)
 
 -- ---- the octets of a segment, in a transport PDU of `len` octets
 module _ (t : List ℕ) (len : ℕ) where

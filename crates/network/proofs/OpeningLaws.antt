@@ -54,7 +54,7 @@ module _ (s : Found) where
     unfolding judged
     judge_opened f = rw (not-false s.ok t, ← eb, f)
 
-pub ruleset judge-rules = (judge_forged, judge_address, judge_opened)
+pub ruleset judge_rules = (judge_forged, judge_address, judge_opened)
 
 -- how many keys have a PDU's NID
 abbrev of_nid : List NetworkKeys → ℕ → List ℕ → ℕ
@@ -98,4 +98,4 @@ module _ (keys : List NetworkKeys) (count current : ℕ) (pdu : List ℕ) {r : O
               let n : of_nid keys count pdu ≡ 0 → ⊥ = λ m. z (ap (λ (f : Found). f.trials) q ∙ trials_none keys count (get_or pdu 0 0 % 128) iv pdu m) in
               rw (le-ltb (length pdu) 14 low, le-ltb pdu_octets (length pdu) high, ne_eqb (of_nid keys count pdu) 0 n, ← ex, i, ← q) e
 
-pub ruleset open-rules = (open_short, open_long, open_no_index, open_no_candidate, open_judged)
+pub ruleset open_rules = (open_short, open_long, open_no_index, open_no_candidate, open_judged)

@@ -64,7 +64,7 @@ module _ (key : NetworkKeys) (h : Header) where
           sealable_by_length l em =
               simp (le-leb key.nid 127 n, le-leb h.ttl 127 t, le-leb h.seq 0xFFFFFF s, ← e, not-false ok f, le-leb 1 h.len l, em)
 
-pub ruleset sealable-rules = (sealable_nid_high, sealable_ttl_high, sealable_seq_high, sealable_address, sealable_empty, sealable_by_length)
+pub ruleset sealable_rules = (sealable_nid_high, sealable_ttl_high, sealable_seq_high, sealable_address, sealable_empty, sealable_by_length)
 
 -- ---- the body, written from octet 7 on, where it has 22 octets at most
 pub body_most : (ctl : Bool) (len : ℕ) → len ≤ most_transport ctl → (len ≤ 16) × (2 + len + (if ctl then 8 else 4) ≤ 22)
@@ -231,4 +231,4 @@ module _ (keys : List NetworkKeys) (h : Header) (out : List ℕ) where
     unfolding forwarding
     forward_sealed l el er = simp (le-ltb (length out) pdu_octets room, lt-ltb h.key network_key_places l) (er ∙ ap (λ (z : Header). sealing (key_at keys h.key) z out) el)
 
-pub ruleset forward-rules = (forward_short, forward_no_key, forward_sealed)
+pub ruleset forward_rules = (forward_short, forward_no_key, forward_sealed)

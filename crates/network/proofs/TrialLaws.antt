@@ -206,4 +206,4 @@ module _ (key : NetworkKeys) (place iv : ℕ) (pdu : List ℕ) {front : List ℕ
         eh ∙ ap (header_of place iv front) (body_taken n t (rw ec at en)) in
         rw k (sym (rw (body_answer ∙ t) at tried_long))
 
-pub ruleset tried-rules = (tried_short, tried_forged, tried_done)
+pub ruleset tried_rules = (tried_short, tried_forged, tried_done)

@@ -20,4 +20,4 @@ module _ (p q b : Bool) (e : b ≡ p) where
   pub part_right : (z : Bool) → not b ≡ false → z ≡ q → z ≡ p && q
   part_right z t k = rw (← e, not-false b t) k
 
-pub ruleset valid-rules = (bound_over, bound_within_law, part_wrong, part_right)
+pub ruleset valid_rules = (bound_over, bound_within_law, part_wrong, part_right)

@@ -149,4 +149,4 @@ module _ (key out : List ℕ) where
         simp (eq-eqb _ _ h, le-ltb _ _ g)
         (ap (lent 0) (el ∙ ap (λ (z : List ℕ). onto z out) (take_all (length out) c (omega arith) ∙ e)))
 
-pub ruleset credentials-rules = (bad_key, no_room, credential_written)
+pub ruleset credentials_rules = (bad_key, no_room, credential_written)

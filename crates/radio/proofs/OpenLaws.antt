@@ -87,4 +87,4 @@ module _ (credentials : List ℕ) (iv : ℕ) (pdu out : List ℕ) where
           let eb = ap (λ (w : Lent ℕ). w.buffer) ew ∙ ap (λ (x : ℕ). onto (clear_pdu x o.header) out) ef in
           rw (er, el, eb) (rw (eq-eqb (number_of (paper o.answer)) 0 (sym en ∙ z)) at open_told)
 
-pub ruleset open-rules = (open_short, pdu_short, pdu_long, pdu_foreign, open_refused, open_written)
+pub ruleset open_rules = (open_short, pdu_short, pdu_long, pdu_foreign, open_refused, open_written)

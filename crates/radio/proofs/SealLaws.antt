@@ -75,4 +75,4 @@ module _ (credential : List ℕ) (iv ctl ttl seq src dst : ℕ) (transport out :
           simp (le-ltb _ _ room, eq-eqb _ _ whole, le-ltb _ _ h)
           (rw er (ap (λ (z : Lent Answer). lent (seal_number z.answer) z.buffer) q))
 
-pub ruleset seal-rules = (seal_short, bad_credential, bad_ctl, seal_told)
+pub ruleset seal_rules = (seal_short, bad_credential, bad_ctl, seal_told)

@@ -25,7 +25,7 @@ module _ (s : Setup) (m : Made) (e : m ≡ making s) (r : Receiver) (er : r ≡ 
   unfolding setting_up
   set_up_refused k = rw (← e, er, k)
 
-pub ruleset set-up-rules = (set_up_ready, set_up_refused)
+pub ruleset set_up_rules = (set_up_ready, set_up_refused)
 
 module _ (r : Receiver) (src : ℕ) where
   pub give_up_zero : src ≡ 0 → record { answer = give-up-answer.Refused OutsideRules; receiver = r } ≡ giving_up r src
@@ -43,4 +43,4 @@ module _ (r : Receiver) (src : ℕ) where
     unfolding giving_up
     give_up_none h = rw (ne_eqb src 0 z, ← e, le-ltb slot session_slots h)
 
-pub ruleset give-up-rules = (give_up_zero, give_up_done, give_up_none)
+pub ruleset give_up_rules = (give_up_zero, give_up_done, give_up_none)

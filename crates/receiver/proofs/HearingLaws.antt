@@ -52,7 +52,7 @@ module _ (node : Node) (h : Header) (fwd : List ℕ) (local : Bool) (el : local 
     unfolding relayed
     relayed_short k = rw (← el, ← eo, not-false on t, ← ea, k)
 
-pub ruleset relayed-rules = (relayed_not, relayed_sealed, relayed_outside, relayed_short)
+pub ruleset relayed_rules = (relayed_not, relayed_sealed, relayed_outside, relayed_short)
 
 -- ---- by the transport form
 module _ (r : Receiver) (h : Header) (msg : List ℕ) (f : Form) (e : f ≡ form_of h) (t : Taken) (left : List ℕ) where
@@ -84,7 +84,7 @@ module _ (r : Receiver) (h : Header) (msg : List ℕ) (f : Form) (e : f ≡ form
     unfolding taken_as_by
     form_control_segment k = rw (← e, k, ← ef) et
 
-pub ruleset form-rules = (form_wrong, form_access, form_control, form_acknowledgement)
+pub ruleset form_rules = (form_wrong, form_access, form_control, form_acknowledgement)
 
 -- ---- 6
 module _ (r : Receiver) (h : Header) (msg : List ℕ) (ours : Bool) (e : ours ≡ for_node r.node h.dst) (t : Taken) where
@@ -96,7 +96,7 @@ module _ (r : Receiver) (h : Header) (msg : List ℕ) (ours : Bool) (e : ours �
   unfolding taken_by
   taken_not k et = rw (← e, k, et)
 
-pub ruleset taken-rules = (taken_ours, taken_not)
+pub ruleset taken_rules = (taken_ours, taken_not)
 
 -- ---- cached, forwarded, taken
 pub passed_is :
@@ -122,7 +122,7 @@ module _ (r : Receiver) (h : Header) (trials : ℕ) (fwd msg : List ℕ) (t : He
     unfolding voiced_by uncached_by
     voiced_new k fwd' msg' et = rw (← e, other, ← f, k) et
 
-pub ruleset voiced-rules = (voiced_own, voiced_seen, voiced_new)
+pub ruleset voiced_rules = (voiced_own, voiced_seen, voiced_new)
 
 -- ---- 16, 1 to 4
 module _ (r : Receiver) (pdu fwd msg : List ℕ) (t : Heard) where
@@ -158,4 +158,4 @@ module _ (r : Receiver) (pdu fwd msg : List ℕ) (t : Heard) where
       unfolding hearing_by opened_as_by
       hear_opened k fwd' msg' et = rw (le-ltb (length fwd) pdu_octets lf, le-ltb (length msg) message_octets lm, ← e, k) et
 
-pub ruleset hear-rules = (hear_short_forward, hear_short_message, hear_length, hear_candidate, hear_authentic, hear_address, hear_opened)
+pub ruleset hear_rules = (hear_short_forward, hear_short_message, hear_length, hear_candidate, hear_authentic, hear_address, hear_opened)

@@ -114,7 +114,7 @@ module _ (r : Receiver) (s : Session) (msg : List ℕ) (o : Opened) (left : List
   unfolding access_up_by access_up_as_by
   up_short k t et = rw (← e, k, et)
 
-pub ruleset up-rules = (up_message, up_not, up_short)
+pub ruleset up_rules = (up_message, up_not, up_short)
 
 -- ---- stored, or complete
 module _ (r : Receiver) (slot : ℕ) (s : Session) (msg : List ℕ) (whole : Bool) (e : whole ≡ complete s) where
@@ -135,7 +135,7 @@ module _ (r : Receiver) (slot : ℕ) (s : Session) (msg : List ℕ) (whole : Boo
     gathered_access c eu =
         rw (← e, not-false whole t, ← ef, ← eq) (eu ∙ sym (ap (λ (b : Bool). if b then control_up q s msg else access_up q s msg) c))
 
-pub ruleset gathered-rules = (gathered_stored, gathered_control, gathered_access)
+pub ruleset gathered_rules = (gathered_stored, gathered_control, gathered_access)
 
 -- ---- by the decision
 module _ (r : Receiver) (h : Header) (seg : Segment) (msg : List ℕ) (d : Decision) (e : d ≡ decision r.replay r.sessions h.src seg) where
@@ -172,7 +172,7 @@ module _ (r : Receiver) (h : Header) (seg : Segment) (msg : List ℕ) (d : Decis
     unfolding placed_by placed_as_by
     placed_open k s es f ef eu = rw (← e, k, ← es, ← ef) eu
 
-pub ruleset placed-rules = (placed_stale, placed_differs, placed_no_entry, placed_no_slot, placed_repeat, placed_join, placed_open)
+pub ruleset placed_rules = (placed_stale, placed_differs, placed_no_entry, placed_no_slot, placed_repeat, placed_join, placed_open)
 
 -- a segment joins or opens a session in one of the eight slots
 pub join_slot :
@@ -202,4 +202,4 @@ module _ (r : Receiver) (h : Header) (fields : SegmentFields) (msg : List ℕ) (
   unfolding segmented_by segmented_as_by
   segmented_at auth k seg es u left eu = rw (← e, k, ← es) eu
 
-pub ruleset segmented-rules = (segmented_nowhere, segmented_at)
+pub ruleset segmented_rules = (segmented_nowhere, segmented_at)

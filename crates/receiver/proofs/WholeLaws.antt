@@ -51,7 +51,7 @@ module _ (replay : List Entry) (h : Header) (e : Entry) (ee : e ≡ look_up repl
     unfolding admission_by
     admission_full f = rw (← ee, ← el, t, ← er, f)
 
-pub ruleset admission-rules = (admission_replayed, admission_admitted, admission_full)
+pub ruleset admission_rules = (admission_replayed, admission_admitted, admission_full)
 
 -- ---- what an admission leaves
 module _ {A : Type 0} {a b : Admission} (refuse : Refusal → A) (t : A) (e : a ≡ b) where
@@ -110,11 +110,11 @@ module _ (r : Receiver) (h : Header) (a : Admission) (e : a ≡ admission r.repl
     unfolding whole_acknowledgement_by
     ack_admitted k et = et ∙ unless_admitted _ _ e k
 
-pub ruleset access-rules = (access_replayed, access_full, access_admitted)
+pub ruleset access_rules = (access_replayed, access_full, access_admitted)
 
-pub ruleset control-rules = (control_replayed, control_full, control_admitted)
+pub ruleset control_rules = (control_replayed, control_full, control_admitted)
 
-pub ruleset ack-rules = (ack_replayed, ack_full, ack_admitted)
+pub ruleset ack_rules = (ack_replayed, ack_full, ack_admitted)
 
 -- ---- an acknowledgement acts
 pub acted_is :
@@ -184,4 +184,4 @@ module _ (r : Receiver) (h : Header) {o : Opened} {left : List ℕ} {u : Lent Op
   unfolding opened_whole_by opened_as_by
   opened_short k t et = rw (← e, k, et)
 
-pub ruleset opened-rules = (opened_message, opened_not, opened_short)
+pub ruleset opened_rules = (opened_message, opened_not, opened_short)

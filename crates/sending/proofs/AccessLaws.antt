@@ -68,9 +68,9 @@ module _ (node : Node) (key : MessageKey) where
     pub key_device : key ≡ Device → (u : Bool) → u ≡ to_unicast q.dst → u ≡ key_allowed node q key
     key_device k u e = rw (k, e)
 
-pub ruleset used-rules = (used_application, used_past, used_device)
+pub ruleset used_rules = (used_application, used_past, used_device)
 
-pub ruleset key-rules = (key_past, key_absent, key_bound, key_device)
+pub ruleset key_rules = (key_past, key_absent, key_bound, key_device)
 
 -- ---- the size
 module _ (szmic : Bool) (len : ℕ) where
@@ -95,9 +95,9 @@ module _ (szmic : Bool) (len : ℕ) where
     unfolding size_allowed
     size_four t = rw (le-leb 1 len h, t)
 
-pub ruleset whole-rules = (whole_short, whole_long)
+pub ruleset whole_rules = (whole_short, whole_long)
 
-pub ruleset size-rules = (size_none, size_eight, size_four)
+pub ruleset size_rules = (size_none, size_eight, size_four)
 
 -- ---- not 14
 module _ (r : Receiver) (q : Request) (key : MessageKey) (szmic : Bool) (len : ℕ) (a : Bool) (ea : a ≡ request_allowed r.node q) where
@@ -124,7 +124,7 @@ module _ (r : Receiver) (q : Request) (key : MessageKey) (szmic : Bool) (len : �
         unfolding access_allowed
         allowed_kept t = rw (← ea, not-false a ta, ← eb, not-false b tb, ← ec, not-false c tc, ← ed, t)
 
-pub ruleset allowed-rules = (allowed_request, allowed_key, allowed_size, allowed_whole, allowed_kept)
+pub ruleset allowed_rules = (allowed_request, allowed_key, allowed_size, allowed_whole, allowed_kept)
 
 -- ---- what an allowed request has
 pub request_element : (node : Node) (q : Request) → request_allowed node q ≡ true → q.element < element_places
@@ -183,7 +183,7 @@ module _ (ctl : Bool) (len : ℕ) where
   pub cast_twelve : len ≤ 32 * full_octets ctl → ctl ≡ false → (len - 1) / 12 < 256
   cast_twelve h t = let m : len ≤ message_octets = rw t at h in omega arith
 
-pub ruleset segments-rules = (segments_none, segments_eight, segments_twelve)
+pub ruleset segments_rules = (segments_none, segments_eight, segments_twelve)
 
 -- there are no more labels than places
 label_past : (node : Node) (j : ℕ) → label_places ≤ j → length node.labels ≡ label_places → label_at node.labels j ≡ no_label
@@ -299,7 +299,7 @@ module _ (r : Receiver) (q : Request) (key : MessageKey) (szmic : Bool) (payload
     unfolding sending_access
     send_said t left es = rw (le-ltb (length buf) pdu_octets h, ← ea, not-false a t) es
 
-pub ruleset send-rules = (send_short, send_outside, send_said)
+pub ruleset send_rules = (send_short, send_outside, send_said)
 
 module _ (r : Receiver) (q : Request) (key : MessageKey) (szmic : Bool) (payload buf : List ℕ) (s : Spoken) (left : List ℕ)
     (k : KeyUsed) (ek : k ≡ keyed r.node key) (e : Envelope) (ee : e ≡ envelope_of r q k szmic) (w : Bool) (ew : w ≡ is_whole szmic (length payload)) where
@@ -315,7 +315,7 @@ module _ (r : Receiver) (q : Request) (key : MessageKey) (szmic : Bool) (payload
   unfolding saying_access
   say_begun tw o eo es = rw (← ew, tw, ← ek, ← ee, ← eo) es
 
-pub ruleset say-rules = (say_whole, say_begun)
+pub ruleset say_rules = (say_whole, say_begun)
 
 -- a message that goes whole has the 4-octet TransMIC
 pub whole_plain :

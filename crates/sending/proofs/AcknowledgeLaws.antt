@@ -50,7 +50,7 @@ module _ (replay : List Entry) (sessions : List Session) (src : ℕ) where
     unfolding chosen_by
     chosen_last h e ee bits eb = rw (ne_eqb src 0 z, ← ei, le-ltb i session_slots h, eb, ← ee)
 
-pub ruleset chosen-rules = (chosen_none, chosen_session, chosen_last)
+pub ruleset chosen_rules = (chosen_none, chosen_session, chosen_last)
 
 -- ---- its header
 pub header_is :
@@ -107,4 +107,4 @@ module _ (r : Receiver) (network src : ℕ) (buf : List ℕ) (s : Spoken) where
           ack_said m left es =
               rw (le-ltb (length buf) pdu_octets h, lt-ltb network (min r.node.networks network_key_places) here, ← ec, ← eu, not-false u tu, ← el, lt-ltb element element_places m) es
 
-pub ruleset ack-rules = (ack_short, ack_past, ack_absent, ack_not_unicast, ack_no_element, ack_said)
+pub ruleset ack_rules = (ack_short, ack_past, ack_absent, ack_not_unicast, ack_no_element, ack_said)

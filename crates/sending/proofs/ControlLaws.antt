@@ -65,7 +65,7 @@ module _ (r : Receiver) (q : Request) (opcode len : ℕ) (a : Bool) (ea : a ≡ 
             unfolding control_allowed
             allowed_kept h = rw (← ea, not-false a ta, ← eb, not-false b tb, le-leb 1 opcode h1, le-leb opcode 0x7F h2, le-leb len 256 h3, lt-leb len 11 h)
 
-pub ruleset allowed-rules = (allowed_request, allowed_label, allowed_no_opcode, allowed_high_opcode, allowed_long, allowed_whole, allowed_kept)
+pub ruleset allowed_rules = (allowed_request, allowed_label, allowed_no_opcode, allowed_high_opcode, allowed_long, allowed_whole, allowed_kept)
 
 -- ---- what an allowed request has
 module _ (r : Receiver) (q : Request) (opcode len : ℕ) (a : Bool) (e : a ≡ control_allowed r q opcode len) (t : not a ≡ false) where
@@ -146,6 +146,6 @@ module _ (r : Receiver) (q : Request) (opcode : ℕ) (parameters buf : List ℕ)
     unfolding saying_control
     say_begun h o eo es = rw (lt-leb (length parameters) 11 h, ← eo) es
 
-pub ruleset send-rules = (send_short, send_outside, send_said)
+pub ruleset send_rules = (send_short, send_outside, send_said)
 
-pub ruleset say-rules = (say_whole, say_begun)
+pub ruleset say_rules = (say_whole, say_begun)

@@ -52,7 +52,7 @@ module _ (node : Node) (d : Destination) where
         (λ t. rw (k, t, lt-ltb j (min node.labelled label_places) (omega (arith, ltb-true j node.labelled t))))
         (λ t. rw (k, t, le-ltb j (min node.labelled label_places) (omega (arith, ltb-false j node.labelled t))))
 
-pub ruleset destination-rules = (allowed_address, allowed_past, allowed_label)
+pub ruleset destination_rules = (allowed_address, allowed_past, allowed_label)
 
 -- a unicast address
 pub unicast_address : (d : Destination) (a : ℕ) → d ≡ Address a → (u : Bool) → u ≡ is_unicast a → u ≡ to_unicast d
@@ -103,4 +103,4 @@ module _ (node : Node) (q : Request) where
               )
               ea
 
-pub ruleset request-rules = (request_element_high, request_no_element, request_network_high, request_no_network, request_no_destination, request_ttl)
+pub ruleset request_rules = (request_element_high, request_no_element, request_network_high, request_no_network, request_no_destination, request_ttl)

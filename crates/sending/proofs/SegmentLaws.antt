@@ -181,7 +181,7 @@ module _ (r : Receiver) (element : ℕ) (o : Outgoing) (buf : List ℕ) (h : Hea
   unfolding starting
   start_unsealed k s es = rw (← eh, ← et, k, es)
 
-pub ruleset start-rules = (start_sent, start_no_seq, start_unsealed)
+pub ruleset start_rules = (start_sent, start_no_seq, start_unsealed)
 
 -- ---- the element that has an address
 module _ (node : Node) (a : ℕ) (b : Bool) (e : b ≡ is_local node a) where
@@ -221,7 +221,7 @@ module _ (r : Receiver) (element n : ℕ) where
         unfolding segment_allowed
         segment_near t c ec = rw (ne_eqb r.out.src 0 z, le-leb n r.out.terms.segn h, le-leb n 31 k, ← e, t) ec
 
-pub ruleset segment-rules = (segment_none_kept, segment_past, segment_high, segment_heard, segment_near)
+pub ruleset segment_rules = (segment_none_kept, segment_past, segment_high, segment_heard, segment_near)
 
 -- one that may be sent is below 32
 pub segment_below : (r : Receiver) (element n : ℕ) (b : Bool) → b ≡ segment_allowed r element n → not b ≡ false → n < 32
@@ -255,4 +255,4 @@ module _ (r : Receiver) (n : ℕ) (buf : List ℕ) where
       unfolding sending_segment
       send_done f d ed t left et s es = rw (le-ltb (length buf) pdu_octets h, ← ee, lt-ltb element element_places k, ← eb, not-false b f, ← ed, ← et, es)
 
-pub ruleset send-rules = (send_short, send_no_element, send_not_allowed, send_done)
+pub ruleset send_rules = (send_short, send_no_element, send_not_allowed, send_done)

@@ -51,7 +51,7 @@ module _ (r : Receiver) (element : ℕ) (h : Header) (buf : List ℕ) where
       unfolding transmitted sent_as
       transmit_short c = rw (le-ltb 0xFFFFFF (next_seq r element) n, lt-ltb h.key network_key_places k, ← es, ← ea, c)
 
-pub ruleset transmit-rules = (transmit_no_seq, transmit_no_key, transmit_sent, transmit_outside, transmit_short)
+pub ruleset transmit_rules = (transmit_no_seq, transmit_no_key, transmit_sent, transmit_outside, transmit_short)
 
 -- the address is all that the stamp computes
 pub stamp_is :
@@ -85,7 +85,7 @@ module _ (t : Transmitted) where
   unfolding spoken
   spoken_unsealed k s e = rw k e
 
-pub ruleset spoken-rules = (spoken_sent, spoken_no_seq, spoken_unsealed)
+pub ruleset spoken_rules = (spoken_sent, spoken_no_seq, spoken_unsealed)
 
 -- ---- 14, or given up
 module _ (r : Receiver) where
@@ -99,4 +99,4 @@ module _ (r : Receiver) where
   unfolding stopping
   stop_done z o eo q eq = rw (ne_eqb r.out.src 0 z, eq, eo)
 
-pub ruleset stop-rules = (stop_none, stop_done)
+pub ruleset stop_rules = (stop_none, stop_done)

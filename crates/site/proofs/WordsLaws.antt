@@ -94,8 +94,8 @@ module _ (out : List ℕ) (at r : ℕ) (o : List ℕ) where
     unfolding answer_text
     answer_acknowledgement src bits f k e = rw k e
 
-pub ruleset said-rules = (said_sent, said_started, said_refused)
+pub ruleset said_rules = (said_sent, said_started, said_refused)
 
-pub ruleset effect-rules = (effect_nothing, effect_marked, effect_completed, effect_cancelled)
+pub ruleset effect_rules = (effect_nothing, effect_marked, effect_completed, effect_cancelled)
 
-pub ruleset answer-rules = (answer_refused, answer_stored, answer_repeated, answer_access, answer_control, answer_acknowledgement)
+pub ruleset answer_rules = (answer_refused, answer_stored, answer_repeated, answer_access, answer_control, answer_acknowledgement)

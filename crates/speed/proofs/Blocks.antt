@@ -37,4 +37,4 @@ module _ (key block : List ℕ) (times : ℕ) where
         let w = onto_whole b block (n ∙ sym g) in
         simp (eq-eqb _ _ h, eq-eqb _ _ g) (ap (lent 0) (cc))
 
-pub ruleset blocks-rules = (bad_key, bad_block, blocks_done_law)
+pub ruleset blocks_rules = (bad_key, bad_block, blocks_done_law)

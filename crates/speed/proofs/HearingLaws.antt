@@ -26,7 +26,7 @@ held_free src h = simp (eq-eqb _ _ h)
 pub held_kept : (src : ℕ) → (src ≡ 0 → ⊥) → 1 ≡ held src
 held_kept src h = simp (ne_eqb _ _ h)
 
-pub ruleset held-rules = (held_free, held_kept)
+pub ruleset held_rules = (held_free, held_kept)
 
 -- ---- one turn more
 pub heard_more :
@@ -87,8 +87,8 @@ module _ (keys : List ℕ) (first iv : ℕ) (pdus msg : List ℕ) where
   unfolding heard_all
   row_heard h er ek en = simp (eq-eqb _ _ h, ← er, ← ek) en
 
-pub ruleset heard-rules = (no_keys, heard)
+pub ruleset heard_rules = (no_keys, heard)
 
-pub ruleset row-rules = (no_keys_row, row_heard)
+pub ruleset row_rules = (no_keys_row, row_heard)
 
-pub ruleset opened-rules = (no_keys_open, opened_all)
+pub ruleset opened_rules = (no_keys_open, opened_all)

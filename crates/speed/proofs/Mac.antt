@@ -33,4 +33,4 @@ module _ (key message out : List ℕ) where
         let m : mac ≡ cmac (key_schedule key) message = cc in
         simp (eq-eqb _ _ h, le-ltb _ _ g) (ap (lent 0) (q ∙ w ∙ ap (λ (z : List ℕ). onto z out) m))
 
-pub ruleset mac-rules = (bad_key, no_room, mac_done_law)
+pub ruleset mac_rules = (bad_key, no_room, mac_done_law)

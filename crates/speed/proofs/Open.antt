@@ -35,4 +35,4 @@ module _ (key nonce sealed out : List ℕ) where
       pub not_opened : b ≡ false → lent 1 left ≡ open_done key nonce sealed out
       not_opened t = ap (λ (z : Bool). lent (if z then 0 else 1) left) (sym t) ∙ opened_or_not
 
-pub ruleset open-rules = (bad_key, bad_nonce, opened, not_opened)
+pub ruleset open_rules = (bad_key, bad_nonce, opened, not_opened)

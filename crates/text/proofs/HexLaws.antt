@@ -85,7 +85,7 @@ module _ (text out : List ℕ) (dash : Bool) (e : dash ≡ same text (45 ∷ [])
           reading_some h =
               rw (← e, h1, ne_eqb (length text / 2) 0 h2, ne_eqb (length text % 2) 1 h3, le-ltb (length out) (length text / 2) h4, ← p, h)
 
-pub ruleset reading-rules = (reading_dash, reading_none, reading_odd, reading_no_room, reading_all, reading_some)
+pub ruleset reading_rules = (reading_dash, reading_none, reading_odd, reading_no_room, reading_all, reading_some)
 
 -- ---- the pairs from i on
 module _
@@ -154,7 +154,7 @@ module _ (text out left : List ℕ) (a : Octets) (same_length : length left ≡ 
   unfolding filling
   filling_none k = rw (← p, k)
 
-pub ruleset filling-rules = (filling_count, filling_none)
+pub ruleset filling_rules = (filling_count, filling_none)
 
 -- ---- octets, written
 pairs_append : (a b : List ℕ) → pairs (a ++ b) ≡ pairs a ++ pairs b

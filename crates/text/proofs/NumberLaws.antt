@@ -81,7 +81,7 @@ module _ (most : ℕ) (text : List ℕ) (a : Number) (e : a ≡ number_of text) 
   pub most_none : a ≡ NotHex → NotHex ≡ at_most most Value NotHex (number_of text)
   most_none k = rw (← e, k)
 
-pub ruleset most-rules = (most_within, most_above, most_none)
+pub ruleset most_rules = (most_within, most_above, most_none)
 
 -- ---- what is made of a choice, and of a number that is at most so much, is made on either way
 pub if_map : {A B : Type 0} (g : A → B) (b : Bool) (x y : A) → g (if b then x else y) ≡ (if b then g x else g y)

@@ -36,7 +36,7 @@ module _ (seg_o seg_n n full : ℕ) where
       unfolding segment_fits
       fits_full h = rw (le-leb 5 n h1, le-leb seg_o seg_n h2, ne_eqb seg_o seg_n h)
 
-pub ruleset segment-fits-rules = (fits_short, fits_past_last, fits_last, fits_full)
+pub ruleset segment_fits_rules = (fits_short, fits_past_last, fits_last, fits_full)
 
 -- ---- its fields
 pub fields_are :
@@ -60,7 +60,7 @@ module _ (aid dst : ℕ) where
     unfolding key_fits
     key_other_aid h = rw (h1, ne_eqb aid 0 h)
 
-pub ruleset key-fits-rules = (key_application, key_device, key_other_aid)
+pub ruleset key_fits_rules = (key_application, key_device, key_other_aid)
 
 -- ---- CTL 0
 module _ (h : Header) where
@@ -91,9 +91,9 @@ module _ (h : Header) where
       unfolding access_segment_form
       segment_read t = rw (← ea, ← ek, not-false k e, ← ef, ← es, not-false s t)
 
-pub ruleset access-rules = (access_short, access_whole, access_key)
+pub ruleset access_rules = (access_short, access_whole, access_key)
 
-pub ruleset access-segment-rules = (segment_key_law, segment_odd, segment_read)
+pub ruleset access_segment_rules = (segment_key_law, segment_odd, segment_read)
 
 -- ---- CTL 1
 module _ (h : Header) (o : OpcodeKind) (eo : o ≡ opcode_kind (opcode (first h))) where
@@ -135,9 +135,9 @@ module _ (h : Header) (o : OpcodeKind) (eo : o ≡ opcode_kind (opcode (first h)
     unfolding control_segment_form control_segment_as
     segment_none = rw (← eo, k)
 
-pub ruleset control-rules = (ack_length, ack_read, control_whole, control_none)
+pub ruleset control_rules = (ack_length, ack_read, control_whole, control_none)
 
-pub ruleset control-segment-rules = (segment_of_ack, control_odd, control_read, segment_none)
+pub ruleset control_segment_rules = (segment_of_ack, control_odd, control_read, segment_none)
 
 -- ---- by CTL and SEG
 pub form_as_law : (h : Header) (ctl seg' : Bool) → h.ctl ≡ ctl → seg (first h) ≡ seg' → form_of h ≡ form_as ctl seg' h
@@ -159,4 +159,4 @@ module _ (h : Header) (s : Bool) (e : s ≡ seg (first h)) (f : Form) where
     pub read_access : s ≡ false → f ≡ access_form h → f ≡ form_of h
     read_access t ef = ef ∙ sym (form_as_law h false false ctl (sym e ∙ t))
 
-pub ruleset read-rules = (read_control_segment, read_control, read_access_segment, read_access)
+pub ruleset read_rules = (read_control_segment, read_control, read_access_segment, read_access)

@@ -46,7 +46,7 @@ module _ (e : Envelope) (n : List ℕ) where
   unfolding message_nonce_of
   nonce_device t en = rw t en
 
-pub ruleset nonce-rules = (nonce_application, nonce_device)
+pub ruleset nonce_rules = (nonce_application, nonce_device)
 
 -- ---- a key of that AID fits where it is bound to the opening network key
 pub fits_bound : (e : Envelope) (k : ApplicationKey) → k.aid ≡ e.aid → eqb k.bound e.network ≡ fits_key e k

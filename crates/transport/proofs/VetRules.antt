@@ -41,4 +41,4 @@ module _ (ctl : Bool) (list out : List ℕ) where
     pub vet_unfinished : j ≡ judgement.Unfinished → lent Unfinished out ≡ vetting ctl list out
     vet_unfinished e = shows judgement.Unfinished e
 
-pub ruleset vet-rules = (vet_short, vet_whole, vet_fault, vet_unfinished)
+pub ruleset vet_rules = (vet_short, vet_whole, vet_fault, vet_unfinished)

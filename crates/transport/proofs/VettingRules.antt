@@ -51,7 +51,7 @@ module _ (ctl : Bool) (first : ℕ) where
       unfolding octet_allowed
       octet_device k r e = rw (le-leb 128 first h, t, lt-leb 64 (first % 128) k) e
 
-pub ruleset octet-rules = (octet_low, octet_control, octet_application, octet_device)
+pub ruleset octet_rules = (octet_low, octet_control, octet_application, octet_device)
 
 -- ---- what goes by CTL and SZMIC
 module _ (ctl szmic : Bool) where
@@ -82,7 +82,7 @@ full_control ctl n t = rw t refl
 pub full_access : (ctl : Bool) (n : ℕ) → ctl ≡ false → 12 * n ≡ full_octets ctl * n
 full_access ctl n t = rw t refl
 
-pub ruleset ctl-rules = (bit_control, bit_access, few_control, few_long, few_short, full_control, full_access)
+pub ruleset ctl_rules = (bit_control, bit_access, few_control, few_long, few_short, full_control, full_access)
 
 -- ---- how many octets
 module _ (ctl szmic : Bool) (k n octets size : ℕ) (es : size ≡ full_octets ctl * 1) where
@@ -110,7 +110,7 @@ module _ (ctl szmic : Bool) (k n octets size : ℕ) (es : size ≡ full_octets c
       fills_last l few ef before eb =
           rw (le-ltb k n h, le-leb 1 octets one, le-leb octets (full_octets ctl) (subst (λ (x : ℕ). octets ≤ x) size_is l), ← ef, ← eb) refl
 
-pub ruleset fills-rules = (fills_before, fills_none, fills_over, fills_last)
+pub ruleset fills_rules = (fills_before, fills_none, fills_over, fills_last)
 
 pub full_low : (ctl : Bool) (n : ℕ) → n < 256 → full_octets ctl * n < 3072
 full_low true n h = omega arith
@@ -152,7 +152,7 @@ module _ (ctl : Bool) (s : Stated) (k : ℕ) (p : List ℕ) (o : Bool) (eo : o �
           fit_length h r er =
               rw (← eo, not-false o ho, ← eb, not-false b hb, le-leb k s.segn hk, ← ef, ← et, not-false t h, length-drop 4 p) er
 
-pub ruleset fit-rules = (fit_octet, fit_bit, fit_past, fit_short, fit_front, fit_length)
+pub ruleset fit_rules = (fit_octet, fit_bit, fit_past, fit_short, fit_front, fit_length)
 
 -- ---- the PDUs from `at` on, of which the first is PDU k
 module _ (ctl : Bool) (s : Stated) (k : ℕ) (list : List ℕ) (at : ℕ) where
@@ -188,7 +188,7 @@ module _ (ctl : Bool) (list : List ℕ) where
   judge_all h end e s es j ej =
       ej ∙ ap (λ (x : Stated). judged_from ctl x 0 (pdus list)) (es ∙ sym (ap (λ (l : List (List ℕ)). stated_by (get_or l 0 [])) (pdus_on list 0 end (omega arith) e)))
 
-pub ruleset judge-rules = (judge_none, judge_all)
+pub ruleset judge_rules = (judge_none, judge_all)
 
 -- ---- what stands behind the fronts
 -- from `at` on: the octets from start to end, and what comes behind them

@@ -1,7 +1,7 @@
 -- `answer::put_effect` meets its contract: each case is one rule.
 -- Assumes nothing.
 use borrow.Author.Rules.{rules}
-use Rattle.answers.proofs.AnswerLaws.{effect-rules}
+use Rattle.answers.proofs.AnswerLaws.{effect_rules}
 use Rattle.answers.proofs.answer.put_effect.Statement.{statement}
 use Rattle.answers.proofs.answer.put_effect.Tie as tie
 
@@ -11,5 +11,5 @@ put-effect-spec =
     (tie.spec
     (λ c. search rules) (λ c. search rules) (λ c κs. search rules) (λ c. search rules) (λ c. search rules) (λ c κs. search rules)
     (λ c. search rules) (λ c. search rules) (λ c κs. search rules) (λ c. search rules) (λ c. search rules) (λ c κs. search rules)
-    (λ c. search rules) (λ c. search effect-rules) (λ c. search rules) (λ c. search effect-rules) (λ c. search rules)
-    (λ c. search effect-rules) (λ c. search rules) (λ c. search effect-rules))
+    (λ c. search rules) (λ c. search effect_rules) (λ c. search rules) (λ c. search effect_rules) (λ c. search rules)
+    (λ c. search effect_rules) (λ c. search rules) (λ c. search effect_rules))

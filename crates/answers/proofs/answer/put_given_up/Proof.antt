@@ -1,7 +1,7 @@
 -- `answer::put_given_up` meets its contract: each case is one rule.
 -- Assumes nothing.
 use borrow.Author.Rules.{rules}
-use Rattle.answers.proofs.AnswerLaws.{given-up-rules}
+use Rattle.answers.proofs.AnswerLaws.{given_up_rules}
 use Rattle.answers.proofs.answer.put_given_up.Statement.{statement}
 use Rattle.answers.proofs.answer.put_given_up.Tie as tie
 
@@ -10,4 +10,4 @@ put-given-up-spec =
     tie.close
     (tie.spec
     (λ c. search rules) (λ c. search rules) (λ c κs. search rules) (λ c. search rules) (λ c κs. search rules) (λ c κs. search rules)
-    (λ c. search rules) (λ c. search given-up-rules) (λ c. search rules) (λ c. search given-up-rules))
+    (λ c. search rules) (λ c. search given_up_rules) (λ c. search rules) (λ c. search given_up_rules))

@@ -1,7 +1,7 @@
 -- `answer::put_noted` meets its contract: each case is one rule.
 -- Assumes nothing.
 use borrow.Author.Rules.{rules}
-use Rattle.answers.proofs.AnswerLaws.{noted-rules}
+use Rattle.answers.proofs.AnswerLaws.{noted_rules}
 use Rattle.answers.proofs.answer.put_noted.Statement.{statement}
 use Rattle.answers.proofs.answer.put_noted.Tie as tie
 
@@ -11,5 +11,5 @@ put-noted-spec =
     (tie.spec
     (λ c. search rules) (λ c. search rules) (λ c κs. search rules) (λ c. search rules) (λ c κs. search rules) (λ c. search rules)
     (λ c. search rules) (λ c κs. search rules) (λ c. search rules) (λ c κs. search rules) (λ c κs. search rules)
-    (λ c. search rules) (λ c. search noted-rules) (λ c. search rules) (λ c. search noted-rules) (λ c. search rules) (λ c. search noted-rules)
-    (λ c. search rules) (λ c. search noted-rules))
+    (λ c. search rules) (λ c. search noted_rules) (λ c. search rules) (λ c. search noted_rules) (λ c. search rules) (λ c. search noted_rules)
+    (λ c. search rules) (λ c. search noted_rules))

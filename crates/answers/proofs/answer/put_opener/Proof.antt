@@ -2,7 +2,7 @@
 -- Assumes nothing.
 use borrow.Author.Rules.{rules}
 use Rattle.text.proofs.WrittenLaws.{put_then}
-use Rattle.answers.proofs.AnswerLaws.{opener-rules}
+use Rattle.answers.proofs.AnswerLaws.{opener_rules}
 use Rattle.answers.proofs.answer.put_opener.Statement.{statement}
 use Rattle.answers.proofs.answer.put_opener.Tie as tie
 
@@ -12,4 +12,4 @@ put-opener-spec =
     (tie.spec
     (λ c. search rules) (λ c κs. search rules) (λ c. search rules) (λ c. search rules) (λ c κs. search rules) (λ c κs. search rules)
     (λ c. search rules) (λ c. search rules) (λ c κs. search rules) (λ c. search rules) (λ c κs. search rules) (λ c. search rules)
-    (λ c. search opener-rules) (λ c. search rules) (λ c. search (opener-rules, put_then)) (λ c. search rules) (λ c. search (opener-rules, put_then)))
+    (λ c. search opener_rules) (λ c. search rules) (λ c. search (opener_rules, put_then)) (λ c. search rules) (λ c. search (opener_rules, put_then)))

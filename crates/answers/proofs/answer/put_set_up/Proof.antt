@@ -1,7 +1,7 @@
 -- `answer::put_set_up` meets its contract: each case is one rule.
 -- Assumes nothing.
 use borrow.Author.Rules.{rules}
-use Rattle.answers.proofs.AnswerLaws.{set-up-rules}
+use Rattle.answers.proofs.AnswerLaws.{set_up_rules}
 use Rattle.answers.proofs.answer.put_set_up.Statement.{statement}
 use Rattle.answers.proofs.answer.put_set_up.Tie as tie
 
@@ -10,4 +10,4 @@ put-set-up-spec =
     tie.close
     (tie.spec
     (λ c. search rules) (λ c. search rules) (λ c κs. search rules) (λ c. search rules) (λ c κs. search rules) (λ c κs. search rules)
-    (λ c. search rules) (λ c. search set-up-rules) (λ c. search rules) (λ c. search set-up-rules))
+    (λ c. search rules) (λ c. search set_up_rules) (λ c. search rules) (λ c. search set_up_rules))

@@ -1,7 +1,7 @@
 -- `answer::put_vetted` meets its contract: each case is one rule.
 -- Assumes nothing.
 use borrow.Author.Rules.{rules}
-use Rattle.answers.proofs.AnswerLaws.{vetted-rules}
+use Rattle.answers.proofs.AnswerLaws.{vetted_rules}
 use Rattle.answers.proofs.answer.put_vetted.Statement.{statement}
 use Rattle.answers.proofs.answer.put_vetted.Tie as tie
 
@@ -11,5 +11,5 @@ put-vetted-spec =
     (tie.spec
     (λ c. search rules) (λ c κs. search rules) (λ c κs. search rules) (λ c. search rules) (λ c κs. search rules) (λ c κs. search rules)
     (λ c. search rules) (λ c κs. search rules) (λ c κs. search rules) (λ c. search rules) (λ c κs. search rules) (λ c κs. search rules)
-    (λ c. search rules) (λ c. search vetted-rules) (λ c. search rules) (λ c. search vetted-rules) (λ c. search rules) (λ c. search vetted-rules)
-    (λ c. search rules) (λ c. search vetted-rules))
+    (λ c. search rules) (λ c. search vetted_rules) (λ c. search rules) (λ c. search vetted_rules) (λ c. search rules) (λ c. search vetted_rules)
+    (λ c. search rules) (λ c. search vetted_rules))

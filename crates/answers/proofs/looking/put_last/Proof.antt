@@ -1,7 +1,7 @@
 -- `looking::put_last` meets its contract: nothing is put for what is not there, and else its parts one behind the other.
 -- Assumes nothing.
 use borrow.Author.Rules.{rules}
-use Rattle.answers.proofs.LookingLaws.{held-rules}
+use Rattle.answers.proofs.LookingLaws.{held_rules}
 use Rattle.answers.proofs.looking.put_last.Statement.{statement}
 use Rattle.answers.proofs.looking.put_last.Tie as tie
 
@@ -9,7 +9,7 @@ pub put-last-spec : {M : Type 1} → statement M
 put-last-spec =
     tie.close
     (tie.spec
-    (λ c. search rules) (λ c κs. search rules) (λ c. search rules) (λ c. search (held-rules, rules)) (λ c. search rules) (λ c. search rules)
+    (λ c. search rules) (λ c κs. search rules) (λ c. search rules) (λ c. search (held_rules, rules)) (λ c. search rules) (λ c. search rules)
     (λ c κs. search rules) (λ c. search rules) (λ c. search rules) (λ c κs. search rules) (λ c. search rules) (λ c. search rules)
     (λ c κs. search rules) (λ c. search rules) (λ c. search rules) (λ c κs. search rules) (λ c. search rules)
-    (λ c. search (held-rules, rules)))
+    (λ c. search (held_rules, rules)))

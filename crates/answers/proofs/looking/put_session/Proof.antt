@@ -1,7 +1,7 @@
 -- `looking::put_session` meets its contract: nothing is put for what is not there, and else its parts one behind the other.
 -- Assumes nothing.
 use borrow.Author.Rules.{rules}
-use Rattle.answers.proofs.LookingLaws.{held-rules}
+use Rattle.answers.proofs.LookingLaws.{held_rules}
 use Rattle.answers.proofs.looking.put_session.Statement.{statement}
 use Rattle.answers.proofs.looking.put_session.Tie as tie
 
@@ -9,6 +9,6 @@ pub put-session-spec : {M : Type 1} → statement M
 put-session-spec =
     tie.close
     (tie.spec
-    (λ c. search rules) (λ c κs. search rules) (λ c. search rules) (λ c. search (held-rules, rules)) (λ c. search rules)
+    (λ c. search rules) (λ c κs. search rules) (λ c. search rules) (λ c. search (held_rules, rules)) (λ c. search rules)
     (λ c κs. search rules) (λ c κs. search rules) (λ c. search rules) (λ c κs. search rules) (λ c. search rules)
-    (λ c. search (held-rules, rules)))
+    (λ c. search (held_rules, rules)))

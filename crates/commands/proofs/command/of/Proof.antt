@@ -1,7 +1,7 @@
 -- `command::of` meets its contract: where a receiver is ready, and where none is, is one rule each.
 -- Assumes nothing.
 use borrow.Author.Rules.{rules}
-use Rattle.commands.proofs.LineRules.{command-rules}
+use Rattle.commands.proofs.LineRules.{command_rules}
 use Rattle.commands.proofs.command.of.Statement.{statement}
 use Rattle.commands.proofs.command.of.Tie as tie
 
@@ -9,4 +9,4 @@ pub of_spec : {M : Type 1} → statement M
 of_spec =
     tie.close
     (tie.spec
-    (λ c κs. search rules) (λ c κs. search rules) (λ c. search command-rules) (λ c κs. search rules) (λ c. search command-rules))
+    (λ c κs. search rules) (λ c κs. search rules) (λ c. search command_rules) (λ c κs. search rules) (λ c. search command_rules))

@@ -2,7 +2,7 @@
 -- Assumes nothing.
 use borrow.Author.Rules.{rules}
 use Rattle.commands.specs.Command.{with_receiver}
-use Rattle.commands.proofs.ChoiceRules.{choice-rules}
+use Rattle.commands.proofs.ChoiceRules.{choice_rules}
 use Rattle.commands.proofs.command.with_receiver.Statement.{statement}
 use Rattle.commands.proofs.command.with_receiver.Tie as tie
 
@@ -11,6 +11,6 @@ unfolding with_receiver
 with-receiver-spec =
     tie.close
     (tie.spec
-    (λ c. search rules) (λ c κs. search rules) (λ c. search choice-rules) (λ c. search rules) (λ c κs. search rules) (λ c. search choice-rules)
-    (λ c. search rules) (λ c κs. search rules) (λ c. search choice-rules) (λ c. search rules) (λ c κs. search rules) (λ c. search choice-rules)
-    (λ c. search rules) (λ c κs. search rules) (λ c. search choice-rules) (λ c κs. search rules) (λ c. search choice-rules))
+    (λ c. search rules) (λ c κs. search rules) (λ c. search choice_rules) (λ c. search rules) (λ c κs. search rules) (λ c. search choice_rules)
+    (λ c. search rules) (λ c κs. search rules) (λ c. search choice_rules) (λ c. search rules) (λ c κs. search rules) (λ c. search choice_rules)
+    (λ c. search rules) (λ c κs. search rules) (λ c. search choice_rules) (λ c κs. search rules) (λ c. search choice_rules))

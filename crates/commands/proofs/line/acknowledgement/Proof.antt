@@ -2,7 +2,7 @@
 -- Assumes nothing.
 use borrow.Author.Rules.{rules}
 use Rattle.commands.specs.Line.{ack_of}
-use Rattle.commands.proofs.FieldRules.{field-rules}
+use Rattle.commands.proofs.FieldRules.{field_rules}
 use Rattle.commands.proofs.line.acknowledgement.Statement.{statement}
 use Rattle.commands.proofs.line.acknowledgement.Tie as tie
 
@@ -11,5 +11,5 @@ unfolding ack_of
 acknowledgement-spec =
     tie.close
     (tie.spec
-    (λ c κs. search rules) (λ c κs. search rules) (λ c. search rules) (λ c. search rules) (λ c. search field-rules) (λ c κs. search rules)
-    (λ c κs. search rules) (λ c. search rules) (λ c. search rules) (λ c. search field-rules) (λ c. search rules) (λ c. search field-rules))
+    (λ c κs. search rules) (λ c κs. search rules) (λ c. search rules) (λ c. search rules) (λ c. search field_rules) (λ c κs. search rules)
+    (λ c κs. search rules) (λ c. search rules) (λ c. search rules) (λ c. search field_rules) (λ c. search rules) (λ c. search field_rules))

@@ -2,7 +2,7 @@
 -- Assumes nothing.
 use borrow.Author.Rules.{rules}
 use Rattle.commands.specs.Line.{said_by}
-use Rattle.commands.proofs.LineRules.{line-rules}
+use Rattle.commands.proofs.LineRules.{line_rules}
 use Rattle.commands.proofs.line.read.Statement.{statement}
 use Rattle.commands.proofs.line.read.Tie as tie
 
@@ -11,8 +11,8 @@ unfolding said_by
 read_spec =
     tie.close
     (tie.spec
-    (λ c. search line-rules) (λ c. search rules) (λ c. search line-rules) (λ c. search line-rules) (λ c κs. search rules) (λ c. search rules)
+    (λ c. search line_rules) (λ c. search rules) (λ c. search line_rules) (λ c. search line_rules) (λ c κs. search rules) (λ c. search rules)
     (λ c κs. search rules) (λ c. search rules) (λ c. search rules) (λ c. search rules) (λ c κs. search rules) (λ c. search rules) (λ c. search rules)
-    (λ c κs. search rules) (λ c. search rules) (λ c κs. search rules) (λ c. search rules) (λ c. search rules) (λ c. search line-rules)
-    (λ c. search line-rules) (λ c. search line-rules) (λ c. search line-rules) (λ c. search line-rules) (λ c. search rules) (λ c. search line-rules)
-    (λ c. search rules) (λ c. search line-rules) (λ c. search line-rules))
+    (λ c κs. search rules) (λ c. search rules) (λ c κs. search rules) (λ c. search rules) (λ c. search rules) (λ c. search line_rules)
+    (λ c. search line_rules) (λ c. search line_rules) (λ c. search line_rules) (λ c. search line_rules) (λ c. search rules) (λ c. search line_rules)
+    (λ c. search rules) (λ c. search line_rules) (λ c. search line_rules))

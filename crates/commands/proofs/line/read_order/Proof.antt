@@ -2,7 +2,7 @@
 -- Assumes nothing.
 use borrow.Author.Rules.{rules}
 use Rattle.commands.specs.Line.{order_of}
-use Rattle.commands.proofs.LineRules.{order-rules}
+use Rattle.commands.proofs.LineRules.{order_rules}
 use Rattle.commands.proofs.line.read_order.Statement.{statement}
 use Rattle.commands.proofs.line.read_order.Tie as tie
 
@@ -13,6 +13,6 @@ read-order-spec =
     (tie.spec
     (λ c. search rules) (λ c κs. search rules) (λ c. search rules) (λ c κs. search rules) (λ c. search rules) (λ c κs. search rules)
     (λ c. search rules) (λ c κs. search rules) (λ c. search rules) (λ c κs. search rules) (λ c. search rules) (λ c. search rules)
-    (λ c κs. search rules) (λ c. search rules) (λ c κs. search rules) (λ c. search rules) (λ c. search rules) (λ c. search order-rules)
-    (λ c. search rules) (λ c. search order-rules) (λ c. search rules) (λ c. search order-rules) (λ c. search order-rules) (λ c. search order-rules)
-    (λ c. search order-rules) (λ c. search order-rules) (λ c. search order-rules) (λ c. search order-rules))
+    (λ c κs. search rules) (λ c. search rules) (λ c κs. search rules) (λ c. search rules) (λ c. search rules) (λ c. search order_rules)
+    (λ c. search rules) (λ c. search order_rules) (λ c. search rules) (λ c. search order_rules) (λ c. search order_rules) (λ c. search order_rules)
+    (λ c. search order_rules) (λ c. search order_rules) (λ c. search order_rules) (λ c. search order_rules))

@@ -2,7 +2,7 @@
 -- Assumes nothing.
 use borrow.Author.Rules.{rules}
 use Rattle.commands.specs.Line.{readings_of}
-use Rattle.commands.proofs.FieldRules.{field-rules}
+use Rattle.commands.proofs.FieldRules.{field_rules}
 use Rattle.commands.proofs.line.readings.Statement.{statement}
 use Rattle.commands.proofs.line.readings.Tie as tie
 
@@ -11,5 +11,5 @@ unfolding readings_of
 readings-spec =
     tie.close
     (tie.spec
-    (λ c κs. search rules) (λ c κs. search rules) (λ c. search rules) (λ c. search rules) (λ c. search rules) (λ c. search field-rules)
-    (λ c. search rules) (λ c. search field-rules))
+    (λ c κs. search rules) (λ c κs. search rules) (λ c. search rules) (λ c. search rules) (λ c. search rules) (λ c. search field_rules)
+    (λ c. search rules) (λ c. search field_rules))

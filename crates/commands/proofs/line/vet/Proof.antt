@@ -6,8 +6,8 @@ use native.Mathlib.Omega.{arith}
 use borrow.Author.Rules.{rules}
 use lib.ListN.{length}
 use Rattle.commands.specs.Line.{vet_of}
-use Rattle.commands.proofs.FieldRules.{field-rules}
-use Rattle.commands.proofs.ListingLaws.{listing-rules, behind_le}
+use Rattle.commands.proofs.FieldRules.{field_rules}
+use Rattle.commands.proofs.ListingLaws.{listing_rules, behind_le}
 use Rattle.commands.proofs.line.vet.Statement.{statement}
 use Rattle.commands.proofs.line.vet.Tie as tie
 
@@ -19,6 +19,6 @@ unfolding vet_of
 vet-spec =
     tie.close
     (tie.spec
-    (λ c κs. search rules) (λ c κs. search rules) (λ c. search rules) (λ c. search rules) (λ c. search field-rules)
-    (λ c. search (field-rules, listing-rules)) (λ c κs. search rules) list-requires (λ c. search rules) (λ c. search rules) (λ c. search rules)
-    (λ c. search (field-rules, listing-rules)) (λ c. search rules) (λ c. search (field-rules, listing-rules)))
+    (λ c κs. search rules) (λ c κs. search rules) (λ c. search rules) (λ c. search rules) (λ c. search field_rules)
+    (λ c. search (field_rules, listing_rules)) (λ c κs. search rules) list-requires (λ c. search rules) (λ c. search rules) (λ c. search rules)
+    (λ c. search (field_rules, listing_rules)) (λ c. search rules) (λ c. search (field_rules, listing_rules)))

@@ -1,7 +1,7 @@
 -- `requesting::destination_of` meets its contract: it begins as a label does, or not, and what is then read is a number that fits or not.
 -- Assumes nothing.
 use borrow.Author.Rules.{rules}
-use Rattle.commands.proofs.FieldRules.{label_long, destination-rules}
+use Rattle.commands.proofs.FieldRules.{label_long, destination_rules}
 use Rattle.commands.proofs.requesting.destination_of.Statement.{statement}
 use Rattle.commands.proofs.requesting.destination_of.Tie as tie
 
@@ -20,6 +20,6 @@ destination-of-spec =
     tie.close
     (tie.spec
     (λ c κs. search rules) (λ c. search rules) (λ c κs. search rules) sub-read-octet part-read-octet-start (λ c. search rules)
-    (λ c κs. search rules) (λ c. search rules) (λ c. search rules) (λ c. search rules) (λ c. search destination-rules)
-    (λ c. search destination-rules) (λ c κs. search rules) (λ c. search rules) (λ c. search rules) (λ c. search destination-rules)
-    (λ c. search destination-rules))
+    (λ c κs. search rules) (λ c. search rules) (λ c. search rules) (λ c. search rules) (λ c. search destination_rules)
+    (λ c. search destination_rules) (λ c κs. search rules) (λ c. search rules) (λ c. search rules) (λ c. search destination_rules)
+    (λ c. search destination_rules))

@@ -1,7 +1,7 @@
 -- `receiving::send` meets its contract: each request is one case of `sent`.
 -- Assumes nothing.
 use borrow.Author.Rules.{rules}
-use Rattle.console.proofs.ReceivingLaws.{sent-rules}
+use Rattle.console.proofs.ReceivingLaws.{sent_rules}
 use Rattle.console.proofs.receiving.send.Statement.{statement}
 use Rattle.console.proofs.receiving.send.Tie as tie
 
@@ -10,5 +10,5 @@ send-spec =
     tie.close
     (tie.spec
     (λ c. search rules) (λ c κs. search rules) (λ c κs. search rules) (λ c. search rules) (λ c κs. search rules) (λ c κs. search rules)
-    (λ c. search rules) (λ c κs. search rules) (λ c. search rules) (λ c κs. search rules) (λ c. search rules) (λ c. search sent-rules)
-    (λ c. search rules) (λ c. search sent-rules) (λ c. search rules) (λ c. search sent-rules) (λ c. search rules) (λ c. search sent-rules))
+    (λ c. search rules) (λ c κs. search rules) (λ c. search rules) (λ c κs. search rules) (λ c. search rules) (λ c. search sent_rules)
+    (λ c. search rules) (λ c. search sent_rules) (λ c. search rules) (λ c. search sent_rules) (λ c. search rules) (λ c. search sent_rules))

@@ -1,8 +1,8 @@
 -- `step::step` meets its contract: what the line says is one rule, and its answer fits.
 -- Assumes nothing.
 use borrow.Author.Rules.{rules}
-use Rattle.console.proofs.StepLaws.{step-rules}
-use Rattle.console.proofs.Fits.{fits-rules}
+use Rattle.console.proofs.StepLaws.{step_rules}
+use Rattle.console.proofs.Fits.{fits_rules}
 use Rattle.console.proofs.step.step.Statement.{statement}
 use Rattle.console.proofs.step.step.Tie as tie
 
@@ -12,8 +12,8 @@ step_spec =
     (tie.spec
     (λ c. search rules) (λ c κs. search rules) (λ c κs. search rules) (λ c. search rules) (λ c κs. search rules) (λ c. search rules) (λ c κs. search rules)
     (λ c. search rules) (λ c κs. search rules) (λ c. search rules) (λ c κs. search rules) (λ c κs. search rules) (λ c. search rules) (λ c κs. search rules)
-    (λ c κs. search rules) (λ c. search rules) (λ c κs. search rules) (λ c κs. search rules) (λ c. search rules) (λ c. (search step-rules, search fits-rules))
-    (λ c. search rules) (λ c. (search step-rules, search fits-rules)) (λ c. search rules) (λ c. (search step-rules, search fits-rules)) (λ c. search rules)
-    (λ c. (search step-rules, search fits-rules)) (λ c. search rules) (λ c. (search step-rules, search fits-rules)) (λ c. search rules)
-    (λ c. (search step-rules, search fits-rules)) (λ c. search rules) (λ c. (search step-rules, search fits-rules)) (λ c. search rules)
-    (λ c. (search step-rules, search fits-rules)))
+    (λ c κs. search rules) (λ c. search rules) (λ c κs. search rules) (λ c κs. search rules) (λ c. search rules) (λ c. (search step_rules, search fits_rules))
+    (λ c. search rules) (λ c. (search step_rules, search fits_rules)) (λ c. search rules) (λ c. (search step_rules, search fits_rules)) (λ c. search rules)
+    (λ c. (search step_rules, search fits_rules)) (λ c. search rules) (λ c. (search step_rules, search fits_rules)) (λ c. search rules)
+    (λ c. (search step_rules, search fits_rules)) (λ c. search rules) (λ c. (search step_rules, search fits_rules)) (λ c. search rules)
+    (λ c. (search step_rules, search fits_rules)))

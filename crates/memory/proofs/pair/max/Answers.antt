@@ -1,11 +1,11 @@
 -- `memory::pair::max` meets its contract: each return is one rule of `greater`.
 -- Assumes nothing.
 use borrow.Author.Rules.{rules}
-use Rattle.memory.proofs.PairLaws.{greater-rules}
+use Rattle.memory.proofs.PairLaws.{greater_rules}
 use Rattle.memory.proofs.pair.max.Goals as goal
 
 pub returns-then-is_newer : goal.returns-then-is_newer
-returns-then-is_newer c = search greater-rules
+returns-then-is_newer c = search greater_rules
 
 pub returns : goal.returns
-returns c = search greater-rules
+returns c = search greater_rules

@@ -1,14 +1,14 @@
 -- `network::opening::judge` meets its contract: each return is one answer of `judged`, and the tests before it say which.
 -- Assumes nothing.
 use borrow.Author.Rules.{rules}
-use Rattle.network.proofs.OpeningLaws.{judge-rules}
+use Rattle.network.proofs.OpeningLaws.{judge_rules}
 use Rattle.network.proofs.opening.judge.Goals as goal
 
 pub returns-then-not-s : goal.returns-then-not-s
-returns-then-not-s c = search judge-rules
+returns-then-not-s c = search judge_rules
 
 pub returns-then-allowed : goal.returns-then-allowed
-returns-then-allowed c = search judge-rules
+returns-then-allowed c = search judge_rules
 
 pub returns : goal.returns
-returns c = search judge-rules
+returns c = search judge_rules

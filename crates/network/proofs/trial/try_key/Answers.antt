@@ -5,7 +5,7 @@ use Prim.Native.Nat.{◌≤◌}
 use native.Mathlib.Omega.{arith}
 use borrow.Author.Rules.{rules}
 use lib.Seq.{length-take-le}
-use Rattle.network.proofs.TrialLaws.{clear_there, clear_least, clear_most, tried-rules}
+use Rattle.network.proofs.TrialLaws.{clear_there, clear_least, clear_most, tried_rules}
 use Rattle.network.proofs.trial.try_key.Goals as goal
 
 pub slice_bounds-body-end : goal.slice_bounds-body-end
@@ -22,13 +22,13 @@ header_of-requires c =
     (omega arith, omega arith)
 
 pub returns-then-too_short : goal.returns-then-too_short
-returns-then-too_short c = search tried-rules
+returns-then-too_short c = search tried_rules
 
 pub returns-then-not-open_body : goal.returns-then-not-open_body
-returns-then-not-open_body c = search tried-rules
+returns-then-not-open_body c = search tried_rules
 
 pub clear_len-n-requires : goal.clear_len-n-requires
 clear_len-n-requires c = search clear_there
 
 pub returns : goal.returns
-returns c = search tried-rules
+returns c = search tried_rules

@@ -1,11 +1,11 @@
 -- `receiver::hear::take` meets its contract: refusal 6, or what the form gives.
 -- Assumes nothing.
 use borrow.Author.Rules.{rules}
-use Rattle.receiver.proofs.HearingLaws.{taken-rules}
+use Rattle.receiver.proofs.HearingLaws.{taken_rules}
 use Rattle.receiver.proofs.hear.take.Goals as goal
 
 pub returns-then-is_for : goal.returns-then-is_for
-returns-then-is_for c = search taken-rules
+returns-then-is_for c = search taken_rules
 
 pub returns : goal.returns
-returns c = search taken-rules
+returns c = search taken_rules

@@ -1,14 +1,14 @@
 -- `receiver::segmented::gather` meets its contract: stored, or complete with its slot freed.
 -- Assumes nothing.
 use borrow.Author.Rules.{rules}
-use Rattle.receiver.proofs.SegmentedLaws.{gathered-rules}
+use Rattle.receiver.proofs.SegmentedLaws.{gathered_rules}
 use Rattle.receiver.proofs.segmented.gather.Goals as goal
 
 pub returns-then-not-is_complete : goal.returns-then-not-is_complete
-returns-then-not-is_complete c = search gathered-rules
+returns-then-not-is_complete c = search gathered_rules
 
 pub returns-then-terms : goal.returns-then-terms
-returns-then-terms c = search gathered-rules
+returns-then-terms c = search gathered_rules
 
 pub returns : goal.returns
-returns c = search gathered-rules
+returns c = search gathered_rules

@@ -1,14 +1,14 @@
 -- `receiver::whole::acknowledgement` meets its contract: one rule for each admission.
 -- Assumes nothing.
 use borrow.Author.Rules.{rules}
-use Rattle.receiver.proofs.WholeLaws.{ack-rules}
+use Rattle.receiver.proofs.WholeLaws.{ack_rules}
 use Rattle.receiver.proofs.whole.acknowledgement.Goals as goal
 
 pub returns-in-Replayed : goal.returns-in-Replayed
-returns-in-Replayed c = search ack-rules
+returns-in-Replayed c = search ack_rules
 
 pub returns-in-NoEntryLeft : goal.returns-in-NoEntryLeft
-returns-in-NoEntryLeft c = search ack-rules
+returns-in-NoEntryLeft c = search ack_rules
 
 pub returns-in-Admitted : goal.returns-in-Admitted
-returns-in-Admitted c = search ack-rules
+returns-in-Admitted c = search ack_rules

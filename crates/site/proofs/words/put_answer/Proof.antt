@@ -1,7 +1,7 @@
 -- `site::words::put_answer` meets its contract: each case is one rule.
 -- Assumes nothing.
 use borrow.Author.Rules.{rules}
-use Rattle.site.proofs.WordsLaws.{answer-rules}
+use Rattle.site.proofs.WordsLaws.{answer_rules}
 use Rattle.site.proofs.words.put_answer.Statement.{statement}
 use Rattle.site.proofs.words.put_answer.Tie as tie
 
@@ -13,5 +13,5 @@ put-answer-spec =
     (λ c κs. search rules) (λ c. search rules) (λ c. search rules) (λ c. search rules) (λ c κs. search rules) (λ c. search rules)
     (λ c. search rules) (λ c. search rules) (λ c. search rules) (λ c κs. search rules) (λ c. search rules) (λ c. search rules)
     (λ c. search rules) (λ c. search rules) (λ c κs. search rules) (λ c. search rules) (λ c κs. search rules) (λ c. search rules)
-    (λ c. search answer-rules) (λ c. search rules) (λ c. search answer-rules) (λ c. search rules) (λ c. search answer-rules) (λ c. search rules)
-    (λ c. search answer-rules) (λ c. search rules) (λ c. search answer-rules) (λ c. search rules) (λ c. search answer-rules))
+    (λ c. search answer_rules) (λ c. search rules) (λ c. search answer_rules) (λ c. search rules) (λ c. search answer_rules) (λ c. search rules)
+    (λ c. search answer_rules) (λ c. search rules) (λ c. search answer_rules) (λ c. search rules) (λ c. search answer_rules))

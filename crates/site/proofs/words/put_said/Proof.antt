@@ -1,7 +1,7 @@
 -- `site::words::put_said` meets its contract: each case is one rule.
 -- Assumes nothing.
 use borrow.Author.Rules.{rules}
-use Rattle.site.proofs.WordsLaws.{said-rules}
+use Rattle.site.proofs.WordsLaws.{said_rules}
 use Rattle.site.proofs.words.put_said.Statement.{statement}
 use Rattle.site.proofs.words.put_said.Tie as tie
 
@@ -10,5 +10,5 @@ put-said-spec =
     tie.close
     (tie.spec
     (λ c. search rules) (λ c κs. search rules) (λ c κs. search rules) (λ c. search rules) (λ c κs. search rules) (λ c κs. search rules)
-    (λ c. search rules) (λ c κs. search rules) (λ c κs. search rules) (λ c. search rules) (λ c. search said-rules) (λ c. search rules)
-    (λ c. search said-rules) (λ c. search rules) (λ c. search said-rules))
+    (λ c. search rules) (λ c κs. search rules) (λ c κs. search rules) (λ c. search rules) (λ c. search said_rules) (λ c. search rules)
+    (λ c. search said_rules) (λ c. search rules) (λ c. search said_rules))
