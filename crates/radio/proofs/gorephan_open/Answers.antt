@@ -21,24 +21,24 @@ returns-then-foreign c = search open_rules
 
 pub pack-requires : goal.pack-requires
 pack-requires c =
-    let o = c.«open» in
-    let b = opened_small _ _ _ _ c.ensures in
-    (omega (arith, paper_most c.result.answer), omega arith, omega arith, omega arith)
+    let o = c.open-o in
+    let b = opened_small _ _ _ _ o.ensures in
+    (omega (arith, paper_most o.result.answer), omega arith, omega arith, omega arith)
 
 pub returns-then-refusal-ne0 : goal.returns-then-refusal-ne0
 returns-then-refusal-ne0 c = search open_rules
 
 pub write-n-requires : goal.write-n-requires
 write-n-requires c =
-    let o = c.«open» in
-    let b = opened_small _ _ _ _ c.ensures in
+    let o = c.open-o in
+    let b = opened_small _ _ _ _ o.ensures in
     (b.len_most, omega arith)
 
 pub pack-requires-2 : goal.pack-requires-2
 pack-requires-2 c =
     let w = c in
-    let o = c.«open» in
-    let b = opened_small _ _ _ _ c.ensures in
+    let o = c.open-o in
+    let b = opened_small _ _ _ _ o.ensures in
     let n = written_most _ _ b.len_most _ c.write-n.ensures in
     (omega arith, omega arith, omega arith, omega arith)
 

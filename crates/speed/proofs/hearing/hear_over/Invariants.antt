@@ -1,0 +1,18 @@
+-- `speed::hearing::hear_over` meets its contract: after i turns count and message buffer are those of i hearings, and a turn counts at most 2.
+-- Assumes nothing.
+use mathlib.Core.Path.{◌≡◌, refl, ap, ◌∙◌}
+use Prim.Native.Nat.{◌*◌, ◌-◌, ◌≤◌}
+use native.Mathlib.Omega.{arith}
+use borrow.Author.Rules.{rules}
+use lib.ListN.{length}
+use Rattle.common.specs.Lent.{lent}
+use Rattle.speed.specs.Hearing.{heard_over}
+use Rattle.speed.proofs.HearingLaws.{heard_more}
+use Rattle.speed.proofs.hearing.hear_over.Given as goal
+
+abbrev pub invariant-loop-i : goal.invariant-loop-i
+invariant-loop-i l =
+    (l.i ≤ l.times) × ((l.count ≤ 2 * l.i) × ((length l.message ≡ length l.initial.message) × (lent l.count l.message ≡ heard_over l.r l.pdu l.slot l.initial.message l.i)))
+
+abbrev pub decreases-loop-i : goal.decreases-loop-i
+decreases-loop-i l = l.times - l.i

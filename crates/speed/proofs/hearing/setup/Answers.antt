@@ -1,0 +1,10 @@
+-- `speed::hearing::setup` meets its contract: each key is filled in where the definition fills it in.
+-- Assumes nothing.
+use borrow.Author.Rules.{rules}
+use Rattle.speed.proofs.hearing.setup.Goals as goal
+
+pub returns : goal.returns
+returns c =
+    let k = c in
+    let n = c in
+    rw (c.with_application_key-s.ensures, c.key-2.ensures, c.with_network_key-keyed.ensures, c.key.ensures, c.nothing.ensures, c.key-device.ensures)
