@@ -1,5 +1,5 @@
 -- What it means that a contract determines the outcome: two outcomes of one call that both satisfy the function's `ensures` are equal. It is said of the clauses
--- in the source: of each public function `f` a crate exports the module `Rattle.CRATE.proofs.MODULE.f`, where `ended` is f's signature and `clauses` are its clauses.
+-- in the source: of each public function `f` a crate exports the module `Rattle.CRATE.specs.contracts.MODULE.f`, where `ended` is f's signature and `clauses` are its clauses.
 use Rattle.std.specs.Prelude.{◌≡◌}
 use seplogic.Ra.Ura.{Ura}
 use base.Logic.{SProp, ent}
@@ -7,15 +7,15 @@ use contract.Lifetimes.{Lfts}
 use contract.Monad.{Fun, conj, fact}
 use denote.Triple.Clauses.{Ended, Clauses, Lasts, at_exit}
 use denote.Triple.Entry.{Args, Res}
-use types.Logic.{Logic}
 use prog.Memory.{Memory}
 use prog.Routine.{Routine}
+use types.Logic.{Logic}
 
 -- a model of the logic that clauses are written in
 pub record Model : Type 2 where
   pub carrier : Type 1
   pub algebra : Ura carrier
-  pub 𝓛 : Logic algebra
+  pub logic : Logic algebra
   pub memory : Memory → SProp algebra
   pub routines : Routine → Fun algebra
 
@@ -26,7 +26,7 @@ Contract T = (M : Type 1) (𝓤 : Ura M) (𝓛 : Logic 𝓤) → (Memory → SPr
 module _ (T : Ended) (c : Contract T) where
   -- the clauses in one model
   abbrev pub clauses_in : (m : Model) → Clauses m.algebra T
-  clauses_in m = c m.carrier m.algebra _ m.memory m.routines
+  clauses_in m = c m.carrier m.algebra m.logic m.memory m.routines
 
   -- a call: what it is given
   pub record Call (m : Model) : Type 1 where
