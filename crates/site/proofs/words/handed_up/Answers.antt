@@ -4,7 +4,7 @@ use borrow.Author.Rules.{rules}
 use Rattle.site.proofs.words.handed_up.Goals as goal
 
 pub returns-in-Access : goal.returns-in-Access
-returns-in-Access c = rw c.answer-1.given.1
+returns-in-Access c = rw c.in-Access.is
 
 pub returns-in-Control : goal.returns-in-Control
-returns-in-Control c = rw c.answer-in-Control-1.given.1
+returns-in-Control c = rw c.in-Control.is
