@@ -7,6 +7,7 @@ use super::step::Console;
 use commands::desk::Desk;
 use commands::line::Line;
 use receiver::state::Receiver;
+use std::io::{Read, Stdin};
 
 // The answer to one line is shorter than this: where less room is left, the answers so far are written.
 const ROOM: usize = 8192;
@@ -102,15 +103,23 @@ fn take_block(l: Left, block: &[u8], line: &mut [u8], octets: &mut [u8], out: &m
     }
 }
 
-// Reads what has come of standard input, and says how many octets; none at its end.
-fn read_block(block: &mut [u8]) -> usize {
-    let got = libc::read(0, block);
-    io::count(got, block)
+// Reads what has come of standard input, and says how many octets; none at its end, and where the read fails.
+fn read_block(input: &mut Stdin, block: &mut [u8]) -> usize {
+    match input.read(block) {
+        Ok(n) => n,
+        Err(_) => 0,
+    }
 }
 
 // Takes blocks until the input ends. A newline more ends the last line, where it lacks its own. A proved loop has to end, so it counts its turns
 // down, from a number that no run uses up.
-pub(crate) fn take_all(block: &mut [u8], line: &mut [u8], octets: &mut [u8], out: &mut [u8])
+pub(crate) fn take_all(
+    input: &mut Stdin,
+    block: &mut [u8],
+    line: &mut [u8],
+    octets: &mut [u8],
+    out: &mut [u8],
+)
     requires { 8192 ≤ length out.old }
 {
     let c = super::step::start();
@@ -123,12 +132,12 @@ pub(crate) fn take_all(block: &mut [u8], line: &mut [u8], octets: &mut [u8], out
         written: 0,
     };
     let mut turns = u64::MAX;
-    let mut n = read_block(block);
+    let mut n = read_block(input, block);
     while 0 < n && 0 < turns {
         let next = take_block(left, text::first(block, n), line, octets, out);
         left = next;
         turns -= 1;
-        n = read_block(block);
+        n = read_block(input, block);
     }
     take_block(left, b"\n", line, octets, out);
 }

@@ -10,10 +10,11 @@ mod lent;
 mod receiving;
 mod step;
 
-fn main() {
+fn main(rt: HostRuntime) {
+    let mut input = rt.stdin();
     let mut block = io::large_buffer();
     let mut line = io::buffer();
     let mut octets = io::buffer();
     let mut out = io::large_buffer();
-    input::take_all(&mut block, &mut line, &mut octets, &mut out);
+    input::take_all(&mut input, &mut block, &mut line, &mut octets, &mut out);
 }

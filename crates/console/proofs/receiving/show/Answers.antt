@@ -8,16 +8,12 @@ use Rattle.memory.specs.Cache.{cache_entries}
 use Rattle.memory.specs.Replay.{replay_entries}
 use Rattle.memory.specs.Session.{session_slots}
 use Rattle.console.proofs.ReceivingLaws.{shown, shown_fits}
-use Rattle.console.proofs.receiving.show.Statement.{statement}
-use Rattle.console.proofs.receiving.show.Tie as tie
+use Rattle.console.proofs.receiving.show.Goals as goal
 
-returns : tie.Need-returns
+pub returns : goal.returns
 returns c =
-    let r = c.before.before.before.before.before.before.args.r in
+    let r = c.args.r in
     let cache : length r.cache.entries ≡ cache_entries = search (rules, length_mapped) in
     let replay : length r.replay ≡ replay_entries = search (rules, length_mapped) in
     let sessions : length r.sessions ≡ session_slots = search (rules, length_mapped) in
-    (search shown, shown_fits r cache replay sessions)
-
-pub show-spec : {M : Type 1} → statement M
-show-spec = tie.close (tie.spec (λ c κs. search rules) (λ c. search rules) returns)
+    record { exact = search shown; fits = shown_fits r cache replay sessions }

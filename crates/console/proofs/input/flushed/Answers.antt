@@ -1,0 +1,22 @@
+-- `input::flushed` meets its contract: the answers end at the start where fewer than 8,192 octets were free.
+-- Assumes nothing.
+use mathlib.Core.Logic.{⊎_elim}
+use Prim.Native.Nat.{◌-◌}
+use native.Mathlib.Omega.{arith}
+use borrow.Author.Rules.{rules}
+use borrow.Author.Tests.{ltb-true, ltb-false}
+use lib.ListN.{length}
+use Rattle.console.proofs.InputLaws.{freed_short, freed_long}
+use Rattle.console.proofs.input.flushed.Goals as goal
+
+pub returns-then-out-lt-ROOM : goal.returns-then-out-lt-ROOM
+returns-then-out-lt-ROOM c =
+    let a = c.args in
+    ⊎_elim (λ w. freed_short _ _ (omega (arith, w.taken)))
+    (λ w. freed_short _ _ (omega (arith, w.0.left, ltb-true (length a.out.now - 8192) a.at w.1.taken)))
+    c.then-out-lt-ROOM.branch
+
+pub returns : goal.returns
+returns c =
+    let a = c.args in
+    freed_long _ _ (omega (arith, c.if-out-lt-ROOM.false, ltb-false (length a.out.now - 8192) a.at c.if-out-at.false-raw))

@@ -1,0 +1,8 @@
+-- `receiving::hear` meets its contract: as much of two buffers of zeros is lent as `room` said.
+-- Assumes nothing.
+use borrow.Author.Rules.{rules}
+use Rattle.console.proofs.ReceivingLaws.{heard_lent, heard_fits_lent}
+use Rattle.console.proofs.receiving.hear.Goals as goal
+
+pub returns : goal.returns
+returns c = (search heard_lent, search heard_fits_lent)

@@ -1,0 +1,16 @@
+-- `receiving::hear_into` meets its contract: what became of the PDU is put behind the answers, and behind it what was forwarded; neither buffer has grown.
+-- Assumes nothing.
+use native.Mathlib.Omega.{arith}
+use borrow.Author.Rules.{rules}
+use Rattle.console.proofs.ReceivingLaws.{heard, heard_fits_into}
+use Rattle.console.proofs.receiving.hear_into.Goals as goal
+
+pub returns : goal.returns
+returns c = record {
+  exact = search heard;
+  fits = let message = c in
+      let forward = c in
+      let hear = c in
+      let start = c in
+      heard_fits_into _ _ _ _ _ _ _ c.hear-h.ensures (omega (arith, c.forward-1.given, c.requires.0)) (omega (arith, c.message-1.given, c.requires.1));
+}
