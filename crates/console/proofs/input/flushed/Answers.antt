@@ -8,13 +8,15 @@ use borrow.Author.Tests.{ltb-true, ltb-false}
 use lib.ListN.{length}
 use Rattle.console.proofs.InputLaws.{freed_short, freed_long}
 use Rattle.console.proofs.input.flushed.Goals as goal
+use Rattle.console.proofs.input.flushed.Goals.{then-out-lt-ROOM-via-then-out-lt-ROOM, then-out-lt-ROOM-via-else-out-lt-ROOM+then-out-at}
 
 pub returns-then-out-lt-ROOM : goal.returns-then-out-lt-ROOM
 returns-then-out-lt-ROOM c =
     let a = c.args in
-    ⊎_elim (λ w. freed_short _ _ (omega (arith, w.taken)))
-    (λ w. freed_short _ _ (omega (arith, w.0.left, ltb-true (length a.out.now - 8192) a.at w.1.taken)))
-    c.then-out-lt-ROOM.branch
+    elim c.then-out-lt-ROOM.branch [
+      | then-out-lt-ROOM-via-then-out-lt-ROOM w ↦ freed_short _ _ (omega (arith, w.if-out-lt-ROOM.true))
+      | then-out-lt-ROOM-via-else-out-lt-ROOM+then-out-at w ↦ freed_short _ _ (omega (arith, w.if-out-lt-ROOM.false, w.if-out-at.true))
+    ]
 
 pub returns : goal.returns
 returns c =

@@ -14,41 +14,35 @@ use Rattle.console.proofs.TurnLaws.{ended_hear, ended_step, turn_whole, turn_par
 use Rattle.console.proofs.input.take_block.Goals as goal
 
 pub loop-at-smaller-in-Hear : goal.loop-at-smaller-in-Hear
-loop-at-smaller-in-Hear c =
-    let g = gather (flushed c) in
-    omega (arith, g.gather.ensures.0, (turn g).loop-test.taken)
+loop-at-smaller-in-Hear c = omega (arith, c.gather-piece.ensures.at_lt_at, c.loop-at-test.true)
 
 pub loop-at-preserved-in-Hear : goal.loop-at-preserved-in-Hear
 loop-at-preserved-in-Hear c =
-    let f = flushed c in
-    let g = gather f in
-    let loop = (turn g).before.loop in
+    let loop = c.loop-at in
+    let room : 8192 ≤ length loop.out = omega (arith, loop.invariant.2, c.requires) in
     let heard =
-    ended_hear _ _ _ _ _ _ _ _ _ f.flushed.ensures (room g) loop.desk loop.receiver _ _ _
-    (read f).read.ensures (said c).said.given.1 (cut c).first2.ensures (hear c).hear.ensures.0 (hear c).hear.ensures.1 in (
-      omega (arith, loop.inv.0, (line f).line.given),
-      omega (arith, loop.inv.1, (octets f).octets.given),
-      omega (arith, loop.inv.2, c.out-1.given),
-      turn_whole _ _ _ _ _ _ _ _ _ _ _ loop.inv.0 g.gather.ensures.1 loop.inv.3 _ _ (ends f).if1.taken (first f).first.ensures heard,
+    ended_hear _ _ _ _ _ _ _ _ _ c.flushed-written.ensures room loop.desk loop.receiver _ _ _
+    c.read-said.ensures c.in-Hear.is c.first-pdu.ensures c.hear-receiver.ensures.exact c.hear-receiver.ensures.fits in (
+      omega (arith, loop.invariant.0, c.gather-piece.auto.line),
+      omega (arith, loop.invariant.1, c.read-said.auto.octets),
+      omega (arith, loop.invariant.2, c.hear-receiver.auto.out),
+      turn_whole _ _ _ _ _ _ _ _ _ _ _ loop.invariant.0 c.gather-piece.ensures.gathers loop.invariant.3 _ _ c.if-piece.true c.first-whole.ensures heard,
     )
 
 pub loop-at-smaller-in_default : goal.loop-at-smaller-in_default
-loop-at-smaller-in_default c =
-    let g = gather (flushed-2 c) in
-    omega (arith, g.gather.ensures.0, (turn g).loop-test.taken)
+loop-at-smaller-in_default c = omega (arith, c.gather-piece.ensures.at_lt_at, c.loop-at-test.true)
 
 pub loop-at-preserved-in_default : goal.loop-at-preserved-in_default
 loop-at-preserved-in_default c =
-    let f = flushed-2 c in
-    let g = gather f in
-    let loop = (turn g).before.loop in
+    let loop = c.loop-at in
+    let room : 8192 ≤ length loop.out = omega (arith, loop.invariant.2, c.requires) in
     let done =
-    ended_step _ _ _ _ _ _ _ _ _ f.flushed.ensures (room g) (console loop.desk loop.receiver) _
-    (read f).read.ensures (step c).step.ensures.0 (step c).step.ensures.1 in (
-      omega (arith, loop.inv.0, (line f).line.given),
-      omega (arith, loop.inv.1, (octets f).octets.given),
-      omega (arith, loop.inv.2, (out c).out2.given),
-      turn_whole _ _ _ _ _ _ _ _ _ _ _ loop.inv.0 g.gather.ensures.1 loop.inv.3 _ _ (ends f).if1.taken (first f).first.ensures done,
+    ended_step _ _ _ _ _ _ _ _ _ c.flushed-written.ensures room (console loop.desk loop.receiver) _
+    c.read-said.ensures c.step-next.ensures.exact c.step-next.ensures.fits in (
+      omega (arith, loop.invariant.0, c.gather-piece.auto.line),
+      omega (arith, loop.invariant.1, c.read-said.auto.octets),
+      omega (arith, loop.invariant.2, c.step-next.auto.out),
+      turn_whole _ _ _ _ _ _ _ _ _ _ _ loop.invariant.0 c.gather-piece.ensures.gathers loop.invariant.3 _ _ c.if-piece.true c.first-whole.ensures done,
     )
 
 pub loop-at-preserved : goal.loop-at-preserved

@@ -5,4 +5,4 @@ use Rattle.console.proofs.ReceivingLaws.{heard_lent, heard_fits_lent}
 use Rattle.console.proofs.receiving.hear.Goals as goal
 
 pub returns : goal.returns
-returns c = (search heard_lent, search heard_fits_lent)
+returns c = record { exact = search heard_lent; fits = search heard_fits_lent }

@@ -5,4 +5,4 @@ use Rattle.console.proofs.ReceivingLaws.{spoken_lent, spoken_fits_lent}
 use Rattle.console.proofs.receiving.speak.Goals as goal
 
 pub returns : goal.returns
-returns c = (search spoken_lent, search spoken_fits_lent)
+returns c = record { exact = search spoken_lent; fits = search spoken_fits_lent }
