@@ -16,8 +16,7 @@ ghost use Rattle.radio.specs.Seal.{seal_number, seal_done};
 use network::header::Header;
 
 // 0, and out's first 33 octets are the credential of the key; 14, and out stays, where key is not 16 octets or out is shorter than 33.
-#[unsafe(no_mangle)]
-pub extern "C" fn gorephan_credentials(key: &[u8], out: &mut [u8]) -> u32
+pub fn gorephan_credentials(key: &[u8], out: &mut [u8]) -> u32
     ensures { lent result out.new ≡ credentials_done key.now out.old }
 {
     if key.len() != 16 {
@@ -40,8 +39,7 @@ fn pack(refusal: u32, trials: usize, octets: usize, place: usize) -> u32
 }
 
 // Opens a PDU under the first of four credentials that authenticates it, and writes it in clear, without NetMIC.
-#[unsafe(no_mangle)]
-pub extern "C" fn gorephan_open(credentials: &[u8], iv: u32, pdu: &[u8], out: &mut [u8]) -> u32
+pub fn gorephan_open(credentials: &[u8], iv: u32, pdu: &[u8], out: &mut [u8]) -> u32
     ensures { lent result out.new ≡ open_done credentials.now iv pdu.now out.old }
 {
     if out.len() < network::header::PDU {
@@ -90,8 +88,7 @@ fn seal_number(answer: network::sealing::Answer) -> u32
 }
 
 // Seals what the numbers and the transport say under one credential into out's first octets.
-#[unsafe(no_mangle)]
-pub extern "C" fn gorephan_seal(
+pub fn gorephan_seal(
     credential: &[u8],
     iv: u32,
     ctl: u8,

@@ -115,8 +115,7 @@ fn hear_over(r: Receiver, pdu: &[u8], slot: usize, message: &mut [u8], times: u3
 
 // Hears a PDU `times` times, each time by a receiver just set up, to which message is lent. Each hearing that is not refused counts 1, and each after
 // which session slot `slot % 8` is held counts 1. Where keys is not 48 octets nothing is heard.
-#[unsafe(no_mangle)]
-pub extern "C" fn speed_hear(
+pub fn speed_hear(
     keys: &[u8],
     first: u16,
     iv: u32,
@@ -156,14 +155,7 @@ fn hear_row(r: Receiver, pdus: &[u8], n: usize, message: &mut [u8]) -> u64
 
 // Hears the PDUs of a row, 29 octets each, by one receiver just set up, to which message is lent, and says how many are not refused. Where keys is not
 // 48 octets nothing is heard.
-#[unsafe(no_mangle)]
-pub extern "C" fn speed_hear_row(
-    keys: &[u8],
-    first: u16,
-    iv: u32,
-    pdus: &[u8],
-    message: &mut [u8],
-) -> u64
+pub fn speed_hear_row(keys: &[u8], first: u16, iv: u32, pdus: &[u8], message: &mut [u8]) -> u64
     ensures { lent result message.new ≡ heard_all keys.now first iv pdus.now message.old }
 {
     if keys.len() != 48 {
@@ -208,8 +200,7 @@ fn open_over(node: Node, pdu: &[u8], times: u32) -> u32
 }
 
 // How many of `times` openings of a PDU open it, with the network key of the same receiver. None where keys is not 48 octets.
-#[unsafe(no_mangle)]
-pub extern "C" fn speed_open_pdu(keys: &[u8], first: u16, iv: u32, pdu: &[u8], times: u32) -> u32
+pub fn speed_open_pdu(keys: &[u8], first: u16, iv: u32, pdu: &[u8], times: u32) -> u32
     ensures { result ≡ opened_times keys.now first iv pdu.now times }
 {
     if keys.len() != 48 {

@@ -53,8 +53,7 @@ fn repeated(ks: [[u8; 16]; 11], start: [u8; 16], times: u32) -> [u8; 16]
 }
 
 // 0, and the block is encrypted `times` times over itself; 14, and it stays, unless key and block have sixteen octets.
-#[unsafe(no_mangle)]
-pub extern "C" fn speed_blocks(key: &[u8], block: &mut [u8], times: u32) -> u32
+pub fn speed_blocks(key: &[u8], block: &mut [u8], times: u32) -> u32
     ensures { lent result block.new ≡ blocks_done key.now block.old times }
 {
     if key.len() != 16 {
@@ -70,8 +69,7 @@ pub extern "C" fn speed_blocks(key: &[u8], block: &mut [u8], times: u32) -> u32
 }
 
 // 0, and the first sixteen octets of out are the CMAC; 14, and out stays, unless key has sixteen octets and out at least sixteen.
-#[unsafe(no_mangle)]
-pub extern "C" fn speed_cmac(key: &[u8], message: &[u8], out: &mut [u8]) -> u32
+pub fn speed_cmac(key: &[u8], message: &[u8], out: &mut [u8]) -> u32
     ensures { lent result out.new ≡ mac_done key.now message.now out.old }
 {
     if key.len() != 16 {
@@ -88,8 +86,7 @@ pub extern "C" fn speed_cmac(key: &[u8], message: &[u8], out: &mut [u8]) -> u32
 
 // 0, and out begins with the message that was sealed with a 4-octet MIC; 1, and out stays, where it does not open; 14, and out
 // stays, unless key has sixteen octets and nonce thirteen.
-#[unsafe(no_mangle)]
-pub extern "C" fn speed_open(key: &[u8], nonce: &[u8], sealed: &[u8], out: &mut [u8]) -> u32
+pub fn speed_open(key: &[u8], nonce: &[u8], sealed: &[u8], out: &mut [u8]) -> u32
     ensures { lent result out.new ≡ open_done key.now nonce.now sealed.now out.old }
 {
     if key.len() != 16 {
