@@ -8,7 +8,7 @@ use native.Mathlib.Omega.{arith}
 use borrow.Author.Tests.{eq-eqb, lt-ltb}
 use lib.Dec.{eqb, ltb}
 use lib.ListN.{length, replicate}
-use Rattle.common.specs.Lent.{Lent, lent}
+use Rattle.common.specs.Lent.{Lent}
 use Rattle.common.specs.Lists.{xored, same, joined}
 use Rattle.common.specs.Search.{first, picked}
 use Rattle.common.proofs.Tests.{by_choice}
@@ -30,28 +30,27 @@ use Rattle.network.specs.Octets.{octets}
 use Rattle.transport.specs.declared.securing.Envelope.{Envelope}
 use Rattle.transport.specs.declared.securing.LabelUuid.{LabelUuid}
 use Rattle.transport.specs.declared.securing.MessageKey.TheVariants.{Application}
-use Rattle.transport.specs.declared.securing.Opener.{Opener}
 use Rattle.transport.specs.declared.securing.Opener.TheVariants as opener
-use Rattle.transport.specs.SecureOpen.{same_opener, place_of, pair_at}
+use Rattle.transport.specs.SecureOpen.{place_of}
 use Rattle.transport.specs.Securing.{label_places, application_key_at, label_at, message_nonce_of, secured, opened_by, fits_key}
 use Rattle.transport.specs.Securing.{application_candidates, label_candidates, is_virtual, pairs_under, pairs, opens_message, no_label}
 use Rattle.node.specs.declared.addresses.Node.{Node}
-use Rattle.node.specs.Addresses.{is_local, holds_label, answers_to, for_node, held_by, listens}
+use Rattle.node.specs.Addresses.{is_local, holds_label, for_node, held_by, listens}
 use Rattle.node.specs.Setup.{bound_within, keys_valid, next_within, elements_valid, groups_valid, index_valid, valid, network_key_at, material_at, bound_key_at, group_at, label_uuid_at, next_at}
 use Rattle.node.specs.Setup.{node_of, next_of, making}
 use Rattle.receiver.specs.declared.fresh.Answer.TheVariants.{Ready}
 use Rattle.receiver.specs.Fresh.{setting_up}
 use Rattle.receiver.proofs.Good.{good_fresh}
 use Rattle.sending.specs.Access.{is_whole, size_allowed, access_allowed}
-use Rattle.sending.specs.Request.{dst_of, additional_for, request_allowed}
+use Rattle.sending.specs.Request.{request_allowed}
 use Rattle.sending.specs.Transmission.{sending_iv, address_of, next_seq}
 use Rattle.network.specs.IvIndex.{iv_index_sent}
 use Rattle.demands.specs.GoesOut.{accepted, pdu_count}
-use Rattle.demands.specs.Instance.{application_key, short, lent_pdu, hearing}
+use Rattle.demands.specs.Instance.{application_key, short, lent_pdu}
 use Rattle.demands.specs.Interleaved as scene
 use Rattle.demands.specs.Interleaved.{start}
-use Rattle.demands.specs.ReadBack.{say_call, said_by, Shared, OwnMessageFirst, Between, goes_whole}
-use Rattle.demands.specs.Speech.{envelope_of, octets_of, label_place, HoldsLabel, opener_of, application_place}
+use Rattle.demands.specs.ReadBack.{Shared, OwnMessageFirst, Between, goes_whole}
+use Rattle.demands.specs.Speech.{envelope_of, octets_of, label_place, opener_of}
 use Rattle.demands.proofs.GoesOut.{goes_out}
 use Rattle.demands.proofs.SpeechCut.{cut_is}
 use Rattle.crowd.specs.Labels.{first_label, second_label, mast, shelter, to_label, said, LabelsMet}

@@ -3,7 +3,7 @@
 --   mast          the sender's setup: it holds the label
 --   shelter       the receiver's: it holds another of the same address before it
 --   LabelsMet     the premises hold, the two labels have one address, and the second pair opens the message
-use Rattle.std.specs.Prelude.{false, List, [], ◌∷◌, ◌≡◌, ℕ, replicate}
+use Rattle.std.specs.Prelude.{false, List, [], ◌∷◌, ◌≡◌, ℕ}
 use Rattle.common.specs.Lists.{same}
 use Rattle.keys.specs.Derivation.{label_address}
 use Rattle.transport.specs.declared.securing.MessageKey.TheVariants.{Application}

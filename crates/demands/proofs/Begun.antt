@@ -14,7 +14,7 @@ use lib.ListN.{length}
 use lib.Seq.{get_or-set_same}
 use Rattle.common.specs.Bits.{has_bit}
 use Rattle.common.specs.Lent.{Lent}
-use Rattle.network.specs.Address.{kind_of, is_unicast}
+use Rattle.network.specs.Address.{is_unicast}
 use Rattle.network.specs.Candidates.{network_key_places, key_at}
 use Rattle.network.specs.Pdu.{pdu_octets}
 use Rattle.network.specs.Sealing.{sealable}

@@ -3,15 +3,14 @@
 --   cache_holds          `CacheHolds`
 --   cached_exactly       `CachedExactly`
 --   fresh_under_index    `FreshUnderIndex`
-use mathlib.Core.Bool.{true, false, ◌&&◌, ◌||◌, true≢false}
-use mathlib.Core.List.{List, [], ◌∷◌, ◌++◌, map}
+use mathlib.Core.Bool.{true, false, true≢false}
+use mathlib.Core.List.{List, [], ◌∷◌, ◌++◌}
 use mathlib.Core.Logic.{⊎_elim}
 use mathlib.Core.Path.{◌≡◌, refl, sym, ap, ◌∙◌, subst}
-use Prim.Native.Nat.{ℕ, ◌≤◌}
+use Prim.Native.Nat.{ℕ}
 use native.Mathlib.Omega.{arith}
 use borrow.Author.Tests.{ne_eqb, leb-true, leb-false, le-leb, lt-leb}
 use lib.Dec.{eqb, leb}
-use lib.ListN.{length}
 use Rattle.common.proofs.Tests.{by_test, and_first, and_second}
 use Rattle.network.specs.declared.header.Header.{Header}
 use Rattle.network.proofs.AddressLaws.{unicast_some}
@@ -38,7 +37,7 @@ use Rattle.receiver.proofs.Opened.{opens_clear}
 use Rattle.receiver.proofs.Laws.Fresh.{fresh_is}
 use Rattle.receiver.proofs.Laws.GiveUp.{by_giving_up}
 use Rattle.receiver.proofs.Laws.Heard.{early, late, opening_of, heard_own, heard_again}
-use Rattle.receiver.proofs.Laws.Refusal.{Enters, heard_either, heard_entered}
+use Rattle.receiver.proofs.Laws.Refusal.{heard_either, heard_entered}
 use Rattle.demands.specs.Answers.{number_of}
 use Rattle.demands.specs.CacheHolds.{stopped, entered_by, entered_in, entered, CacheHolds, CachedExactly, FreshUnderIndex}
 use Rattle.demands.specs.Call.{Call, Hear, GiveUp, SendAccess, SendControl, SendSegment, Acknowledge, Stop, Heard, left_heard, step, run, after}

@@ -19,7 +19,6 @@ use Rattle.common.proofs.BitLaws.{has_none}
 use Rattle.common.proofs.Tests.{by_test}
 use Rattle.keys.proofs.Widths.{nid_low}
 use Rattle.network.specs.declared.header.Header.{Header}
-use Rattle.network.specs.Address.{kind_of}
 use Rattle.network.specs.Candidates.{network_key_places, key_at}
 use Rattle.network.specs.Pdu.{pdu_octets}
 use Rattle.network.specs.Sealing.{most_transport, sealable}

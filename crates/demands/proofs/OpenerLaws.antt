@@ -6,13 +6,11 @@
 --   plain-..                        a message to an address that is not virtual, under the first application key
 use mathlib.Core.Bool.{Bool, true, false, true≢false}
 use mathlib.Core.List.{List, []}
-use mathlib.Core.Path.{◌≡◌, refl, sym, ap, ◌∙◌}
+use mathlib.Core.Path.{◌≡◌, refl, sym, ◌∙◌}
 use Prim.Native.Nat.{ℕ, ◌≤◌, ◌<◌, min}
 use native.Mathlib.Omega.{arith}
 use lib.ListN.{length}
-use Rattle.common.specs.Choice.{if◌then◌else◌}
 use Rattle.common.specs.Lists.{same}
-use Rattle.common.specs.Search.{first}
 use Rattle.common.proofs.Same.{same_eq}
 use Rattle.common.proofs.Search.{first_passes}
 use Rattle.common.proofs.Tests.{by_test}

@@ -18,7 +18,6 @@ use Rattle.network.specs.Opening.{opening}
 use Rattle.network.specs.Pdu.{pdu_octets, pdu_of}
 use Rattle.network.specs.Sealing.{sealable}
 use Rattle.network.specs.SealOpen.{Formed, Receives}
-use Rattle.network.specs.Trial.{tried}
 use Rattle.network.proofs.AddressLaws.{unicast_some}
 use Rattle.network.proofs.SealOpen.{open_seal}
 use Rattle.transport.specs.Segment.{message_octets}

@@ -7,7 +7,7 @@
 --   still_seen, seen_no_more            `StillSeen`, `SeenNoMore`
 --   further_append                      one list behind the other
 --   among_last                          what is among the last sixteen is in the list
-use mathlib.Core.Bool.{true, false}
+use mathlib.Core.Bool.{true}
 use mathlib.Core.List.{List, [], ◌∷◌, ◌++◌, map, append_assoc, append-nil}
 use mathlib.Core.Logic.{◌⊎◌, inl, inr, ⊎_elim}
 use mathlib.Core.Path.{◌≡◌, refl, sym, ap, ◌∙◌, subst}

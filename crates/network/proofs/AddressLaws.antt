@@ -9,9 +9,6 @@
 --   allowed_source, allowed_some   where they are allowed, SRC is unicast and DST is not 0
 --   allowed_by_kind, allowed_not   what the code answers, by its test of SRC
 use mathlib.Core.Bool.{Bool, true, false, false≢true}
-use denote.Enum.Declared.{tag_of}
-use types.Run.{OneOf, miss}
-use mathlib.Core.List.{[], ◌∷◌}
 use mathlib.Core.Logic.{inl, inr}
 use mathlib.Core.Path.{◌≡◌, refl, sym, ap, ◌∙◌, subst}
 use Prim.Native.Nat.{ℕ, ◌≤◌}
@@ -23,7 +20,6 @@ use Rattle.network.specs.declared.address.AddressKind.{AddressKind}
 use Rattle.network.specs.declared.address.AddressKind.TheVariants.{Unassigned, Unicast, Virtual, Group, Reserved}
 use Rattle.network.specs.Address.{kind_of, unicast_kind, is_unicast, reserved_kind, is_reserved, destination_kind, addresses_allowed}
 use Rattle.network.specs.Kinds.{Ranged, KindExactly}
-use Rattle.network.specs.contracts.address.AddressKind.{the_type}
 
 -- ---- ranges
 pub ranged : (a : ℕ) → Ranged (kind_of a) a

@@ -3,7 +3,7 @@
 --   good_caching                                           a PDU more in the cache
 --   good_admitted, good_upgraded                           a message was accepted, or handed up
 --   good_freed, good_opened                                a slot is zeroed, or holds a session that gathers
-use mathlib.Core.Bool.{true, false, true≢false}
+use mathlib.Core.Bool.{false, true≢false}
 use mathlib.Core.List.{List}
 use mathlib.Core.Path.{◌≡◌, refl, sym, subst, ◌∙◌}
 use Prim.Native.Nat.{ℕ, ◌<◌}

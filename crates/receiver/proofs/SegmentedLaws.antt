@@ -13,7 +13,6 @@ use Rattle.common.specs.Lent.{Lent, lent}
 use Rattle.common.specs.Lists.{onto}
 use Rattle.common.proofs.Parts.{take_own_length}
 use Rattle.network.specs.declared.header.Header.{Header}
-use Rattle.node.specs.declared.addresses.Node.{Node}
 use Rattle.node.specs.Addresses.{held_by}
 use Rattle.transport.specs.declared.form.SegmentFields.{SegmentFields}
 use Rattle.transport.specs.declared.securing.Envelope.{Envelope}

@@ -1,7 +1,7 @@
 -- This paper's number and values of each answer (document 01, "Numbers of the refusals").
 --   refusal_number n   the number of a refusal
 --   paper a            the number and values of an answer of `hear`; PaperApart: no two alike
-use Rattle.std.specs.Prelude.{List, [], ◌∷◌, ℕ}
+use Rattle.std.specs.Prelude.{[], ◌∷◌, ℕ}
 use Rattle.common.specs.Paper.{Paper, Refusal, Given, ToldApart}
 use Rattle.memory.specs.declared.outgoing.Effect.{Effect}
 use Rattle.memory.specs.declared.outgoing.Effect.TheVariants.{Nothing, Marked, Completed, Cancelled}

@@ -3,24 +3,24 @@
 -- end among the pairs, and a cipher that opens at most 384 octets and else keeps the buffer; 16 was tested for.
 -- Assumes nothing.
 use mathlib.Core.Bool.{Bool, true, false, true≢false}
-use mathlib.Core.List.{List, [], ◌∷◌, ◌++◌, map}
+use mathlib.Core.List.{List, [], ◌∷◌}
 use mathlib.Core.Path.{◌≡◌, refl, sym, ap, subst, ◌∙◌}
-use Prim.Native.Nat.{ℕ, suc, ◌+◌, ◌*◌, ◌-◌, ◌<◌, ◌≤◌, min}
+use Prim.Native.Nat.{ℕ, ◌+◌, ◌*◌, ◌-◌, ◌<◌, ◌≤◌, min}
 use native.Mathlib.Omega.{arith}
 use borrow.Author.Tests.{ltb-true, le-ltb, eq-eqb}
 use lib.Dec.{eqb, ltb}
-use lib.ListN.{length, get_or}
+use lib.ListN.{length}
 use Rattle.common.specs.Lent.{Lent, lent}
-use Rattle.common.specs.Lists.{onto, joined, same}
+use Rattle.common.specs.Lists.{onto, joined}
 use Rattle.common.specs.Paper.{number_of}
 use Rattle.common.specs.Search.{first, picked}
-use Rattle.common.specs.Trials.{Outcome, Succeeded, Failed, tries}
+use Rattle.common.specs.Trials.{Succeeded, tries}
 use Rattle.common.proofs.Joined.{All, all_get, all_map, all_joined, all_picked, tries_all, length_joined, found_at, found_picked, found_mapped}
 use Rattle.common.proofs.Picked.{places, length_places, length_picked, picked_split}
 use Rattle.common.proofs.Same.{same_refl, same_eq}
 use Rattle.common.proofs.Search.{first_passes}
-use Rattle.common.proofs.Tests.{by_test, by_choice}
-use Rattle.common.proofs.Trials.{NoneOpens, OpensAt, tries_each, tries_opens_at}
+use Rattle.common.proofs.Tests.{by_choice}
+use Rattle.common.proofs.Trials.{NoneOpens, tries_each, tries_opens_at}
 use Rattle.aes.specs.KeyExpansion.{key_schedule}
 use Rattle.modes.specs.Ccm.{mic_octets, longest_data}
 use Rattle.modes.proofs.Opened.{opening_left}
@@ -31,7 +31,7 @@ use Rattle.transport.specs.declared.securing.Opened.{Opened}
 use Rattle.transport.specs.declared.securing.Opened.TheVariants.{Message, NotOpened, ShortBuffer}
 use Rattle.transport.specs.declared.securing.Opener.{Opener}
 use Rattle.transport.specs.declared.securing.Opener.TheVariants.{Application, Labelled, Device}
-use Rattle.transport.specs.Securing.{application_key_places, label_places, trans_mic, message_nonce_of, secured, opened_by, application_key_at, label_at}
+use Rattle.transport.specs.Securing.{application_key_places, label_places, trans_mic, message_nonce_of, secured, opened_by, label_at}
 use Rattle.transport.specs.Securing.{application_candidates, label_candidates, is_virtual, pairs_under, pairs, key_by, additional_by, opened_by_pair, opens_message}
 use Rattle.transport.specs.Securing.{message_by, by_application_keys, by_device_key, unsecuring, opener_values, paper, trials_of}
 use Rattle.transport.specs.SecureOpen.{SecuredLength, Fits, same_opener, place_of, pair_at, Receives, UnsecureSecure, UnsecureSecureDevice, FirstToOpen, OpenedByFirst}

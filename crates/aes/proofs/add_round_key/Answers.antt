@@ -1,13 +1,11 @@
 -- `aes::add_round_key` meets its contract: the loop fills sixteen bytes, each the xor of the two at its place.
 -- Assumes nothing.
 use mathlib.Core.Path.{refl}
-use Prim.Native.Nat.{◌-◌}
 use native.Mathlib.Omega.{arith}
-use borrow.Author.Rules.{rules}
 use lib.Bits.{bit_xor}
 use lib.ListN.{get_or, replicate}
 use Rattle.common.specs.Lists.{xored}
-use Rattle.common.proofs.Fill.{Filled, filled_none, filled_more, filled_all}
+use Rattle.common.proofs.Fill.{filled_none, filled_more, filled_all}
 use Rattle.aes.specs.Cipher.{add_round_key}
 use Rattle.aes.proofs.add_round_key.Goals as goal
 

@@ -1,14 +1,9 @@
 -- `aes::add_round_key` meets its contract: the loop fills sixteen bytes, each the xor of the two at its place.
 -- Assumes nothing.
-use mathlib.Core.Path.{refl}
 use Prim.Native.Nat.{◌-◌}
-use native.Mathlib.Omega.{arith}
-use borrow.Author.Rules.{rules}
 use lib.Bits.{bit_xor}
-use lib.ListN.{get_or, replicate}
-use Rattle.common.specs.Lists.{xored}
-use Rattle.common.proofs.Fill.{Filled, filled_none, filled_more, filled_all}
-use Rattle.aes.specs.Cipher.{add_round_key}
+use lib.ListN.{get_or}
+use Rattle.common.proofs.Fill.{Filled}
 use Rattle.aes.proofs.add_round_key.Given as goal
 
 abbrev pub invariant-loop-i : goal.invariant-loop-i

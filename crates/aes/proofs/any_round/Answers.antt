@@ -1,6 +1,5 @@
 -- `aes::any_round` meets its contract: either way it is the steps of that round, one call each.
 -- Assumes nothing.
-use borrow.Author.Rules.{rules}
 use Rattle.aes.specs.Cipher.{round, last_round}
 use Rattle.aes.proofs.any_round.Goals as goal
 

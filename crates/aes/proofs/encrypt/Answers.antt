@@ -1,10 +1,8 @@
 -- `aes::encrypt` meets its contract: after i turns the state is that after i rounds, of which the tenth is the last.
 -- Assumes nothing.
-use mathlib.Core.Path.{◌≡◌}
-use Prim.Native.Nat.{◌≤◌, ◌-◌}
 use native.Mathlib.Omega.{arith}
 use borrow.Author.Rules.{rules}
-use Rattle.aes.proofs.Rounds.{turned, turned_none, turned_more, turned_all}
+use Rattle.aes.proofs.Rounds.{turned_none, turned_more, turned_all}
 use Rattle.aes.proofs.encrypt.Goals as goal
 
 pub loop-i-init : goal.loop-i-init

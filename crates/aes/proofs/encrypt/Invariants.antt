@@ -2,9 +2,7 @@
 -- Assumes nothing.
 use mathlib.Core.Path.{◌≡◌}
 use Prim.Native.Nat.{◌≤◌, ◌-◌}
-use native.Mathlib.Omega.{arith}
-use borrow.Author.Rules.{rules}
-use Rattle.aes.proofs.Rounds.{turned, turned_none, turned_more, turned_all}
+use Rattle.aes.proofs.Rounds.{turned}
 use Rattle.aes.proofs.encrypt.Given as goal
 
 abbrev pub invariant-loop-i : goal.invariant-loop-i

@@ -3,11 +3,11 @@
 -- the key stands in place 0 from the first turn on
 use mathlib.Core.Path.{◌≡◌, refl, ap, ◌∙◌}
 use mathlib.Core.List.{List, []}
-use Prim.Native.Nat.{ℕ, ◌+◌, ◌-◌, ◌≤◌}
+use Prim.Native.Nat.{ℕ, ◌+◌, ◌-◌}
 use native.Mathlib.Omega.{arith}
 use borrow.Author.Rules.{rules}
-use lib.ListN.{get_or, replicate}
-use Rattle.common.proofs.Fill.{Filled, filled_none, filled_more, filled_all}
+use lib.ListN.{replicate}
+use Rattle.common.proofs.Fill.{filled_none, filled_more, filled_all}
 use Rattle.aes.specs.KeyExpansion.{xPower, round_key, key_schedule}
 use Rattle.aes.proofs.KeyExpansion.{round_key_first, key_more, power_more}
 use Rattle.aes.proofs.expand.Goals as goal

@@ -1,15 +1,12 @@
 -- `aes::expand` meets its contract: before turn i the round keys below i stand in their places, and rc is the power of x that the next one has.
 -- Assumes nothing.
 -- the key stands in place 0 from the first turn on
-use mathlib.Core.Path.{◌≡◌, refl, ap, ◌∙◌}
-use mathlib.Core.List.{List, []}
-use Prim.Native.Nat.{ℕ, ◌+◌, ◌-◌, ◌≤◌}
-use native.Mathlib.Omega.{arith}
-use borrow.Author.Rules.{rules}
-use lib.ListN.{get_or, replicate}
-use Rattle.common.proofs.Fill.{Filled, filled_none, filled_more, filled_all}
-use Rattle.aes.specs.KeyExpansion.{xPower, round_key, key_schedule}
-use Rattle.aes.proofs.KeyExpansion.{round_key_first, key_more, power_more}
+use mathlib.Core.Path.{◌≡◌}
+use mathlib.Core.List.{[]}
+use Prim.Native.Nat.{◌-◌, ◌≤◌}
+use lib.ListN.{get_or}
+use Rattle.common.proofs.Fill.{Filled}
+use Rattle.aes.specs.KeyExpansion.{xPower, round_key}
 use Rattle.aes.proofs.expand.Given as goal
 
 abbrev pub invariant-loop-i : goal.invariant-loop-i

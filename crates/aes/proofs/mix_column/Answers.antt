@@ -1,6 +1,5 @@
 -- `aes::mix_column` meets its contract: with each doubled byte in its place the four sums are those of the matrix.
 -- Assumes nothing.
-use borrow.Author.Rules.{rules}
 use Rattle.aes.specs.Cipher.{mix_column, three_times}
 use Rattle.aes.proofs.mix_column.Goals as goal
 

@@ -1,6 +1,5 @@
 -- `aes::mix_columns` meets its contract: its sixteen bytes are read off the four mixed columns.
 -- Assumes nothing.
-use borrow.Author.Rules.{rules}
 use Rattle.aes.specs.Cipher.{mix_column, mix_columns}
 use Rattle.aes.proofs.mix_columns.Goals as goal
 

@@ -1,6 +1,5 @@
 -- `aes::next_key` meets its contract: the sixteen bytes are those of the four words; xored with a zero of Rcon a byte stays.
 -- Assumes nothing.
-use borrow.Author.Rules.{rules}
 use lib.Bits.{xor_zero_r}
 use Rattle.common.specs.Lists.{xored}
 use Rattle.aes.specs.KeyExpansion.{next_key, word_of, sub_word, rot_word}

@@ -1,7 +1,6 @@
 -- `aes::shift_rows` meets its contract: the sixteen places are those of `shift_rows`, by computation.
 -- Assumes nothing.
 use mathlib.Core.Path.{refl}
-use borrow.Author.Rules.{rules}
 use Rattle.aes.specs.Cipher.{shift_rows}
 use Rattle.aes.proofs.shift_rows.Goals as goal
 

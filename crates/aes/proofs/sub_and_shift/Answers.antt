@@ -1,7 +1,6 @@
 -- `aes::sub_and_shift` meets its contract: where nothing is worked out, t is a copy of the table, and the two steps are a call each.
 -- Assumes nothing.
 use mathlib.Core.Path.{ap, ◌∙◌}
-use borrow.Author.Rules.{rules}
 use Rattle.aes.specs.Copied.{copied}
 use Rattle.aes.specs.Cipher.{shift_rows}
 use Rattle.aes.proofs.sub_and_shift.Goals as goal

@@ -1,13 +1,9 @@
 -- `common::copy` meets its contract: after n octets the first n of dst are those of src, and the rest is what it was.
 -- Assumes nothing.
-use mathlib.Core.Path.{◌≡◌, refl, ap, ◌∙◌}
-use mathlib.Core.List.{List}
-use Prim.Native.Nat.{ℕ, ◌+◌, ◌≤◌, ◌-◌}
-use native.Mathlib.Omega.{arith}
-use borrow.Author.Rules.{rules}
-use borrow.Author.Tests.{ltb-true, ltb-false}
-use lib.ListN.{length, get_or, set, length-set}
-use Rattle.common.proofs.Onto.{copied, copied_more, copied_whole, copied_full}
+use mathlib.Core.Path.{◌≡◌}
+use Prim.Native.Nat.{◌≤◌, ◌-◌}
+use lib.ListN.{length}
+use Rattle.common.proofs.Onto.{copied}
 use Rattle.common.proofs.copy.Given as goal
 
 abbrev pub invariant-loop-n : goal.invariant-loop-n

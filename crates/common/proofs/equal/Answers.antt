@@ -1,13 +1,8 @@
 -- `common::equal` meets its contract: the answer is that no difference was met so far and that the rest is the same.
 -- Assumes nothing.
-use mathlib.Core.Path.{◌≡◌, refl}
-use mathlib.Core.Bool.{◌&&◌}
-use Prim.Native.Nat.{◌≤◌, ◌-◌}
+use mathlib.Core.Path.{refl}
 use native.Mathlib.Omega.{arith}
 use borrow.Author.Rules.{rules}
-use lib.Dec.{eqb}
-use lib.ListN.{length, drop}
-use Rattle.common.specs.Lists.{same}
 use Rattle.common.proofs.Same.{same_lengths, same_more, same_all}
 use Rattle.common.proofs.equal.Goals as goal
 

@@ -1,7 +1,6 @@
 -- `common::octet` meets its contract: past the end of a list `get_or` gives 0.
 -- Assumes nothing.
 use mathlib.Core.Path.{sym}
-use borrow.Author.Rules.{rules}
 use lib.ListN.{get_or-eq_default}
 use Rattle.common.proofs.octet.Goals as goal
 

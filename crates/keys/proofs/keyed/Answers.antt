@@ -1,6 +1,5 @@
 -- `keys::keyed` meets its contract: the key schedule is the one that `mac` names.
 -- Assumes nothing.
-use borrow.Author.Rules.{rules}
 use Rattle.keys.specs.Derivation.{mac}
 use Rattle.keys.proofs.keyed.Goals as goal
 

@@ -1,6 +1,5 @@
 -- `keys::s1` meets its contract: it is CMAC under sixteen zeros.
 -- Assumes nothing.
-use borrow.Author.Rules.{rules}
 use Rattle.keys.specs.Derivation.{s1}
 use Rattle.keys.proofs.s1.Goals as goal
 

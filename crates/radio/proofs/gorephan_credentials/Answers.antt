@@ -1,6 +1,5 @@
 -- `radio::gorephan_credentials` meets its contract: each return is one rule of `credentials_done`, and the tests before it say which.
 -- Assumes nothing.
-use borrow.Author.Rules.{rules}
 use Rattle.radio.proofs.CredentialLaws.{credentials_rules}
 use Rattle.radio.proofs.gorephan_credentials.Goals as goal
 

@@ -2,7 +2,6 @@
 -- length or with a foreign NID is refused before the keys are read. The number does not wrap, since what an opening tells is small.
 -- Assumes nothing.
 use native.Mathlib.Omega.{arith}
-use borrow.Author.Rules.{rules}
 use Rattle.radio.proofs.ClearPduLaws.{written_most}
 use Rattle.radio.proofs.OpenLaws.{paper_most, opened_small, open_rules}
 use Rattle.radio.proofs.gorephan_open.Goals as goal

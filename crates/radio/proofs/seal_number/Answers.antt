@@ -1,7 +1,6 @@
 -- `radio::seal_number` meets its contract: a refusal's number is 16 at most, and a PDU's length 29.
 -- Assumes nothing.
 use native.Mathlib.Omega.{arith}
-use borrow.Author.Rules.{rules}
 use Rattle.radio.specs.Seal.{seal_number}
 use Rattle.radio.proofs.SealLaws.{paper_most}
 use Rattle.radio.proofs.seal_number.Goals as goal

@@ -1,7 +1,6 @@
 -- `samples::answer_all` meets its contract: what is left of the input falls, since each line has an octet or is the last.
 -- Assumes nothing.
 use Prim.Native.Nat.{◌-◌}
-use borrow.Author.Rules.{rules}
 use lib.ListN.{length}
 use Rattle.samples.proofs.answer_all.Given as goal
 

@@ -1,7 +1,7 @@
 -- `speed::repeated` meets its contract: after i turns the block has been encrypted i times.
 -- Assumes nothing.
 use mathlib.Core.Path.{◌≡◌, refl, ap, ◌∙◌}
-use Prim.Native.Nat.{ℕ, ◌≤◌, ◌-◌}
+use Prim.Native.Nat.{ℕ}
 use native.Mathlib.Omega.{arith}
 use borrow.Author.Rules.{rules}
 use Rattle.speed.specs.Blocks.{encrypted}

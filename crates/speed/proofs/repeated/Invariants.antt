@@ -1,11 +1,8 @@
 -- `speed::repeated` meets its contract: after i turns the block has been encrypted i times.
 -- Assumes nothing.
-use mathlib.Core.Path.{◌≡◌, refl, ap, ◌∙◌}
-use Prim.Native.Nat.{ℕ, ◌≤◌, ◌-◌}
-use native.Mathlib.Omega.{arith}
-use borrow.Author.Rules.{rules}
+use mathlib.Core.Path.{◌≡◌}
+use Prim.Native.Nat.{◌≤◌, ◌-◌}
 use Rattle.speed.specs.Blocks.{encrypted}
-use Rattle.speed.proofs.Blocks.{encrypted_more}
 use Rattle.speed.proofs.repeated.Given as goal
 
 abbrev pub invariant-loop-i : goal.invariant-loop-i

@@ -1,6 +1,5 @@
 -- `speed::schedule` meets its contract: what is expanded is a copy of the key.
 -- Assumes nothing.
-use borrow.Author.Rules.{rules}
 use Rattle.speed.proofs.schedule.Goals as goal
 
 pub returns : goal.returns

@@ -1,7 +1,6 @@
 -- `speed::sixteen` meets its contract: a list of 16 is copied whole onto another of 16.
 -- Assumes nothing.
 use mathlib.Core.Path.{◌∙◌}
-use borrow.Author.Rules.{rules}
 use lib.ListN.{replicate}
 use Rattle.speed.proofs.Onto.{onto_whole}
 use Rattle.speed.proofs.sixteen.Goals as goal

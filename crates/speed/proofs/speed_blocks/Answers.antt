@@ -1,6 +1,5 @@
 -- `speed::speed_blocks` meets its contract: each return is one rule of `blocks_done`, and the tests before it say which.
 -- Assumes nothing.
-use borrow.Author.Rules.{rules}
 use Rattle.speed.proofs.Blocks.{blocks_rules}
 use Rattle.speed.proofs.speed_blocks.Goals as goal
 

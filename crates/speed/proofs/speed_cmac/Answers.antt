@@ -1,6 +1,5 @@
 -- `speed::speed_cmac` meets its contract: each return is one rule of `mac_done`, and the tests before it say which.
 -- Assumes nothing.
-use borrow.Author.Rules.{rules}
 use Rattle.speed.proofs.Mac.{mac_rules}
 use Rattle.speed.proofs.speed_cmac.Goals as goal
 

@@ -1,6 +1,5 @@
 -- `speed::speed_open` meets its contract: each return is one rule of `open_done`, and the tests before it say which.
 -- Assumes nothing.
-use borrow.Author.Rules.{rules}
 use Rattle.speed.proofs.Open.{open_rules}
 use Rattle.speed.proofs.speed_open.Goals as goal
 

@@ -1,7 +1,6 @@
 -- `speed::thirteen` meets its contract: a list of 13 is copied whole onto another of 13.
 -- Assumes nothing.
 use mathlib.Core.Path.{◌∙◌}
-use borrow.Author.Rules.{rules}
 use lib.ListN.{replicate}
 use Rattle.speed.proofs.Onto.{onto_whole}
 use Rattle.speed.proofs.thirteen.Goals as goal

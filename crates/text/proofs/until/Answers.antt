@@ -1,12 +1,8 @@
 -- `text::until` meets its contract: the mark that is to be found from `from` on is to be found from `i` on, and what is left of `s` falls.
 -- Assumes nothing.
-use mathlib.Core.Path.{◌≡◌, refl, sym, ◌∙◌}
-use Prim.Native.Nat.{◌+◌, ◌-◌, ◌≤◌}
+use mathlib.Core.Path.{refl, sym, ◌∙◌}
 use native.Mathlib.Omega.{arith}
 use borrow.Author.Rules.{rules}
-use lib.ListN.{length, drop}
-use Rattle.common.specs.Search.{first as place_of}
-use Rattle.text.specs.Field.{is}
 use Rattle.text.proofs.FieldLaws.{mark_here, mark_on, mark_past}
 use Rattle.text.proofs.until.Goals as goal
 

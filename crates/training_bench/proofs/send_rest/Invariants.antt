@@ -1,7 +1,6 @@
 -- `training_bench::send_rest` is safe and ends: the loop keeps `n` within SegN, and what is left of it falls.
 -- Assumes nothing.
 use Prim.Native.Nat.{◌≤◌, ◌-◌}
-use borrow.Author.Rules.{rules}
 use Rattle.training_bench.proofs.send_rest.Given as goal
 
 abbrev pub invariant-loop-n : goal.invariant-loop-n

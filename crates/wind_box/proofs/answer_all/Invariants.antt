@@ -1,7 +1,6 @@
 -- `wind_box::answer_all` is safe and ends: the loop keeps `i` within the questions, and what is left of them falls.
 -- Assumes nothing.
 use Prim.Native.Nat.{◌≤◌, ◌-◌}
-use borrow.Author.Rules.{rules}
 use lib.ListN.{length}
 use Rattle.wind_box.proofs.answer_all.Given as goal
 

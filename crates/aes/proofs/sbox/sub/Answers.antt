@@ -1,7 +1,6 @@
 -- `aes::sbox::sub` meets its contract: where nothing is worked out, t is a copy of the table.
 -- Assumes nothing.
 use mathlib.Core.Path.{ap, ◌∙◌}
-use borrow.Author.Rules.{rules}
 use Rattle.aes.specs.Copied.{copied}
 use Rattle.aes.proofs.sbox.sub.Goals as goal
 

@@ -1,6 +1,6 @@
 -- `aes::sbox::table` meets its contract: it is figure 7, octet for octet, or zeros.
 -- Assumes nothing.
-use mathlib.Core.Path.{refl, sym, ap, ◌∙◌}
+use mathlib.Core.Path.{sym, ap}
 use Rattle.aes.specs.Sbox.{sbox_table}
 use Rattle.aes.specs.Copied.{copied}
 use Rattle.aes.proofs.sbox.table.Goals as goal

@@ -2,7 +2,6 @@
 -- Assumes nothing.
 use mathlib.Core.Path.{sym, ap, ◌∙◌}
 use native.Mathlib.Omega.{arith}
-use borrow.Author.Rules.{rules}
 use Rattle.aes.specs.Sbox.{affine}
 use Rattle.aes.proofs.SboxRule.{worked_out}
 use Rattle.aes.proofs.worked_out.entry.Goals as goal

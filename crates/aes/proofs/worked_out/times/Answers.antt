@@ -1,10 +1,8 @@
 -- `aes::worked_out::times` meets its contract: what is gathered, xored with the product of what is left, is the product.
 -- Assumes nothing.
-use mathlib.Core.Path.{◌≡◌, refl, sym, ap, ◌∙◌}
-use mathlib.Core.Logic.{⊎_elim}
-use Prim.Native.Nat.{ℕ, ◌/◌, ◌<◌}
+use mathlib.Core.Path.{◌≡◌, sym, ap, ◌∙◌}
+use Prim.Native.Nat.{ℕ, ◌/◌}
 use native.Mathlib.Omega.{arith}
-use borrow.Author.Rules.{rules}
 use lib.Bits.{bit_xor, xor_zero_r, xor_zero_l}
 use Rattle.aes.specs.Field.{product}
 use Rattle.aes.proofs.Power.{product_none, turn_taken, turn_left}

@@ -1,6 +1,5 @@
 -- `answer::put_effect` meets its contract: each case is one rule.
 -- Assumes nothing.
-use borrow.Author.Rules.{rules}
 use Rattle.answers.proofs.AnswerLaws.{effect_rules}
 use Rattle.answers.proofs.answer.put_effect.Goals as goal
 

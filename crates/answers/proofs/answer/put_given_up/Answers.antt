@@ -1,6 +1,5 @@
 -- `answer::put_given_up` meets its contract: each case is one rule.
 -- Assumes nothing.
-use borrow.Author.Rules.{rules}
 use Rattle.answers.proofs.AnswerLaws.{given_up_rules}
 use Rattle.answers.proofs.answer.put_given_up.Goals as goal
 

@@ -1,6 +1,5 @@
 -- `answer::put_heard` meets its contract: each case is one rule.
 -- Assumes nothing.
-use borrow.Author.Rules.{rules}
 use Rattle.answers.proofs.AnswerLaws.{heard_rules}
 use Rattle.answers.proofs.answer.put_heard.Goals as goal
 

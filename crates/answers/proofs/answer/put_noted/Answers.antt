@@ -1,6 +1,5 @@
 -- `answer::put_noted` meets its contract: each case is one rule.
 -- Assumes nothing.
-use borrow.Author.Rules.{rules}
 use Rattle.answers.proofs.AnswerLaws.{noted_rules}
 use Rattle.answers.proofs.answer.put_noted.Goals as goal
 

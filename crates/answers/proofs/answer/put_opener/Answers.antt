@@ -1,6 +1,5 @@
 -- `answer::put_opener` meets its contract: each case is one rule, and its parts are put one behind the other.
 -- Assumes nothing.
-use borrow.Author.Rules.{rules}
 use Rattle.text.proofs.WrittenLaws.{put_then}
 use Rattle.answers.proofs.AnswerLaws.{opener_rules}
 use Rattle.answers.proofs.answer.put_opener.Goals as goal

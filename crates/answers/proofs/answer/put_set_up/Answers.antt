@@ -1,6 +1,5 @@
 -- `answer::put_set_up` meets its contract: each case is one rule.
 -- Assumes nothing.
-use borrow.Author.Rules.{rules}
 use Rattle.answers.proofs.AnswerLaws.{set_up_rules}
 use Rattle.answers.proofs.answer.put_set_up.Goals as goal
 

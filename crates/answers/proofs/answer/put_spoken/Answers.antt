@@ -1,6 +1,5 @@
 -- `answer::put_spoken` meets its contract: each case is one rule.
 -- Assumes nothing.
-use borrow.Author.Rules.{rules}
 use Rattle.answers.proofs.AnswerLaws.{spoken_rules}
 use Rattle.answers.proofs.answer.put_spoken.Goals as goal
 

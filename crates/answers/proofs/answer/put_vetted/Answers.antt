@@ -1,6 +1,5 @@
 -- `answer::put_vetted` meets its contract: each case is one rule.
 -- Assumes nothing.
-use borrow.Author.Rules.{rules}
 use Rattle.answers.proofs.AnswerLaws.{vetted_rules}
 use Rattle.answers.proofs.answer.put_vetted.Goals as goal
 

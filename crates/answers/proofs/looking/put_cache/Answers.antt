@@ -1,11 +1,10 @@
 -- `looking::put_cache` meets its contract: before place `i` the entries in front of it, oldest first, are put, and the places that are left fall.
 -- Assumes nothing.
-use mathlib.Core.List.{List, ◌++◌}
 use mathlib.Core.Path.{◌≡◌, ap, sym, ◌∙◌}
-use Prim.Native.Nat.{ℕ, ◌-◌, ◌%◌, ◌<◌}
+use Prim.Native.Nat.{◌%◌}
 use native.Mathlib.Omega.{arith}
 use borrow.Author.Rules.{rules}
-use lib.ListN.{length, take, drop}
+use lib.ListN.{length}
 use Rattle.common.proofs.Lists.{length_mapped}
 use Rattle.memory.specs.declared.cache.Seen.{Seen}
 use Rattle.memory.specs.Cache.{cache_entries, no_seen}
@@ -13,7 +12,7 @@ use Rattle.memory.proofs.CacheLaws.{rotated, length_rotated}
 use Rattle.text.specs.Written.{putting}
 use Rattle.text.proofs.WrittenLaws.{put_then}
 use Rattle.answers.specs.Looking.{seen_text}
-use Rattle.answers.proofs.LookingLaws.{PutSo, so_none, so_more, so_all}
+use Rattle.answers.proofs.LookingLaws.{so_none, so_more, so_all}
 use Rattle.answers.proofs.looking.put_cache.Goals as goal
 
 pub loop-i-init : goal.loop-i-init

@@ -1,17 +1,12 @@
 -- `looking::put_next` meets its contract: before element `i` the numbers of those in front of it are put, and the elements that are left fall.
 -- Assumes nothing.
 use mathlib.Core.List.{List}
-use mathlib.Core.Path.{◌≡◌, ap, sym, ◌∙◌}
+use mathlib.Core.Path.{◌≡◌}
 use Prim.Native.Nat.{ℕ, ◌-◌, min}
-use native.Mathlib.Omega.{arith}
-use borrow.Author.Rules.{rules}
-use lib.ListN.{length, take, length-take}
-use lib.Seq.{get_or-take}
+use lib.ListN.{length, take}
 use Rattle.node.specs.Addresses.{element_places}
-use Rattle.text.specs.Written.{putting}
-use Rattle.text.proofs.WrittenLaws.{put_then}
 use Rattle.answers.specs.Answer.{named}
-use Rattle.answers.proofs.LookingLaws.{PutSo, so_none, so_more, so_all}
+use Rattle.answers.proofs.LookingLaws.{PutSo}
 use Rattle.answers.proofs.looking.put_next.Given as goal
 
 -- the text of one

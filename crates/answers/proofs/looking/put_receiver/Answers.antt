@@ -1,6 +1,5 @@
 -- `looking::put_receiver` meets its contract: its parts are put one behind the other.
 -- Assumes nothing.
-use borrow.Author.Rules.{rules}
 use Rattle.text.proofs.WrittenLaws.{put_then}
 use Rattle.answers.specs.Looking.{receiver_text}
 use Rattle.answers.proofs.looking.put_receiver.Goals as goal

@@ -1,14 +1,8 @@
 -- `looking::put_replay` meets its contract: before place `i` the text of those in front of it is put, and the places that are left fall.
 -- Assumes nothing.
-use mathlib.Core.List.{List}
-use Prim.Native.Nat.{ℕ, ◌-◌}
 use native.Mathlib.Omega.{arith}
-use borrow.Author.Rules.{rules}
-use Rattle.memory.specs.declared.replay.Entry.{Entry}
-use Rattle.memory.specs.Replay.{replay_entries}
 use Rattle.text.proofs.WrittenLaws.{put_then}
-use Rattle.answers.specs.Looking.{entry_text}
-use Rattle.answers.proofs.LookingLaws.{PutSo, so_none, so_more, so_all}
+use Rattle.answers.proofs.LookingLaws.{so_none, so_more, so_all}
 use Rattle.answers.proofs.looking.put_replay.Goals as goal
 
 pub loop-i-init : goal.loop-i-init

@@ -2,13 +2,10 @@
 -- Assumes nothing.
 use mathlib.Core.List.{List}
 use Prim.Native.Nat.{ℕ, ◌-◌}
-use native.Mathlib.Omega.{arith}
-use borrow.Author.Rules.{rules}
 use Rattle.memory.specs.declared.replay.Entry.{Entry}
 use Rattle.memory.specs.Replay.{replay_entries}
-use Rattle.text.proofs.WrittenLaws.{put_then}
 use Rattle.answers.specs.Looking.{entry_text}
-use Rattle.answers.proofs.LookingLaws.{PutSo, so_none, so_more, so_all}
+use Rattle.answers.proofs.LookingLaws.{PutSo}
 use Rattle.answers.proofs.looking.put_replay.Given as goal
 
 -- the text of one

@@ -1,12 +1,8 @@
 -- `looking::put_sessions` meets its contract: before place `i` the text of those in front of it is put, and the places that are left fall.
 -- Assumes nothing.
-use Prim.Native.Nat.{◌-◌}
 use native.Mathlib.Omega.{arith}
-use borrow.Author.Rules.{rules}
 use Rattle.text.proofs.WrittenLaws.{put_then}
-use Rattle.memory.specs.Session.{session_slots}
-use Rattle.answers.specs.Looking.{session_text}
-use Rattle.answers.proofs.LookingLaws.{PutSo, so_none, so_more, so_all}
+use Rattle.answers.proofs.LookingLaws.{so_none, so_more, so_all}
 use Rattle.answers.proofs.looking.put_sessions.Goals as goal
 
 pub loop-i-init : goal.loop-i-init

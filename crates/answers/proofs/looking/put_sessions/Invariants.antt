@@ -1,12 +1,9 @@
 -- `looking::put_sessions` meets its contract: before place `i` the text of those in front of it is put, and the places that are left fall.
 -- Assumes nothing.
 use Prim.Native.Nat.{◌-◌}
-use native.Mathlib.Omega.{arith}
-use borrow.Author.Rules.{rules}
-use Rattle.text.proofs.WrittenLaws.{put_then}
 use Rattle.memory.specs.Session.{session_slots}
 use Rattle.answers.specs.Looking.{session_text}
-use Rattle.answers.proofs.LookingLaws.{PutSo, so_none, so_more, so_all}
+use Rattle.answers.proofs.LookingLaws.{PutSo}
 use Rattle.answers.proofs.looking.put_sessions.Given as goal
 
 abbrev pub invariant-loop-i : goal.invariant-loop-i

@@ -1,6 +1,5 @@
 -- `command::apart` meets its contract: each word is one test.
 -- Assumes nothing.
-use borrow.Author.Rules.{rules}
 use Rattle.commands.specs.Command.{apart}
 use Rattle.commands.proofs.ChoiceRules.{choice_rules}
 use Rattle.commands.proofs.command.apart.Goals as goal

@@ -1,6 +1,5 @@
 -- `command::giving_key` meets its contract: each word is one test, and behind them stand the words that have nothing to do with a receiver.
 -- Assumes nothing.
-use borrow.Author.Rules.{rules}
 use Rattle.commands.specs.Command.{giving_key}
 use Rattle.commands.proofs.ChoiceRules.{choice_rules}
 use Rattle.commands.proofs.command.giving_key.Goals as goal

@@ -1,6 +1,5 @@
 -- `command::of` meets its contract: where a receiver is ready, and where none is, is one rule each.
 -- Assumes nothing.
-use borrow.Author.Rules.{rules}
 use Rattle.commands.proofs.LineRules.{command_rules}
 use Rattle.commands.proofs.command.of.Goals as goal
 

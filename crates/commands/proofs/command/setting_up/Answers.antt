@@ -1,6 +1,5 @@
 -- `command::setting_up` meets its contract: each word is one test, and behind them stand the words of keys.
 -- Assumes nothing.
-use borrow.Author.Rules.{rules}
 use Rattle.commands.specs.Command.{setting_up}
 use Rattle.commands.proofs.ChoiceRules.{choice_rules}
 use Rattle.commands.proofs.command.setting_up.Goals as goal

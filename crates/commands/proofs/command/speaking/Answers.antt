@@ -1,6 +1,5 @@
 -- `command::speaking` meets its contract: each word is one test, and behind them stand the words that lead to a receiver.
 -- Assumes nothing.
-use borrow.Author.Rules.{rules}
 use Rattle.commands.specs.Command.{speaking}
 use Rattle.commands.proofs.ChoiceRules.{choice_rules}
 use Rattle.commands.proofs.command.speaking.Goals as goal

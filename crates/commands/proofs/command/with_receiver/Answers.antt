@@ -1,6 +1,5 @@
 -- `command::with_receiver` meets its contract: each word is one test, and behind them stand the words that send.
 -- Assumes nothing.
-use borrow.Author.Rules.{rules}
 use Rattle.commands.specs.Command.{with_receiver}
 use Rattle.commands.proofs.ChoiceRules.{choice_rules}
 use Rattle.commands.proofs.command.with_receiver.Goals as goal

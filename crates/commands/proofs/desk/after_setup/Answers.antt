@@ -1,9 +1,7 @@
 -- `desk::after_setup` meets its contract: nothing is given, and there is a receiver where there was one or the setup was ready.
 -- Assumes nothing.
 use mathlib.Core.Bool.{◌||◌}
-use mathlib.Core.Logic.{⊎_elim}
 use mathlib.Core.Path.{◌≡◌}
-use borrow.Author.Rules.{rules}
 use Rattle.commands.proofs.DeskLaws.{ready_before, ready_now}
 use Rattle.commands.proofs.desk.after_setup.Goals as goal
 use Rattle.commands.proofs.desk.after_setup.Goals.{then-d, else-d}

@@ -1,6 +1,5 @@
 -- `desk::forget` meets its contract: no property is named.
 -- Assumes nothing.
-use borrow.Author.Rules.{rules}
 use Rattle.commands.proofs.DeskLaws.{forgotten}
 use Rattle.commands.proofs.desk.forget.Goals as goal
 

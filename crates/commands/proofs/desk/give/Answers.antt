@@ -1,7 +1,6 @@
 -- `desk::give` meets its contract: the line's fields fit or not.
 -- Assumes nothing.
 use mathlib.Core.Path.{ap, ◌∙◌}
-use borrow.Author.Rules.{rules}
 use borrow.Author.Tests.{not-true, not-false}
 use Rattle.commands.specs.Desk.{noting, noting_given}
 use Rattle.commands.proofs.DeskLaws.{given_fit, given_unfit}

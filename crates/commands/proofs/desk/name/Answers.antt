@@ -1,6 +1,5 @@
 -- `desk::name` meets its contract: the property is named, or it is refused.
 -- Assumes nothing.
-use borrow.Author.Rules.{rules}
 use Rattle.commands.proofs.DeskLaws.{property_named, property_refused}
 use Rattle.commands.proofs.desk.name.Goals as goal
 

@@ -1,6 +1,5 @@
 -- `desk::note` meets its contract: what a line leaves is by what it says.
 -- Assumes nothing.
-use borrow.Author.Rules.{rules}
 use Rattle.commands.specs.Desk.{noting}
 use Rattle.commands.proofs.desk.note.Goals as goal
 

@@ -1,6 +1,5 @@
 -- `desk::start` meets its contract: nothing is given, and no property is named.
 -- Assumes nothing.
-use borrow.Author.Rules.{rules}
 use Rattle.commands.proofs.desk.start.Goals as goal
 
 pub returns : goal.returns

@@ -1,6 +1,5 @@
 -- `line::acknowledgement` meets its contract: each field fits or not.
 -- Assumes nothing.
-use borrow.Author.Rules.{rules}
 use Rattle.commands.specs.Line.{ack_of}
 use Rattle.commands.proofs.FieldRules.{field_rules}
 use Rattle.commands.proofs.line.acknowledgement.Goals as goal

@@ -1,6 +1,5 @@
 -- `line::control` meets its contract: each field fits or not.
 -- Assumes nothing.
-use borrow.Author.Rules.{rules}
 use Rattle.commands.specs.Line.{control_of}
 use Rattle.commands.proofs.FieldRules.{field_rules}
 use Rattle.commands.proofs.line.control.Goals as goal

@@ -1,6 +1,5 @@
 -- `line::hear` meets its contract: the octets fit or not.
 -- Assumes nothing.
-use borrow.Author.Rules.{rules}
 use Rattle.commands.specs.Line.{hear_of}
 use Rattle.commands.proofs.FieldRules.{field_rules}
 use Rattle.commands.proofs.line.hear.Goals as goal

@@ -1,6 +1,5 @@
 -- `line::property` meets its contract: each field fits or not.
 -- Assumes nothing.
-use borrow.Author.Rules.{rules}
 use Rattle.commands.specs.Line.{property_of}
 use Rattle.commands.proofs.FieldRules.{field_rules}
 use Rattle.commands.proofs.line.property.Goals as goal

@@ -1,6 +1,5 @@
 -- `line::read` meets its contract: each test is one rule, and then each command one case of `said_by`.
 -- Assumes nothing.
-use borrow.Author.Rules.{rules}
 use Rattle.commands.specs.Line.{said_by}
 use Rattle.commands.proofs.LineRules.{line_rules}
 use Rattle.commands.proofs.line.read.Goals as goal

@@ -1,6 +1,5 @@
 -- `line::read_order` meets its contract: each order is one case of `order_of`.
 -- Assumes nothing.
-use borrow.Author.Rules.{rules}
 use Rattle.commands.specs.Line.{order_of}
 use Rattle.commands.proofs.LineRules.{order_rules}
 use Rattle.commands.proofs.line.read_order.Goals as goal

@@ -1,6 +1,5 @@
 -- `line::readings` meets its contract: the octets fit or not.
 -- Assumes nothing.
-use borrow.Author.Rules.{rules}
 use Rattle.commands.specs.Line.{readings_of}
 use Rattle.commands.proofs.FieldRules.{field_rules}
 use Rattle.commands.proofs.line.readings.Goals as goal

@@ -1,6 +1,5 @@
 -- `line::segment` meets its contract: the number fits or not.
 -- Assumes nothing.
-use borrow.Author.Rules.{rules}
 use Rattle.commands.specs.Line.{segment_of}
 use Rattle.commands.proofs.FieldRules.{field_rules}
 use Rattle.commands.proofs.line.segment.Goals as goal

@@ -1,6 +1,5 @@
 -- `line::session` meets its contract: the address fits or not.
 -- Assumes nothing.
-use borrow.Author.Rules.{rules}
 use Rattle.commands.specs.Line.{drop_of}
 use Rattle.commands.proofs.FieldRules.{field_rules}
 use Rattle.commands.proofs.line.session.Goals as goal

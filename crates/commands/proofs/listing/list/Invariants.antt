@@ -1,18 +1,13 @@
 -- `listing::list` meets its contract: at `at` stands a space or the line's end, and what the line's PDUs are to come to is what those behind `at` come
 -- to, put behind the PDUs read. What is left of the line falls.
 -- Assumes nothing.
-use mathlib.Core.Path.{◌≡◌, refl, sym, ap, ◌∙◌}
-use Prim.Native.Nat.{ℕ, ◌+◌, ◌-◌, ◌<◌}
-use native.Mathlib.Nat.{zero-add}
-use native.Mathlib.Omega.{arith}
-use borrow.Author.Rules.{rules}
+use mathlib.Core.Path.{◌≡◌}
+use Prim.Native.Nat.{◌-◌, ◌<◌}
 use lib.ListN.{length, get_or, drop}
 use Rattle.common.specs.Lent.{lent}
-use Rattle.common.specs.Search.{first}
-use Rattle.text.specs.Field.{is, fields}
-use Rattle.text.proofs.FieldLaws.{mark_found, fields_rest}
+use Rattle.text.specs.Field.{fields}
 use Rattle.commands.specs.Listing.{listing}
-use Rattle.commands.proofs.ListingLaws.{list_from, pdu_at_most, list_start, list_on, list_wrong, list_end}
+use Rattle.commands.proofs.ListingLaws.{list_from}
 use Rattle.commands.proofs.listing.list.Given as goal
 
 abbrev pub invariant-loop-at : goal.invariant-loop-at

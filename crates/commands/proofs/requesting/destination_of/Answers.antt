@@ -1,6 +1,5 @@
 -- `requesting::destination_of` meets its contract: it begins as a label does, or not, and what is then read is a number that fits or not.
 -- Assumes nothing.
-use borrow.Author.Rules.{rules}
 use Rattle.commands.proofs.FieldRules.{label_long, destination_rules}
 use Rattle.commands.proofs.requesting.destination_of.Goals as goal
 

@@ -1,6 +1,5 @@
 -- `requesting::key_of` meets its contract: it is `dev`, or a number that fits or not.
 -- Assumes nothing.
-use borrow.Author.Rules.{rules}
 use Rattle.commands.specs.Request.{with_key}
 use Rattle.commands.proofs.ChoiceRules.{choice_rules}
 use Rattle.commands.proofs.FieldRules.{field_rules}

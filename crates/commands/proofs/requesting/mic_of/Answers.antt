@@ -1,6 +1,5 @@
 -- `requesting::mic_of` meets its contract: it is a number, and that is 4, 8 or another.
 -- Assumes nothing.
-use borrow.Author.Rules.{rules}
 use Rattle.commands.specs.Request.{with_mic}
 use Rattle.commands.proofs.ChoiceRules.{choice_rules}
 use Rattle.commands.proofs.FieldRules.{field_rules}

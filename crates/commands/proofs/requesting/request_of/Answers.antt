@@ -1,6 +1,5 @@
 -- `requesting::request_of` meets its contract: each field fits or not.
 -- Assumes nothing.
-use borrow.Author.Rules.{rules}
 use Rattle.commands.specs.Request.{with_request}
 use Rattle.commands.proofs.FieldRules.{field_rules}
 use Rattle.commands.proofs.requesting.request_of.Goals as goal

@@ -1,6 +1,5 @@
 -- `setting::give` meets its contract: what a line gives is by its item.
 -- Assumes nothing.
-use borrow.Author.Rules.{rules}
 use Rattle.commands.proofs.setting.give.Goals as goal
 
 pub returns-in-NetKey : goal.returns-in-NetKey

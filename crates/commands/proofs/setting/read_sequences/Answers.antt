@@ -1,13 +1,13 @@
 -- `setting::read_sequences` meets its contract: at `at` stands a space or the line's end, and what the line's SEQs are to come to is what those behind
 -- `at` come to with the numbers read. What is left of the line falls.
 -- Assumes nothing.
-use mathlib.Core.Path.{◌≡◌, sym, ap, ap₂, ◌∙◌}
+use mathlib.Core.Path.{sym, ap, ap₂, ◌∙◌}
 use mathlib.Core.List.{List}
-use Prim.Native.Nat.{ℕ, ◌+◌, ◌-◌, ◌<◌}
+use Prim.Native.Nat.{ℕ, ◌+◌}
 use native.Mathlib.Nat.{zero-add}
 use native.Mathlib.Omega.{arith}
 use borrow.Author.Rules.{rules}
-use lib.ListN.{length, get_or, drop}
+use lib.ListN.{drop}
 use Rattle.common.specs.Search.{first}
 use Rattle.text.specs.Field.{is, fields}
 use Rattle.text.proofs.FieldLaws.{mark_found, fields_rest}

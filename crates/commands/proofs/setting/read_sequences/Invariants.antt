@@ -1,18 +1,12 @@
 -- `setting::read_sequences` meets its contract: at `at` stands a space or the line's end, and what the line's SEQs are to come to is what those behind
 -- `at` come to with the numbers read. What is left of the line falls.
 -- Assumes nothing.
-use mathlib.Core.Path.{◌≡◌, sym, ap, ap₂, ◌∙◌}
-use mathlib.Core.List.{List}
-use Prim.Native.Nat.{ℕ, ◌+◌, ◌-◌, ◌<◌}
-use native.Mathlib.Nat.{zero-add}
-use native.Mathlib.Omega.{arith}
-use borrow.Author.Rules.{rules}
+use mathlib.Core.Path.{◌≡◌}
+use Prim.Native.Nat.{◌-◌, ◌<◌}
 use lib.ListN.{length, get_or, drop}
-use Rattle.common.specs.Search.{first}
-use Rattle.text.specs.Field.{is, fields}
-use Rattle.text.proofs.FieldLaws.{mark_found, fields_rest}
+use Rattle.text.specs.Field.{fields}
 use Rattle.commands.specs.Setting.{sequences_of}
-use Rattle.commands.proofs.SettingLaws.{sequences_from, read_start, read_on, read_wrong, read_end}
+use Rattle.commands.proofs.SettingLaws.{sequences_from}
 use Rattle.commands.proofs.setting.read_sequences.Given as goal
 
 abbrev pub invariant-loop-at : goal.invariant-loop-at

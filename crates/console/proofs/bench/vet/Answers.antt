@@ -1,7 +1,6 @@
 -- `bench::vet` meets its contract: as much of a buffer of zeros is lent as `room` said, and what vetting gave is put behind the answers.
 -- Assumes nothing.
 use mathlib.Core.Path.{ap}
-use borrow.Author.Rules.{rules}
 use lib.ListN.{length}
 use Rattle.console.proofs.BenchLaws.{vetted_long, vetted, vetted_short}
 use Rattle.console.proofs.bench.vet.Goals as goal

@@ -1,10 +1,8 @@
 -- `input::flushed` meets its contract: the answers end at the start where fewer than 8,192 octets were free.
 -- Assumes nothing.
-use mathlib.Core.Logic.{⊎_elim}
 use Prim.Native.Nat.{◌-◌}
 use native.Mathlib.Omega.{arith}
-use borrow.Author.Rules.{rules}
-use borrow.Author.Tests.{ltb-true, ltb-false}
+use borrow.Author.Tests.{ltb-false}
 use lib.ListN.{length}
 use Rattle.console.proofs.InputLaws.{freed_short, freed_long}
 use Rattle.console.proofs.input.flushed.Goals as goal

@@ -1,14 +1,14 @@
 -- `input::take_block` meets its contract: what comes of the rest of the block is what comes of all of it. No call changes the length of a buffer,
 -- and what is left of the block falls.
 -- Assumes nothing.
-use mathlib.Core.Path.{◌≡◌, refl}
-use Prim.Native.Nat.{◌-◌, ◌≤◌}
+use mathlib.Core.Path.{refl}
+use Prim.Native.Nat.{◌≤◌}
 use native.Mathlib.Omega.{arith}
 use borrow.Author.Rules.{rules}
-use lib.ListN.{length, take, drop}
+use lib.ListN.{length, take}
 use Rattle.common.specs.Lent.{lent}
 use Rattle.console.specs.Step.{console}
-use Rattle.console.specs.Input.{reader, reads_all}
+use Rattle.console.specs.Input.{reader}
 use Rattle.console.proofs.InputLaws.{all_read}
 use Rattle.console.proofs.TurnLaws.{ended_hear, ended_step, turn_whole, turn_part}
 use Rattle.console.proofs.input.take_block.Goals as goal

@@ -1,6 +1,5 @@
 -- `receiving::give_up` meets its contract: each request is one case of `given_up`.
 -- Assumes nothing.
-use borrow.Author.Rules.{rules}
 use Rattle.console.specs.Receiving.{given_up}
 use Rattle.console.proofs.receiving.give_up.Goals as goal
 

@@ -1,6 +1,5 @@
 -- `receiving::hear` meets its contract: as much of two buffers of zeros is lent as `room` said.
 -- Assumes nothing.
-use borrow.Author.Rules.{rules}
 use Rattle.console.proofs.ReceivingLaws.{heard_lent, heard_fits_lent}
 use Rattle.console.proofs.receiving.hear.Goals as goal
 

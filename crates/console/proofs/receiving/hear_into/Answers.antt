@@ -1,7 +1,6 @@
 -- `receiving::hear_into` meets its contract: what became of the PDU is put behind the answers, and behind it what was forwarded; neither buffer has grown.
 -- Assumes nothing.
 use native.Mathlib.Omega.{arith}
-use borrow.Author.Rules.{rules}
 use Rattle.console.proofs.ReceivingLaws.{heard, heard_fits_into}
 use Rattle.console.proofs.receiving.hear_into.Goals as goal
 

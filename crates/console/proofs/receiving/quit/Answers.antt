@@ -1,6 +1,5 @@
 -- `receiving::quit` meets its contract: what giving up is answered is put behind the answers.
 -- Assumes nothing.
-use borrow.Author.Rules.{rules}
 use Rattle.console.proofs.ReceivingLaws.{quits}
 use Rattle.console.proofs.receiving.quit.Goals as goal
 

@@ -1,6 +1,5 @@
 -- `receiving::send` meets its contract: each request is one case of `sent`.
 -- Assumes nothing.
-use borrow.Author.Rules.{rules}
 use Rattle.console.proofs.ReceivingLaws.{sent_rules}
 use Rattle.console.proofs.receiving.send.Goals as goal
 

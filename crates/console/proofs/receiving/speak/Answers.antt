@@ -1,6 +1,5 @@
 -- `receiving::speak` meets its contract: as much of a buffer of zeros is lent as `room` said.
 -- Assumes nothing.
-use borrow.Author.Rules.{rules}
 use Rattle.console.proofs.ReceivingLaws.{spoken_lent, spoken_fits_lent}
 use Rattle.console.proofs.receiving.speak.Goals as goal
 

@@ -1,7 +1,6 @@
 -- `receiving::speak_into` meets its contract: what the request is answered is put behind the answers; the buffer has not grown.
 -- Assumes nothing.
 use native.Mathlib.Omega.{arith}
-use borrow.Author.Rules.{rules}
 use Rattle.console.proofs.ReceivingLaws.{spoken, spoken_fits_into}
 use Rattle.console.proofs.receiving.speak_into.Goals as goal
 

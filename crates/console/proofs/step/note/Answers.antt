@@ -1,6 +1,5 @@
 -- `step::note` meets its contract: what was noted is answered behind the answers.
 -- Assumes nothing.
-use borrow.Author.Rules.{rules}
 use Rattle.console.proofs.StepLaws.{noted}
 use Rattle.console.proofs.step.note.Goals as goal
 

@@ -1,6 +1,5 @@
 -- `step::set_up` meets its contract: whether the receiver was made says which stays.
 -- Assumes nothing.
-use borrow.Author.Rules.{rules}
 use Rattle.console.proofs.StepLaws.{set_up_rules}
 use Rattle.console.proofs.step.set_up.Goals as goal
 

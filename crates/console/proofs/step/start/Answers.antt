@@ -1,6 +1,5 @@
 -- `step::start` meets its contract: nothing was given.
 -- Assumes nothing.
-use borrow.Author.Rules.{rules}
 use Rattle.console.specs.Step.{starting}
 use Rattle.console.proofs.step.start.Goals as goal
 

@@ -1,6 +1,5 @@
 -- `step::step` meets its contract: what the line says is one rule, and its answer fits.
 -- Assumes nothing.
-use borrow.Author.Rules.{rules}
 use Rattle.console.proofs.StepLaws.{step_rules}
 use Rattle.console.proofs.Fits.{fits_rules}
 use Rattle.console.proofs.step.step.Goals as goal

@@ -1,6 +1,5 @@
 -- `step::tell` meets its contract: what the message says is put behind the answers.
 -- Assumes nothing.
-use borrow.Author.Rules.{rules}
 use Rattle.console.proofs.StepLaws.{told}
 use Rattle.console.proofs.step.tell.Goals as goal
 

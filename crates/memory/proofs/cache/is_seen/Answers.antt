@@ -1,6 +1,5 @@
 -- `memory::cache::is_seen` meets its contract: `seen` asks whether the place is one of them.
 -- Assumes nothing.
-use borrow.Author.Rules.{rules}
 use Rattle.memory.specs.Cache.{seen}
 use Rattle.memory.proofs.cache.is_seen.Goals as goal
 

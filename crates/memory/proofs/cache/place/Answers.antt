@@ -1,10 +1,8 @@
 -- `memory::cache::place` meets its contract: no entry before i is it, so the first that is ends the search. The measure is how many are left.
 -- Assumes nothing.
 use mathlib.Core.Path.{sym, ◌∙◌}
-use Prim.Native.Nat.{◌-◌}
 use borrow.Author.Rules.{rules}
-use Rattle.common.proofs.Search.{Seeking, seek_start, seek_here, seek_on, seek_past}
-use Rattle.memory.specs.Cache.{cache_entries, same_seen}
+use Rattle.common.proofs.Search.{seek_start, seek_here, seek_on, seek_past}
 use Rattle.memory.proofs.cache.place.Goals as goal
 
 pub returns-then-same : goal.returns-then-same

@@ -1,9 +1,7 @@
 -- `memory::cache::place` meets its contract: no entry before i is it, so the first that is ends the search. The measure is how many are left.
 -- Assumes nothing.
-use mathlib.Core.Path.{sym, ◌∙◌}
 use Prim.Native.Nat.{◌-◌}
-use borrow.Author.Rules.{rules}
-use Rattle.common.proofs.Search.{Seeking, seek_start, seek_here, seek_on, seek_past}
+use Rattle.common.proofs.Search.{Seeking}
 use Rattle.memory.specs.Cache.{cache_entries, same_seen}
 use Rattle.memory.proofs.cache.place.Given as goal
 

@@ -1,7 +1,6 @@
 -- `memory::cache::remember` meets its contract: it makes the very cache that `remembered` gives.
 -- Assumes nothing.
 use mathlib.Core.Path.{refl}
-use borrow.Author.Rules.{rules}
 use Rattle.memory.specs.Cache.{remembered}
 use Rattle.memory.proofs.cache.remember.Goals as goal
 

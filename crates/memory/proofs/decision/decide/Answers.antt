@@ -1,6 +1,5 @@
 -- `memory::decision::decide` meets its contract: each return is one rule of `decision`.
 -- Assumes nothing.
-use borrow.Author.Rules.{rules}
 use Rattle.memory.proofs.DecisionLaws.{decision_rules}
 use Rattle.memory.proofs.decision.decide.Goals as goal
 

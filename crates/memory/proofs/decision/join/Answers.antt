@@ -1,6 +1,5 @@
 -- `memory::decision::join` meets its contract: each return is one rule of `joining`.
 -- Assumes nothing.
-use borrow.Author.Rules.{rules}
 use Rattle.memory.proofs.DecisionLaws.{joining_rules}
 use Rattle.memory.proofs.decision.join.Goals as goal
 

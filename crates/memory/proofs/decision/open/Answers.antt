@@ -1,6 +1,5 @@
 -- `memory::decision::open` meets its contract: each return is one rule of `opening`.
 -- Assumes nothing.
-use borrow.Author.Rules.{rules}
 use Rattle.memory.proofs.DecisionLaws.{opening_rules}
 use Rattle.memory.proofs.decision.open.Goals as goal
 

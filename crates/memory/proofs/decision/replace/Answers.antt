@@ -1,6 +1,5 @@
 -- `memory::decision::replace` meets its contract: each return is one rule of `replacing`.
 -- Assumes nothing.
-use borrow.Author.Rules.{rules}
 use Rattle.memory.proofs.DecisionLaws.{replacing_rules}
 use Rattle.memory.proofs.decision.replace.Goals as goal
 

@@ -1,6 +1,5 @@
 -- `memory::outgoing::acknowledge` meets its contract: each return is one rule of `acknowledging`.
 -- Assumes nothing.
-use borrow.Author.Rules.{rules}
 use Rattle.memory.proofs.OutgoingLaws.{acknowledging_rules}
 use Rattle.memory.proofs.outgoing.acknowledge.Goals as goal
 

@@ -1,6 +1,5 @@
 -- `memory::outgoing::heard_with` meets its contract: it joins the very bits that `heard_with` does.
 -- Assumes nothing.
-use borrow.Author.Rules.{rules}
 use Rattle.memory.specs.Outgoing.{heard_with}
 use Rattle.memory.proofs.outgoing.heard_with.Goals as goal
 

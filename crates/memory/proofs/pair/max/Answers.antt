@@ -1,6 +1,5 @@
 -- `memory::pair::max` meets its contract: each return is one rule of `greater`.
 -- Assumes nothing.
-use borrow.Author.Rules.{rules}
 use Rattle.memory.proofs.PairLaws.{greater_rules}
 use Rattle.memory.proofs.pair.max.Goals as goal
 

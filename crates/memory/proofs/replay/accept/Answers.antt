@@ -1,7 +1,6 @@
 -- `memory::replay::accept` meets its contract: it inserts the very entry that `accepted` does.
 -- Assumes nothing.
 use mathlib.Core.Path.{◌∙◌}
-use borrow.Author.Rules.{rules}
 use Rattle.memory.specs.Replay.{accepted_by}
 use Rattle.memory.proofs.replay.accept.Goals as goal
 

@@ -1,12 +1,9 @@
 -- `memory::replay::find` meets its contract: the search from low to high is the search of all, and behind the last place nothing stands. The measure is what is left between them.
 -- Assumes nothing.
-use mathlib.Core.Path.{◌≡◌, refl, sym, ◌∙◌}
-use Prim.Native.Nat.{◌-◌}
+use mathlib.Core.Path.{refl, sym, ◌∙◌}
 use native.Mathlib.Omega.{arith}
-use borrow.Author.Rules.{rules}
-use lib.ListN.{length, get_or}
-use Rattle.common.proofs.Halving.{Halving, halving_start, halving_up, halving_down, halving_ends}
-use Rattle.memory.specs.Replay.{replay_entries, no_entry, before, entry_place}
+use Rattle.common.proofs.Halving.{halving_start, halving_up, halving_down, halving_ends}
+use Rattle.memory.specs.Replay.{entry_place}
 use Rattle.memory.proofs.ReplayLaws.{find_there, find_past}
 use Rattle.memory.proofs.replay.find.Goals as goal
 

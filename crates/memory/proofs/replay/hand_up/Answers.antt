@@ -1,7 +1,6 @@
 -- `memory::replay::hand_up` meets its contract: it inserts the very entry that `handed_up` does.
 -- Assumes nothing.
 use mathlib.Core.Path.{◌∙◌}
-use borrow.Author.Rules.{rules}
 use Rattle.memory.specs.Replay.{handed_up_by}
 use Rattle.memory.proofs.replay.hand_up.Goals as goal
 

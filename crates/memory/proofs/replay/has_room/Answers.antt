@@ -1,6 +1,5 @@
 -- `memory::replay::has_room` meets its contract: each return is one rule of `has_room`.
 -- Assumes nothing.
-use borrow.Author.Rules.{rules}
 use Rattle.memory.specs.Replay.{last_free}
 use Rattle.memory.proofs.ReplayLaws.{room_own, room_last}
 use Rattle.memory.proofs.replay.has_room.Goals as goal

@@ -2,7 +2,6 @@
 -- Assumes nothing.
 use mathlib.Core.Path.{sym, ◌∙◌}
 use native.Mathlib.Omega.{arith}
-use borrow.Author.Rules.{rules}
 use Rattle.memory.proofs.ReplayLaws.{last_free_law, last_used, found_within, insert_zero, insert_own, insert_between, insert_full}
 use Rattle.memory.proofs.replay.insert.Goals as goal
 

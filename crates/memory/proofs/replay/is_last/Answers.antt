@@ -1,6 +1,5 @@
 -- `memory::replay::is_last` meets its contract: each return is one rule of `is_last`.
 -- Assumes nothing.
-use borrow.Author.Rules.{rules}
 use Rattle.memory.proofs.ReplayLaws.{last_rules}
 use Rattle.memory.proofs.replay.is_last.Goals as goal
 

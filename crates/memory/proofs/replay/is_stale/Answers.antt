@@ -1,6 +1,5 @@
 -- `memory::replay::is_stale` meets its contract: each return is one rule of `stale`.
 -- Assumes nothing.
-use borrow.Author.Rules.{rules}
 use Rattle.memory.proofs.ReplayLaws.{stale_rules}
 use Rattle.memory.proofs.replay.is_stale.Goals as goal
 

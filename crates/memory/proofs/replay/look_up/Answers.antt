@@ -1,6 +1,5 @@
 -- `memory::replay::look_up` meets its contract: what stands at the source's place is its entry, or there is none.
 -- Assumes nothing.
-use borrow.Author.Rules.{rules}
 use Rattle.memory.proofs.ReplayLaws.{look_own, look_none}
 use Rattle.memory.proofs.replay.look_up.Goals as goal
 

@@ -1,6 +1,5 @@
 -- `memory::replay::raise` meets its contract: each return is one rule of `raised`.
 -- Assumes nothing.
-use borrow.Author.Rules.{rules}
 use Rattle.memory.proofs.ReplayLaws.{raise_rules}
 use Rattle.memory.proofs.replay.raise.Goals as goal
 

@@ -1,8 +1,7 @@
 -- `memory::replay::shift` meets its contract: place by place the list is what it is to be. The measure is what is left of the places.
 -- Assumes nothing.
 use Prim.Native.Nat.{◌-◌}
-use borrow.Author.Rules.{rules}
-use Rattle.common.proofs.Fill.{Filled, filled_none, filled_more, filled_all}
+use Rattle.common.proofs.Fill.{Filled}
 use Rattle.memory.specs.Replay.{replay_entries, no_entry, shifted_at}
 use Rattle.memory.proofs.replay.shift.Given as goal
 

@@ -1,6 +1,5 @@
 -- `memory::replay::shifted` meets its contract: each return is one rule of `shifted_at`.
 -- Assumes nothing.
-use borrow.Author.Rules.{rules}
 use Rattle.memory.proofs.ReplayLaws.{shift_rules}
 use Rattle.memory.proofs.replay.shifted.Goals as goal
 

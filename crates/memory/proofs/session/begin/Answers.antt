@@ -1,6 +1,5 @@
 -- `memory::session::begin` meets its contract: it is a free slot with the source, the SeqAuth and the terms.
 -- Assumes nothing.
-use borrow.Author.Rules.{rules}
 use Rattle.memory.specs.Session.{begun}
 use Rattle.memory.proofs.session.begin.Goals as goal
 

@@ -1,10 +1,9 @@
 -- `memory::session::free` meets its contract: no slot before is free, so the first that is ends the search. The measure is how many are left.
 -- Assumes nothing.
-use Prim.Native.Nat.{◌-◌}
 use borrow.Author.Rules.{rules}
 use borrow.Author.Tests.{eq-eqb, ne_eqb}
-use Rattle.common.proofs.Search.{Seeking, seek_start, seek_here, seek_on, seek_past}
-use Rattle.memory.specs.Session.{session_slots, is_free, free_place}
+use Rattle.common.proofs.Search.{seek_start, seek_here, seek_on, seek_past}
+use Rattle.memory.specs.Session.{free_place}
 use Rattle.memory.proofs.session.free.Goals as goal
 
 pub loop-slot-init : goal.loop-slot-init

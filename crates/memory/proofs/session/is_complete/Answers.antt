@@ -1,6 +1,5 @@
 -- `memory::session::is_complete` meets its contract: it compares the places filled with all of them, as `complete` does.
 -- Assumes nothing.
-use borrow.Author.Rules.{rules}
 use Rattle.memory.specs.Session.{complete}
 use Rattle.memory.proofs.session.is_complete.Goals as goal
 

@@ -2,7 +2,6 @@
 -- Assumes nothing.
 use Prim.Native.Nat.{◌≤◌}
 use native.Mathlib.Omega.{arith}
-use borrow.Author.Rules.{rules}
 use Rattle.memory.proofs.SessionLaws.{place_most, length_told, length_kept}
 use Rattle.memory.proofs.session.len_with.Goals as goal
 

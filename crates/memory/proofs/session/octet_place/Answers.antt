@@ -1,6 +1,5 @@
 -- `memory::session::octet_place` meets its contract: each return is one rule of `octet_place`.
 -- Assumes nothing.
-use borrow.Author.Rules.{rules}
 use Rattle.memory.proofs.SessionLaws.{place_rules}
 use Rattle.memory.proofs.session.octet_place.Goals as goal
 

@@ -1,10 +1,9 @@
 -- `memory::session::place` meets its contract: no slot before i has the key, so the first that is ends the search. The measure is how many are left.
 -- Assumes nothing.
-use Prim.Native.Nat.{◌-◌}
 use borrow.Author.Rules.{rules}
 use borrow.Author.Tests.{eq-eqb, ne_eqb}
-use Rattle.common.proofs.Search.{Seeking, seek_start, seek_here, seek_on, seek_past}
-use Rattle.memory.specs.Session.{session_slots, session_key, same_key, session_place}
+use Rattle.common.proofs.Search.{seek_start, seek_here, seek_on, seek_past}
+use Rattle.memory.specs.Session.{session_place}
 use Rattle.memory.proofs.session.place.Goals as goal
 
 pub loop-i-init : goal.loop-i-init

@@ -1,6 +1,5 @@
 -- `memory::session::store` meets its contract: each field of the session is what its own function gives.
 -- Assumes nothing.
-use borrow.Author.Rules.{rules}
 use Rattle.memory.specs.Session.{stored}
 use Rattle.memory.proofs.SessionLaws.{place_most}
 use Rattle.memory.proofs.session.store.Goals as goal

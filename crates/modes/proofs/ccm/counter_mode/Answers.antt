@@ -2,13 +2,11 @@
 -- Assumes nothing.
 use mathlib.Core.Path.{◌≡◌, refl, sym, ap, ◌∙◌}
 use mathlib.Core.List.{List}
-use mathlib.Core.Logic.{⊎_elim}
-use Prim.Native.Nat.{ℕ, ◌+◌, ◌-◌, ◌/◌, ◌%◌}
+use Prim.Native.Nat.{ℕ, ◌+◌, ◌/◌, ◌%◌}
 use native.Mathlib.Omega.{arith}
-use borrow.Author.Rules.{rules}
 use lib.Bits.{bit_xor}
-use lib.ListN.{length, get_or}
-use Rattle.common.proofs.Fill.{Filled, filled_none, filled_more, filled_all}
+use lib.ListN.{get_or}
+use Rattle.common.proofs.Fill.{filled_none, filled_more, filled_all}
 use Rattle.aes.specs.Cipher.{cipher}
 use Rattle.modes.specs.Ccm.{stream, stream_octet, ctr}
 use Rattle.modes.proofs.ccm.counter_mode.Invariants.{at_place}

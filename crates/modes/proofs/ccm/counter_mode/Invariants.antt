@@ -1,16 +1,12 @@
 -- `modes::ccm::counter_mode` meets its contract: each octet is xored with its own of the stream, whose block is made anew where it begins.
 -- Assumes nothing.
-use mathlib.Core.Path.{◌≡◌, refl, sym, ap, ◌∙◌}
+use mathlib.Core.Path.{◌≡◌}
 use mathlib.Core.List.{List}
-use mathlib.Core.Logic.{⊎_elim}
 use Prim.Native.Nat.{ℕ, ◌+◌, ◌-◌, ◌/◌, ◌%◌}
-use native.Mathlib.Omega.{arith}
-use borrow.Author.Rules.{rules}
 use lib.Bits.{bit_xor}
 use lib.ListN.{length, get_or}
-use Rattle.common.proofs.Fill.{Filled, filled_none, filled_more, filled_all}
-use Rattle.aes.specs.Cipher.{cipher}
-use Rattle.modes.specs.Ccm.{stream, stream_octet, ctr}
+use Rattle.common.proofs.Fill.{Filled}
+use Rattle.modes.specs.Ccm.{stream, stream_octet}
 use Rattle.modes.proofs.ccm.counter_mode.Given as goal
 
 -- the octet at j

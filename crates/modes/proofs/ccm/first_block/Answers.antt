@@ -1,7 +1,6 @@
 -- `modes::ccm::first_block` meets its contract: the flag 64 is added where there is additional data.
 -- Assumes nothing.
 use mathlib.Core.Path.{◌∙◌}
-use borrow.Author.Rules.{rules}
 use Rattle.modes.proofs.CcmLaws.{first_none, first_some}
 use Rattle.modes.proofs.ccm.first_block.Goals as goal
 

@@ -1,7 +1,6 @@
 -- `modes::ccm::mac_block` meets its contract: it is the chain over B_0, the additional data and the message, xored with S_0.
 -- Assumes nothing.
 use mathlib.Core.Path.{ap, ap₂, ◌∙◌}
-use borrow.Author.Rules.{rules}
 use Rattle.common.specs.Lists.{xored}
 use Rattle.aes.specs.Cipher.{cipher}
 use Rattle.modes.specs.Ccm.{stream}

@@ -2,7 +2,6 @@
 -- Assumes nothing.
 use mathlib.Core.Path.{refl, ◌∙◌}
 use mathlib.Core.List.{[]}
-use borrow.Author.Rules.{rules}
 use Rattle.modes.proofs.NoData.{open_no_data}
 use Rattle.modes.proofs.ccm.open.Goals as goal
 

@@ -1,15 +1,14 @@
 -- `modes::ccm::open_with` meets its contract: each answer is its law; the message is decrypted beside the buffer, and copied only where the MIC is right.
 -- Assumes nothing.
 use mathlib.Core.Path.{sym, ◌∙◌}
-use Prim.Native.Nat.{ℕ, ◌-◌, ◌≤◌}
+use Prim.Native.Nat.{ℕ, ◌-◌}
 use native.Mathlib.Omega.{arith}
-use borrow.Author.Rules.{rules}
 use borrow.Author.Tests.{not-true, not-false}
 use lib.ListN.{length, replicate}
 use lib.Seq.{length-take-le}
 use Rattle.modes.proofs.CcmLaws.{front_room, front_length, front_copied}
 use Rattle.modes.proofs.CcmLaws.{open_with_much, open_with_none, open_with_long, open_with_short, open_with_forged, open_with_done}
-use Rattle.modes.specs.Ccm.{longest, longest_data}
+use Rattle.modes.specs.Ccm.{longest}
 use Rattle.modes.proofs.ccm.open_with.Goals as goal
 
 -- where the call began, from where the MIC's length is known

@@ -2,7 +2,6 @@
 -- Assumes nothing.
 use mathlib.Core.Path.{refl, ◌∙◌}
 use mathlib.Core.List.{[]}
-use borrow.Author.Rules.{rules}
 use Rattle.modes.proofs.NoData.{seal_no_data}
 use Rattle.modes.proofs.ccm.seal.Goals as goal
 

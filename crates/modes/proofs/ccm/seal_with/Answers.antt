@@ -2,7 +2,6 @@
 -- Assumes nothing.
 use mathlib.Core.Path.{refl, sym}
 use native.Mathlib.Omega.{arith}
-use borrow.Author.Rules.{rules}
 use lib.ListN.{length}
 use lib.Seq.{length-take-le}
 use Rattle.modes.proofs.CcmLaws.{mic_octets_bounds, mic_room, mic_length, seal_written, seal_with_much, seal_with_long, seal_with_short, seal_with_done}

@@ -1,11 +1,9 @@
 -- `modes::chain::chained` meets its contract: what is chained so far, with the blocks still to come, makes the whole.
 -- Assumes nothing.
 use mathlib.Core.Path.{refl}
-use Prim.Native.Nat.{◌+◌, ◌-◌, ◌<◌}
 use native.Mathlib.Omega.{arith}
 use borrow.Author.Rules.{rules}
-use lib.ListN.{length}
-use Rattle.modes.proofs.Blocks.{Left, chain_more, chain_all}
+use Rattle.modes.proofs.Blocks.{chain_more, chain_all}
 use Rattle.modes.proofs.chain.chained.Goals as goal
 
 pub loop-at-init : goal.loop-at-init

@@ -1,11 +1,8 @@
 -- `modes::chain::chained` meets its contract: what is chained so far, with the blocks still to come, makes the whole.
 -- Assumes nothing.
-use mathlib.Core.Path.{refl}
 use Prim.Native.Nat.{◌+◌, ◌-◌, ◌<◌}
-use native.Mathlib.Omega.{arith}
-use borrow.Author.Rules.{rules}
 use lib.ListN.{length}
-use Rattle.modes.proofs.Blocks.{Left, chain_more, chain_all}
+use Rattle.modes.proofs.Blocks.{Left}
 use Rattle.modes.proofs.chain.chained.Given as goal
 
 abbrev pub invariant-loop-at : goal.invariant-loop-at

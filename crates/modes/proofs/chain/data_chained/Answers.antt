@@ -2,7 +2,6 @@
 -- Assumes nothing.
 use mathlib.Core.Path.{refl}
 use native.Mathlib.Omega.{arith}
-use borrow.Author.Rules.{rules}
 use Rattle.modes.proofs.DataBlocks.{data_none, data_short, data_rest}
 use Rattle.modes.proofs.chain.data_chained.Goals as goal
 

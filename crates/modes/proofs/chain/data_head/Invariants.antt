@@ -1,9 +1,8 @@
 -- `modes::chain::data_head` meets its contract: the loop fills sixteen octets, each its own of the data.
 -- Assumes nothing.
 use Prim.Native.Nat.{◌-◌}
-use borrow.Author.Rules.{rules}
 use lib.ListN.{get_or}
-use Rattle.common.proofs.Fill.{Filled, filled_none, filled_more, filled_all}
+use Rattle.common.proofs.Fill.{Filled}
 use Rattle.modes.specs.Ccm.{data_octets}
 use Rattle.modes.proofs.chain.data_head.Given as goal
 

@@ -1,6 +1,5 @@
 -- `modes::chain::data_octet` meets its contract: the two octets of length, and behind them the data with zeros.
 -- Assumes nothing.
-use borrow.Author.Rules.{rules}
 use Rattle.modes.proofs.DataBlocks.{octet_length, octet_behind}
 use Rattle.modes.proofs.chain.data_octet.Goals as goal
 

@@ -1,7 +1,6 @@
 -- `modes::chain::octet` meets its contract: i is before, at or past the end.
 -- Assumes nothing.
 use native.Mathlib.Omega.{arith}
-use borrow.Author.Rules.{rules}
 use Rattle.modes.proofs.Blocks.{padded_in, padded_at, padded_past}
 use Rattle.modes.proofs.chain.octet.Goals as goal
 

@@ -2,7 +2,6 @@
 -- Assumes nothing.
 use mathlib.Core.Path.{◌∙◌}
 use native.Mathlib.Omega.{arith}
-use borrow.Author.Rules.{rules}
 use Rattle.modes.proofs.Blocks.{xored_before}
 use Rattle.modes.proofs.chain.xor_at.Goals as goal
 

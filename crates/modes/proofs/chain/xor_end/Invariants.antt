@@ -1,16 +1,10 @@
 -- `modes::chain::xor_end` meets its contract: the loop fills the places of what is left of m, and of pad behind it, each with the xor of the two;
 -- at the others x is xored with zeros, and stays. Assumes nothing.
-use mathlib.Core.Path.{sym, ap, ◌∙◌}
 use mathlib.Core.List.{List, [], ◌∷◌, ◌++◌}
 use Prim.Native.Nat.{ℕ, ◌+◌, ◌-◌, ◌≤◌}
-use native.Mathlib.Omega.{arith}
-use borrow.Author.Rules.{rules}
 use lib.Bits.{bit_xor}
 use lib.ListN.{get_or, drop}
-use lib.Seq.{get_or-drop}
-use Rattle.common.specs.Lists.{xored}
-use Rattle.common.proofs.Fill.{FilledOver, over_none, over_more, over_all}
-use Rattle.modes.proofs.Blocks.{xored_past}
+use Rattle.common.proofs.Fill.{FilledOver}
 use Rattle.modes.proofs.chain.xor_end.Given as goal
 
 -- the octet at j

@@ -1,15 +1,12 @@
 -- `modes::chain::xor_whole` meets its contract: the loop fills sixteen octets, each the xor of the two at its place.
 -- Assumes nothing.
 use mathlib.Core.Path.{refl, sym, ap}
-use mathlib.Core.List.{List}
-use Prim.Native.Nat.{ℕ, ◌-◌}
 use native.Mathlib.Omega.{arith}
-use borrow.Author.Rules.{rules}
 use lib.Bits.{bit_xor}
-use lib.ListN.{get_or, drop, replicate}
+use lib.ListN.{get_or, replicate}
 use lib.Seq.{get_or-drop}
 use Rattle.common.specs.Lists.{xored}
-use Rattle.common.proofs.Fill.{Filled, filled_none, filled_more, filled_all}
+use Rattle.common.proofs.Fill.{filled_none, filled_more, filled_all}
 use Rattle.modes.proofs.chain.xor_whole.Invariants.{at_place}
 use Rattle.modes.proofs.chain.xor_whole.Goals as goal
 

@@ -2,7 +2,6 @@
 -- Assumes nothing.
 use mathlib.Core.Path.{sym}
 use native.Mathlib.Omega.{arith}
-use borrow.Author.Rules.{rules}
 use lib.Seq.{length-take-le}
 use Rattle.modes.proofs.CmacLaws.{cmac_ends}
 use Rattle.modes.proofs.cmac.cmac.Goals as goal

@@ -1,6 +1,5 @@
 -- `modes::cmac::doubled` meets its contract: const_Rb is zero but for its last octet, so only that one changes.
 -- Assumes nothing.
-use borrow.Author.Rules.{rules}
 use Rattle.modes.proofs.CmacLaws.{double_low, double_high}
 use Rattle.modes.proofs.cmac.doubled.Goals as goal
 

@@ -1,6 +1,5 @@
 -- `modes::cmac::last_block` meets its contract: the last block is complete or not, and each way is one of the two laws.
 -- Assumes nothing.
-use borrow.Author.Rules.{rules}
 use Rattle.modes.proofs.CmacLaws.{last_part, last_whole}
 use Rattle.modes.proofs.cmac.last_block.Goals as goal
 

@@ -1,14 +1,9 @@
 -- `modes::cmac::shift_left` meets its contract: the loop fills sixteen octets; behind the last one stands a zero.
 -- Assumes nothing.
-use mathlib.Core.Path.{refl, ap, ◌∙◌}
 use mathlib.Core.List.{List}
 use Prim.Native.Nat.{ℕ, ◌+◌, ◌-◌, ◌*◌, ◌/◌, ◌%◌}
-use native.Mathlib.Omega.{arith}
-use borrow.Author.Rules.{rules}
-use lib.ListN.{get_or, replicate}
-use Rattle.common.proofs.Fill.{Filled, filled_none, filled_more, filled_all}
-use Rattle.modes.specs.Cmac.{shift_left}
-use Rattle.modes.proofs.Blocks.{zero_padded}
+use lib.ListN.{get_or}
+use Rattle.common.proofs.Fill.{Filled}
 use Rattle.modes.proofs.cmac.shift_left.Given as goal
 
 -- the octet at j

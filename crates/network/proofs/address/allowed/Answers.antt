@@ -1,6 +1,5 @@
 -- `address::allowed` meets its contract: where SRC is unicast, the kind of DST decides, and else nothing is allowed.
 -- Assumes nothing.
-use borrow.Author.Rules.{rules}
 use Rattle.network.proofs.AddressLaws.{allowed_by_kind, allowed_not}
 use Rattle.network.proofs.address.allowed.Goals as goal
 

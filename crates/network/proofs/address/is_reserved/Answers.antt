@@ -1,6 +1,5 @@
 -- `address::is_reserved` meets its contract: the kind that it is told is the reserved one, or one of the others.
 -- Assumes nothing.
-use borrow.Author.Rules.{rules}
 use Rattle.network.proofs.AddressLaws.{reserved_told, reserved_untold}
 use Rattle.network.proofs.address.is_reserved.Goals as goal
 

@@ -1,6 +1,5 @@
 -- `iv_index::heard` meets its contract: each return is one case of `iv_index_heard`, and the tests before it say which.
 -- Assumes nothing.
-use borrow.Author.Rules.{rules}
 use borrow.Author.Tests.{eq-eqb, ne_eqb}
 use Rattle.network.specs.IvIndex.{iv_index_heard}
 use Rattle.network.proofs.iv_index.heard.Goals as goal

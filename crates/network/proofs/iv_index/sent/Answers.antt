@@ -1,7 +1,6 @@
 -- `iv_index::sent` meets its contract: each return is one case of `iv_index_sent`, and the one before 0 is 0.
 -- Assumes nothing.
 use native.Mathlib.Omega.{arith}
-use borrow.Author.Rules.{rules}
 use borrow.Author.Tests.{not-true, not-false}
 use Rattle.network.specs.IvIndex.{iv_index_sent}
 use Rattle.network.proofs.iv_index.sent.Goals as goal

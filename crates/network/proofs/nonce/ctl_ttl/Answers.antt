@@ -1,7 +1,6 @@
 -- `nonce::ctl_ttl` meets its contract: CTL says which case of `ctl_ttl` holds.
 -- Assumes nothing.
 use native.Mathlib.Omega.{arith}
-use borrow.Author.Rules.{rules}
 use Rattle.network.specs.Nonce.{ctl_ttl}
 use Rattle.network.proofs.nonce.ctl_ttl.Goals as goal
 

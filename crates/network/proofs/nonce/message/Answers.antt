@@ -1,6 +1,5 @@
 -- `nonce::message` meets its contract: szmic says which second octet `message_nonce` has.
 -- Assumes nothing.
-use borrow.Author.Rules.{rules}
 use Rattle.network.specs.Nonce.{message_nonce}
 use Rattle.network.proofs.nonce.message.Goals as goal
 

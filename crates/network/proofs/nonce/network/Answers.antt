@@ -1,6 +1,5 @@
 -- `nonce::network` meets its contract: a DST of 0 is the two zero octets.
 -- Assumes nothing.
-use borrow.Author.Rules.{rules}
 use Rattle.network.specs.Octets.{octets}
 use Rattle.network.specs.Nonce.{network_nonce}
 use Rattle.network.proofs.nonce.network.Goals as goal

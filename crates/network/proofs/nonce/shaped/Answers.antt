@@ -1,7 +1,6 @@
 -- `nonce::shaped` meets its contract: the code's quotients and remainders are those of `octets`, and each is an octet.
 -- Assumes nothing.
 use mathlib.Core.Path.{refl}
-use borrow.Author.Rules.{rules}
 use Rattle.network.specs.Octets.{octets}
 use Rattle.network.proofs.nonce.shaped.Goals as goal
 

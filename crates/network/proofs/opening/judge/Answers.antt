@@ -1,6 +1,5 @@
 -- `network::opening::judge` meets its contract: each return is one answer of `judged`, and the tests before it say which.
 -- Assumes nothing.
-use borrow.Author.Rules.{rules}
 use Rattle.network.proofs.OpeningLaws.{judge_rules}
 use Rattle.network.proofs.opening.judge.Goals as goal
 

@@ -1,6 +1,5 @@
 -- `network::opening::open` meets its contract: each return is one answer of `opening`, and the tests before it say which. That there is no candidate
 -- is learnt from there being no trials. Assumes nothing.
-use borrow.Author.Rules.{rules}
 use Rattle.network.proofs.OpeningLaws.{open_rules}
 use Rattle.network.proofs.opening.open.Goals as goal
 

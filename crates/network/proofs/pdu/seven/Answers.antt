@@ -1,6 +1,5 @@
 -- `network::pdu::seven` meets its contract: seven octets read one by one are those from there on.
 -- Assumes nothing.
-use borrow.Author.Rules.{rules}
 use Rattle.network.proofs.TrialLaws.{seven_taken}
 use Rattle.network.proofs.pdu.seven.Goals as goal
 

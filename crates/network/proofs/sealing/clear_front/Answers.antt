@@ -3,7 +3,6 @@
 use mathlib.Core.Path.{ap}
 use mathlib.Core.List.{◌∷◌, ◌++◌}
 use Prim.Native.Nat.{ℕ}
-use borrow.Author.Rules.{rules}
 use Rattle.network.specs.Octets.{octets}
 use Rattle.network.specs.Pdu.{clear_front}
 use Rattle.network.proofs.sealing.clear_front.Goals as goal

@@ -1,7 +1,6 @@
 -- `network::sealing::first_octet` meets its contract: IVI is the highest bit.
 -- Assumes nothing.
 use mathlib.Core.Path.{refl}
-use borrow.Author.Rules.{rules}
 use Rattle.network.specs.Pdu.{first_octet}
 use Rattle.network.proofs.sealing.first_octet.Goals as goal
 

@@ -1,6 +1,5 @@
 -- `network::sealing::forward` meets its contract: a buffer too short and a place past the fourth are refused in this order, and the rest is sealing.
 -- Assumes nothing.
-use borrow.Author.Rules.{rules}
 use Rattle.network.proofs.SealingLaws.{forward_rules}
 use Rattle.network.proofs.sealing.forward.Goals as goal
 

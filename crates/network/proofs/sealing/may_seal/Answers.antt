@@ -1,6 +1,5 @@
 -- `network::sealing::may_seal` meets its contract: each return is one test of the definition.
 -- Assumes nothing.
-use borrow.Author.Rules.{rules}
 use Rattle.network.proofs.SealingLaws.{sealable_rules}
 use Rattle.network.proofs.sealing.may_seal.Goals as goal
 

@@ -3,7 +3,6 @@
 use mathlib.Core.Path.{sym, ap}
 use mathlib.Core.Bool.{Bool}
 use Prim.Native.Nat.{◌+◌}
-use borrow.Author.Rules.{rules}
 use Rattle.common.specs.Choice.{if◌then◌else◌}
 use Rattle.network.proofs.sealing.pdu_len.Goals as goal
 

@@ -1,6 +1,5 @@
 -- `network::sealing::write_front` meets its contract: the seven octets are copied onto the front.
 -- Assumes nothing.
-use borrow.Author.Rules.{rules}
 use Rattle.network.proofs.SealingLaws.{front_written}
 use Rattle.network.proofs.sealing.write_front.Goals as goal
 

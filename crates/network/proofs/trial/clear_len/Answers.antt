@@ -1,7 +1,6 @@
 -- `network::trial::clear_len` meets its contract: CTL says how many octets the NetMIC has.
 -- Assumes nothing.
 use native.Mathlib.Omega.{arith}
-use borrow.Author.Rules.{rules}
 use Rattle.network.proofs.trial.clear_len.Goals as goal
 
 pub overflow_sub-result-then-ctl : goal.overflow_sub-result-then-ctl

@@ -1,6 +1,5 @@
 -- `network::trial::nonce_of` meets its contract: its fields are those of the front.
 -- Assumes nothing.
-use borrow.Author.Rules.{rules}
 use Rattle.network.specs.Trial.{nonce_of}
 use Rattle.network.proofs.trial.nonce_of.Goals as goal
 

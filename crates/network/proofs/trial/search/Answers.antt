@@ -1,11 +1,10 @@
 -- `network::trial::search` meets its contract: each turn passes a key, tries one in vain or ends with one that opens the PDU, and the count of trials
 -- stays a place among the candidates. The measure is what is left of the four keys. Assumes nothing.
 use mathlib.Core.Logic.{⊎_elim}
-use Prim.Native.Nat.{◌≤◌, ◌<◌, ◌-◌, min}
+use Prim.Native.Nat.{◌≤◌, ◌<◌, min}
 use native.Mathlib.Omega.{arith}
-use borrow.Author.Rules.{rules}
-use borrow.Author.Tests.{leb-true, leb-false}
-use Rattle.network.proofs.CandidatesLaws.{Searching, no_key_yet, key_passed, key_tried, key_opens, no_key_opens_law}
+use borrow.Author.Tests.{leb-false}
+use Rattle.network.proofs.CandidatesLaws.{no_key_yet, key_passed, key_tried, key_opens, no_key_opens_law}
 use Rattle.network.specs.Candidates.{network_key_places}
 use Rattle.network.proofs.trial.search.Goals as goal
 use Rattle.network.proofs.trial.search.Goals.{then-key-nid+else-t, else-key-nid}

@@ -1,6 +1,5 @@
 -- `network::trial::too_short` meets its contract: where CTL is 1 the length decides.
 -- Assumes nothing.
-use borrow.Author.Rules.{rules}
 use Rattle.network.proofs.trial.too_short.Goals as goal
 
 pub returns-then-ctl : goal.returns-then-ctl

@@ -3,7 +3,6 @@
 use mathlib.Core.Path.{sym}
 use Prim.Native.Nat.{◌≤◌}
 use native.Mathlib.Omega.{arith}
-use borrow.Author.Rules.{rules}
 use lib.Seq.{length-take-le}
 use Rattle.network.proofs.TrialLaws.{clear_there, clear_least, clear_most, tried_rules}
 use Rattle.network.proofs.trial.try_key.Goals as goal

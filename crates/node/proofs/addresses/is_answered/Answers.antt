@@ -3,7 +3,6 @@
 use mathlib.Core.Bool.{◌&&◌, false}
 use mathlib.Core.Path.{◌≡◌}
 use lib.Dec.{eqb}
-use borrow.Author.Rules.{rules}
 use Rattle.node.proofs.AddressesLaws.{answers_local, answers_all, answers_relays, no_relays, relay_off, answers_listened, answers_label}
 use Rattle.node.proofs.addresses.is_answered.Goals as goal
 use Rattle.node.proofs.addresses.is_answered.Goals.{else-dst-eq65534-via-then-dst-eq65534+else-node, else-dst-eq65534-via-else-dst-eq65534}

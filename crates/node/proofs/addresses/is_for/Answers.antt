@@ -1,6 +1,5 @@
 -- `addresses::is_for` meets its contract: a reserved address is for no node, and any other where it is answered to.
 -- Assumes nothing.
-use borrow.Author.Rules.{rules}
 use Rattle.node.proofs.AddressesLaws.{for_reserved, for_answered}
 use Rattle.node.proofs.addresses.is_for.Goals as goal
 

@@ -1,6 +1,5 @@
 -- `addresses::is_local` meets its contract: the address is below the first element's, at one of 8 places behind it, or past them.
 -- Assumes nothing.
-use borrow.Author.Rules.{rules}
 use mathlib.Core.Path.{◌∙◌}
 use borrow.Author.Tests.{le-ltb}
 use Rattle.node.proofs.AddressesLaws.{local_low, local_near, local_far}

@@ -1,7 +1,6 @@
 -- `setup::application_key_at` meets its contract: the test says whether the place is used, and k4 derives AID.
 -- Assumes nothing.
 use native.Mathlib.Omega.{arith}
-use borrow.Author.Rules.{rules}
 use borrow.Author.Tests.{lt-ltb, le-ltb}
 use Rattle.node.specs.Setup.{bound_key_at}
 use Rattle.node.proofs.setup.application_key_at.Goals as goal

@@ -1,6 +1,5 @@
 -- `setup::counted` meets its contract: the test says which.
 -- Assumes nothing.
-use borrow.Author.Rules.{rules}
 use borrow.Author.Tests.{lt-ltb, le-ltb}
 use Rattle.node.proofs.setup.counted.Goals as goal
 

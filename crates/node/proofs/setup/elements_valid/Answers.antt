@@ -1,6 +1,5 @@
 -- `setup::elements_valid` meets its contract: it asks for the numbers and the addresses and then for the next SEQs, and each return is one of `valid_rules`.
 -- Assumes nothing.
-use borrow.Author.Rules.{rules}
 use Rattle.node.specs.Setup.{elements_valid}
 use Rattle.node.proofs.ValidLaws.{valid_rules}
 use Rattle.node.proofs.setup.elements_valid.Goals as goal

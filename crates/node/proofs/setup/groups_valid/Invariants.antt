@@ -1,13 +1,10 @@
 -- `setup::groups_valid` meets its contract: the addresses before i are group addresses, and the measure is what is left of those listened to.
 -- Assumes nothing.
-use mathlib.Core.Path.{◌≡◌, sym, ap, ◌∙◌}
+use mathlib.Core.Path.{◌≡◌}
 use Prim.Native.Nat.{◌-◌}
-use native.Mathlib.Omega.{arith}
-use borrow.Author.Rules.{rules}
-use borrow.Author.Tests.{le-leb, lt-leb, not-true, not-false}
 use lib.ListN.{length}
-use Rattle.node.specs.Setup.{group_kind, is_group, groups_valid}
-use Rattle.node.proofs.EveryLaws.{EachBefore, every_start, every_on, every_fails, every_end}
+use Rattle.node.specs.Setup.{is_group}
+use Rattle.node.proofs.EveryLaws.{EachBefore}
 use Rattle.node.specs.Addresses.{group_places}
 use Rattle.node.proofs.setup.groups_valid.Given as goal
 

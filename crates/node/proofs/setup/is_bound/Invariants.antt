@@ -2,16 +2,11 @@
 -- Assumes nothing.
 use mathlib.Core.Path.{◌≡◌}
 use Prim.Native.Nat.{◌-◌}
-use native.Mathlib.Omega.{arith}
-use borrow.Author.Rules.{rules}
-use borrow.Author.Tests.{lt-ltb, le-ltb}
 use lib.Dec.{ltb}
 use lib.ListN.{length}
-use Rattle.common.proofs.Lists.{length_mapped}
 use Rattle.transport.specs.Securing.{application_key_places}
 use Rattle.node.specs.declared.setup.BoundKey.{BoundKey}
-use Rattle.node.specs.Setup.{bound_within}
-use Rattle.node.proofs.EveryLaws.{EachBefore, every_start, every_on, every_fails, every_end}
+use Rattle.node.proofs.EveryLaws.{EachBefore}
 use Rattle.node.proofs.setup.is_bound.Given as goal
 
 abbrev pub invariant-loop-i : goal.invariant-loop-i

@@ -1,6 +1,5 @@
 -- `setup::is_valid` meets its contract: it asks the parts of `valid` in their order, and each return is one of `valid_rules`.
 -- Assumes nothing.
-use borrow.Author.Rules.{rules}
 use Rattle.node.specs.Setup.{valid}
 use Rattle.node.proofs.ValidLaws.{valid_rules}
 use Rattle.node.proofs.setup.is_valid.Goals as goal

@@ -1,6 +1,5 @@
 -- `setup::keys_valid` meets its contract: it asks for three numbers and then for the bindings, and each return is one of `valid_rules`.
 -- Assumes nothing.
-use borrow.Author.Rules.{rules}
 use Rattle.node.specs.Setup.{keys_valid}
 use Rattle.node.proofs.ValidLaws.{valid_rules}
 use Rattle.node.proofs.setup.keys_valid.Goals as goal

@@ -1,7 +1,6 @@
 -- `setup::label_at` meets its contract: the test says whether the place is used, and the address is derived.
 -- Assumes nothing.
 use native.Mathlib.Omega.{arith}
-use borrow.Author.Rules.{rules}
 use borrow.Author.Tests.{lt-ltb, le-ltb}
 use Rattle.node.specs.Setup.{label_uuid_at}
 use Rattle.node.proofs.setup.label_at.Goals as goal

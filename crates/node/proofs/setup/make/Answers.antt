@@ -1,6 +1,5 @@
 -- `setup::make` meets its contract: validity decides between the node of the setup and zeros.
 -- Assumes nothing.
-use borrow.Author.Rules.{rules}
 use borrow.Author.Tests.{not-true, not-false}
 use Rattle.node.specs.Setup.{making}
 use Rattle.node.proofs.setup.make.Goals as goal

@@ -1,7 +1,6 @@
 -- `setup::material_at` meets its contract: the test says whether the place is used, and k2 derives what is there.
 -- Assumes nothing.
 use native.Mathlib.Omega.{arith}
-use borrow.Author.Rules.{rules}
 use borrow.Author.Tests.{lt-ltb, le-ltb}
 use Rattle.node.specs.Setup.{material_at}
 use Rattle.node.proofs.setup.material_at.Goals as goal

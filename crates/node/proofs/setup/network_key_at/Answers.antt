@@ -1,7 +1,6 @@
 -- `setup::network_key_at` meets its contract: the test says whether the place is used.
 -- Assumes nothing.
 use native.Mathlib.Omega.{arith}
-use borrow.Author.Rules.{rules}
 use borrow.Author.Tests.{lt-ltb, le-ltb}
 use Rattle.node.specs.Setup.{network_key_at}
 use Rattle.node.proofs.setup.network_key_at.Goals as goal

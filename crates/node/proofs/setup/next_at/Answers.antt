@@ -1,7 +1,6 @@
 -- `setup::next_at` meets its contract: the test says whether there is an element at the place.
 -- Assumes nothing.
 use native.Mathlib.Omega.{arith}
-use borrow.Author.Rules.{rules}
 use borrow.Author.Tests.{lt-ltb, le-ltb}
 use Rattle.node.specs.Setup.{next_at}
 use Rattle.node.proofs.setup.next_at.Goals as goal

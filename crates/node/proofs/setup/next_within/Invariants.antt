@@ -2,13 +2,9 @@
 -- Assumes nothing.
 use mathlib.Core.Path.{◌≡◌}
 use Prim.Native.Nat.{◌-◌}
-use native.Mathlib.Omega.{arith}
-use borrow.Author.Rules.{rules}
-use borrow.Author.Tests.{le-leb, lt-leb}
 use lib.Dec.{leb}
 use lib.ListN.{length}
-use Rattle.node.specs.Setup.{next_within}
-use Rattle.node.proofs.EveryLaws.{EachBefore, every_start, every_on, every_fails, every_end}
+use Rattle.node.proofs.EveryLaws.{EachBefore}
 use Rattle.node.specs.Addresses.{element_places}
 use Rattle.node.proofs.setup.next_within.Given as goal
 

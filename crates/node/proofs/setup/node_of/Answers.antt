@@ -1,6 +1,5 @@
 -- `setup::node_of` meets its contract: what is counted is kept, and each array is that of its places.
 -- Assumes nothing.
-use borrow.Author.Rules.{rules}
 use Rattle.node.specs.Setup.{node_of}
 use Rattle.node.proofs.setup.node_of.Goals as goal
 

@@ -1,9 +1,7 @@
 -- `radio::credential::foreign` meets its contract: each turn passes a piece with another NID, and the NID of a piece is its octet 0. The measure is
 -- what is left of the pieces. Assumes nothing.
-use Prim.Native.Nat.{◌-◌}
 use native.Mathlib.Omega.{arith}
-use borrow.Author.Rules.{rules}
-use Rattle.network.proofs.CandidatesLaws.{Passed, none_passed}
+use Rattle.network.proofs.CandidatesLaws.{none_passed}
 use Rattle.radio.specs.Credential.{pieces}
 use Rattle.radio.proofs.CredentialLaws.{all_foreign, piece_begins, piece_foreign, piece_fits}
 use Rattle.radio.proofs.credential.foreign.Goals as goal

@@ -1,6 +1,5 @@
 -- `radio::credential::piece` meets its contract: what is read from the whole list at a piece's place is read from the piece.
 -- Assumes nothing.
-use borrow.Author.Rules.{rules}
 use Rattle.radio.proofs.CredentialLaws.{piece_read}
 use Rattle.radio.proofs.credential.piece.Goals as goal
 

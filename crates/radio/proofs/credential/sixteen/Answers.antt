@@ -1,6 +1,5 @@
 -- `radio::credential::sixteen` meets its contract: what there is from `at` on is copied onto zeros, as far as it fits.
 -- Assumes nothing.
-use borrow.Author.Rules.{rules}
 use Rattle.radio.proofs.CredentialLaws.{sixteen_copied, sixteen_past}
 use Rattle.radio.proofs.credential.sixteen.Goals as goal
 

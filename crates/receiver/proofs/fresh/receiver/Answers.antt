@@ -1,6 +1,5 @@
 -- `receiver::fresh::receiver` meets its contract: each empty part is what its own function gives.
 -- Assumes nothing.
-use borrow.Author.Rules.{rules}
 use Rattle.receiver.proofs.fresh.receiver.Goals as goal
 
 pub returns : goal.returns

@@ -1,6 +1,5 @@
 -- `receiver::fresh::set_up` meets its contract: whether the node was made says which rule.
 -- Assumes nothing.
-use borrow.Author.Rules.{rules}
 use Rattle.receiver.proofs.FreshLaws.{set_up_rules}
 use Rattle.receiver.proofs.fresh.set_up.Goals as goal
 

@@ -1,6 +1,5 @@
 -- `receiver::give_up::session` meets its contract: each return is one rule of `giving_up`.
 -- Assumes nothing.
-use borrow.Author.Rules.{rules}
 use Rattle.receiver.proofs.FreshLaws.{give_up_rules}
 use Rattle.receiver.proofs.give_up.session.Goals as goal
 

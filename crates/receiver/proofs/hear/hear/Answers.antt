@@ -1,6 +1,5 @@
 -- `receiver::hear::hear` meets its contract: each return is one rule of `hearing`, and the tests before it say which.
 -- Assumes nothing.
-use borrow.Author.Rules.{rules}
 use Rattle.receiver.proofs.HearingLaws.{hear_rules}
 use Rattle.receiver.proofs.hear.hear.Goals as goal
 

@@ -1,6 +1,5 @@
 -- `receiver::hear::pass` meets its contract: what is forwarded and what is taken do not touch each other.
 -- Assumes nothing.
-use borrow.Author.Rules.{rules}
 use Rattle.receiver.proofs.HearingLaws.{passed_is}
 use Rattle.receiver.proofs.hear.pass.Goals as goal
 

@@ -1,6 +1,5 @@
 -- `receiver::hear::pass_new` meets its contract: refusal 22, refusal 5, or it passes.
 -- Assumes nothing.
-use borrow.Author.Rules.{rules}
 use Rattle.receiver.proofs.HearingLaws.{voiced_rules}
 use Rattle.receiver.proofs.hear.pass_new.Goals as goal
 

@@ -1,6 +1,5 @@
 -- `receiver::hear::relay` meets its contract: whether it forwards, and what resealing answers, say which rule.
 -- Assumes nothing.
-use borrow.Author.Rules.{rules}
 use Rattle.receiver.proofs.HearingLaws.{relayed_rules}
 use Rattle.receiver.proofs.hear.relay.Goals as goal
 

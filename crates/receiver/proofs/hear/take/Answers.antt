@@ -1,6 +1,5 @@
 -- `receiver::hear::take` meets its contract: refusal 6, or what the form gives.
 -- Assumes nothing.
-use borrow.Author.Rules.{rules}
 use Rattle.receiver.proofs.HearingLaws.{taken_rules}
 use Rattle.receiver.proofs.hear.take.Goals as goal
 

@@ -2,7 +2,6 @@
 -- Assumes nothing.
 use mathlib.Core.Logic.{⊎_elim}
 use mathlib.Core.Path.{refl}
-use borrow.Author.Rules.{rules}
 use Rattle.receiver.proofs.HearingLaws.{form_rules, form_access_segment, form_control_segment}
 use Rattle.receiver.proofs.hear.take_form.Goals as goal
 

@@ -1,6 +1,5 @@
 -- `receiver::segmented::access_up` meets its contract: one rule for each answer of the keys.
 -- Assumes nothing.
-use borrow.Author.Rules.{rules}
 use Rattle.receiver.proofs.SegmentedLaws.{up_rules}
 use Rattle.receiver.proofs.segmented.access_up.Goals as goal
 

@@ -1,6 +1,5 @@
 -- `receiver::segmented::control_up` meets its contract: what was copied is the message.
 -- Assumes nothing.
-use borrow.Author.Rules.{rules}
 use Rattle.receiver.proofs.SegmentedLaws.{control_up_law}
 use Rattle.receiver.proofs.segmented.control_up.Goals as goal
 

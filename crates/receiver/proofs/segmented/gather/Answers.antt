@@ -1,6 +1,5 @@
 -- `receiver::segmented::gather` meets its contract: stored, or complete with its slot freed.
 -- Assumes nothing.
-use borrow.Author.Rules.{rules}
 use Rattle.receiver.proofs.SegmentedLaws.{gathered_rules}
 use Rattle.receiver.proofs.segmented.gather.Goals as goal
 

@@ -1,6 +1,5 @@
 -- `receiver::segmented::hand_up` meets its contract: the replay list is raised, and the rest stays.
 -- Assumes nothing.
-use borrow.Author.Rules.{rules}
 use Rattle.receiver.specs.Segmented.{upgraded_by}
 use Rattle.receiver.proofs.segmented.hand_up.Goals as goal
 

@@ -1,9 +1,6 @@
 -- `receiver::segmented::open` meets its contract: what is held is what the node holds.
 -- Assumes nothing.
-use mathlib.Core.List.{List}
 use mathlib.Core.Path.{ap, ◌∙◌}
-use Prim.Native.Nat.{ℕ}
-use borrow.Author.Rules.{rules}
 use Rattle.transport.specs.declared.securing.Held.{Held}
 use Rattle.transport.specs.Securing.{unsecuring}
 use Rattle.receiver.specs.Segmented.{session_envelope, message_of}

@@ -1,6 +1,5 @@
 -- `receiver::segmented::segment` meets its contract: refusal 8, or what becomes of the segment.
 -- Assumes nothing.
-use borrow.Author.Rules.{rules}
 use Rattle.receiver.proofs.SegmentedLaws.{segmented_rules}
 use Rattle.receiver.proofs.segmented.segment.Goals as goal
 

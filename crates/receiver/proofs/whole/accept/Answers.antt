@@ -1,6 +1,5 @@
 -- `receiver::whole::accept` meets its contract: the replay list is raised, and the rest stays.
 -- Assumes nothing.
-use borrow.Author.Rules.{rules}
 use Rattle.receiver.specs.Whole.{admitted_by}
 use Rattle.receiver.proofs.whole.accept.Goals as goal
 

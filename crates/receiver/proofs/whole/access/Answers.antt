@@ -1,6 +1,5 @@
 -- `receiver::whole::access` meets its contract: one rule for each admission.
 -- Assumes nothing.
-use borrow.Author.Rules.{rules}
 use Rattle.receiver.proofs.WholeLaws.{access_rules}
 use Rattle.receiver.proofs.whole.access.Goals as goal
 

@@ -1,6 +1,5 @@
 -- `receiver::whole::acknowledgement` meets its contract: one rule for each admission.
 -- Assumes nothing.
-use borrow.Author.Rules.{rules}
 use Rattle.receiver.proofs.WholeLaws.{ack_rules}
 use Rattle.receiver.proofs.whole.acknowledgement.Goals as goal
 

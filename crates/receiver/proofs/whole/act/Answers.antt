@@ -1,6 +1,5 @@
 -- `receiver::whole::act` meets its contract: the acknowledgement is accepted, and acts on the outgoing message.
 -- Assumes nothing.
-use borrow.Author.Rules.{rules}
 use Rattle.receiver.proofs.WholeLaws.{acted_is}
 use Rattle.receiver.proofs.whole.act.Goals as goal
 

@@ -1,6 +1,5 @@
 -- `receiver::whole::admit` meets its contract: each return is one rule of `admission`.
 -- Assumes nothing.
-use borrow.Author.Rules.{rules}
 use Rattle.receiver.proofs.WholeLaws.{admission_rules}
 use Rattle.receiver.proofs.whole.admit.Goals as goal
 

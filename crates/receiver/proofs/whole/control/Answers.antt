@@ -1,6 +1,5 @@
 -- `receiver::whole::control` meets its contract: one rule for each admission.
 -- Assumes nothing.
-use borrow.Author.Rules.{rules}
 use Rattle.receiver.proofs.WholeLaws.{control_rules}
 use Rattle.receiver.proofs.whole.control.Goals as goal
 

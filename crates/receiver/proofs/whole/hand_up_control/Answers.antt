@@ -1,6 +1,5 @@
 -- `receiver::whole::hand_up_control` meets its contract: what was copied is the message.
 -- Assumes nothing.
-use borrow.Author.Rules.{rules}
 use Rattle.receiver.proofs.WholeLaws.{control_up_law}
 use Rattle.receiver.proofs.whole.hand_up_control.Goals as goal
 

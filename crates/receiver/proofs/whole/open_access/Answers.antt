@@ -1,6 +1,5 @@
 -- `receiver::whole::open_access` meets its contract: one rule for each answer of the keys.
 -- Assumes nothing.
-use borrow.Author.Rules.{rules}
 use Rattle.receiver.proofs.WholeLaws.{opened_rules}
 use Rattle.receiver.proofs.whole.open_access.Goals as goal
 

@@ -1,6 +1,5 @@
 -- `sending::access::envelope` meets its contract: IV Index, address and DST are what their functions give.
 -- Assumes nothing.
-use borrow.Author.Rules.{rules}
 use Rattle.sending.specs.Access.{envelope_of}
 use Rattle.sending.proofs.access.envelope.Goals as goal
 

@@ -1,6 +1,5 @@
 -- `sending::access::is_allowed` meets its contract: each return is one rule of `access_allowed`.
 -- Assumes nothing.
-use borrow.Author.Rules.{rules}
 use Rattle.sending.proofs.AccessLaws.{allowed_rules}
 use Rattle.sending.proofs.access.is_allowed.Goals as goal
 

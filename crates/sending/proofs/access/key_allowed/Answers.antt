@@ -1,6 +1,5 @@
 -- `sending::access::key_allowed` meets its contract: one rule for each key and its tests.
 -- Assumes nothing.
-use borrow.Author.Rules.{rules}
 use Rattle.sending.proofs.AccessLaws.{key_rules}
 use Rattle.sending.proofs.access.key_allowed.Goals as goal
 

@@ -1,6 +1,5 @@
 -- `sending::access::key_used` meets its contract: one rule for each key.
 -- Assumes nothing.
-use borrow.Author.Rules.{rules}
 use Rattle.sending.proofs.AccessLaws.{used_rules}
 use Rattle.sending.proofs.access.key_used.Goals as goal
 

@@ -1,6 +1,5 @@
 -- `sending::access::secured_len` meets its contract: SZMIC says which TransMIC.
 -- Assumes nothing.
-use borrow.Author.Rules.{rules}
 use Rattle.sending.proofs.AccessLaws.{secured_eight, secured_four}
 use Rattle.sending.proofs.access.secured_len.Goals as goal
 

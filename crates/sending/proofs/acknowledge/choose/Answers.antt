@@ -1,6 +1,5 @@
 -- `sending::acknowledge::choose` meets its contract: each return is one rule of `chosen`.
 -- Assumes nothing.
-use borrow.Author.Rules.{rules}
 use Rattle.sending.proofs.AcknowledgeLaws.{chosen_rules}
 use Rattle.sending.proofs.acknowledge.choose.Goals as goal
 

@@ -1,6 +1,5 @@
 -- `sending::acknowledge::say` meets its contract: one PDU is sent with the header made.
 -- Assumes nothing.
-use borrow.Author.Rules.{rules}
 use Rattle.sending.proofs.AcknowledgeLaws.{said_is}
 use Rattle.sending.proofs.acknowledge.say.Goals as goal
 

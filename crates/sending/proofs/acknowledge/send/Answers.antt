@@ -1,6 +1,5 @@
 -- `sending::acknowledge::send` meets its contract: each return is one rule of `acknowledging`.
 -- Assumes nothing.
-use borrow.Author.Rules.{rules}
 use Rattle.sending.proofs.AcknowledgeLaws.{ack_rules}
 use Rattle.sending.proofs.acknowledge.send.Goals as goal
 

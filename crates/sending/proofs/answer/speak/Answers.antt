@@ -1,6 +1,5 @@
 -- `sending::answer::speak` meets its contract: one rule for each answer of a transmission.
 -- Assumes nothing.
-use borrow.Author.Rules.{rules}
 use Rattle.sending.proofs.TransmissionLaws.{spoken_rules}
 use Rattle.sending.proofs.answer.speak.Goals as goal
 

@@ -1,6 +1,5 @@
 -- `sending::control::is_allowed` meets its contract: each return is one rule of `control_allowed`.
 -- Assumes nothing.
-use borrow.Author.Rules.{rules}
 use Rattle.sending.proofs.ControlLaws.{allowed_rules}
 use Rattle.sending.proofs.control.is_allowed.Goals as goal
 

@@ -1,6 +1,5 @@
 -- `sending::control::say` meets its contract: it goes whole, or is begun.
 -- Assumes nothing.
-use borrow.Author.Rules.{rules}
 use Rattle.sending.proofs.ControlLaws.{say_rules}
 use Rattle.sending.proofs.control.say.Goals as goal
 

@@ -1,6 +1,5 @@
 -- `sending::request::destination_allowed` meets its contract: one rule for each destination and its tests.
 -- Assumes nothing.
-use borrow.Author.Rules.{rules}
 use Rattle.sending.proofs.RequestLaws.{destination_rules}
 use Rattle.sending.proofs.request.destination_allowed.Goals as goal
 

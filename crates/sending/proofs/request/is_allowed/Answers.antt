@@ -1,6 +1,5 @@
 -- `sending::request::is_allowed` meets its contract: each return is one rule of `request_allowed`.
 -- Assumes nothing.
-use borrow.Author.Rules.{rules}
 use Rattle.sending.proofs.RequestLaws.{request_rules}
 use Rattle.sending.proofs.request.is_allowed.Goals as goal
 

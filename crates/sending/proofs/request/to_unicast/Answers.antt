@@ -1,6 +1,5 @@
 -- `sending::request::to_unicast` meets its contract: an address may be unicast, and a label never is.
 -- Assumes nothing.
-use borrow.Author.Rules.{rules}
 use Rattle.sending.proofs.RequestLaws.{unicast_address}
 use Rattle.sending.proofs.request.to_unicast.Goals as goal
 

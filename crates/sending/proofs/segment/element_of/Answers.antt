@@ -1,6 +1,5 @@
 -- `sending::segment::element_of` meets its contract: a local address is not below the first element's.
 -- Assumes nothing.
-use borrow.Author.Rules.{rules}
 use Rattle.sending.proofs.SegmentLaws.{element_first, element_here, element_none}
 use Rattle.sending.proofs.segment.element_of.Goals as goal
 

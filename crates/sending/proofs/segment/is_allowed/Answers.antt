@@ -1,6 +1,5 @@
 -- `sending::segment::is_allowed` meets its contract: each return is one rule of `segment_allowed`.
 -- Assumes nothing.
-use borrow.Author.Rules.{rules}
 use Rattle.sending.proofs.SegmentLaws.{segment_rules}
 use Rattle.sending.proofs.segment.is_allowed.Goals as goal
 

@@ -1,6 +1,5 @@
 -- `sending::segment::send` meets its contract: each return is one rule of `sending_segment`, and a segment that may be sent is below 32.
 -- Assumes nothing.
-use borrow.Author.Rules.{rules}
 use Rattle.sending.proofs.SegmentLaws.{segment_below, send_rules}
 use Rattle.sending.proofs.segment.send.Goals as goal
 

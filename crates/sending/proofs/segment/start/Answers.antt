@@ -1,6 +1,5 @@
 -- `sending::segment::start` meets its contract: one rule for each answer of the transmission of segment 0.
 -- Assumes nothing.
-use borrow.Author.Rules.{rules}
 use Rattle.sending.proofs.SegmentLaws.{start_rules}
 use Rattle.sending.proofs.segment.start.Goals as goal
 

@@ -1,6 +1,5 @@
 -- `sending::stop::stop` meets its contract: SRC says whether a message is kept.
 -- Assumes nothing.
-use borrow.Author.Rules.{rules}
 use Rattle.sending.proofs.TransmissionLaws.{stop_rules}
 use Rattle.sending.proofs.stop.stop.Goals as goal
 

@@ -1,6 +1,5 @@
 -- `sending::transmission::advance` meets its contract: one next SEQ is written, and a SEQ of 24 bits has one after it.
 -- Assumes nothing.
-use borrow.Author.Rules.{rules}
 use Rattle.sending.specs.Transmission.{with_next}
 use mathlib.Core.Path.{refl}
 use Rattle.sending.proofs.transmission.advance.Goals as goal

@@ -1,6 +1,5 @@
 -- `sending::transmission::iv_of` meets its contract: the IV Index and its flag are the node's.
 -- Assumes nothing.
-use borrow.Author.Rules.{rules}
 use Rattle.sending.specs.Transmission.{sending_iv}
 use Rattle.sending.proofs.transmission.iv_of.Goals as goal
 

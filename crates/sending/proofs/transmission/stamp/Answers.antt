@@ -1,6 +1,5 @@
 -- `sending::transmission::stamp` meets its contract: SEQ is read at the element, and SRC is its address.
 -- Assumes nothing.
-use borrow.Author.Rules.{rules}
 use Rattle.sending.proofs.TransmissionLaws.{stamp_is}
 use Rattle.sending.proofs.transmission.stamp.Goals as goal
 

@@ -1,6 +1,5 @@
 -- `sending::transmission::transmit` meets its contract: each return is one rule of `transmitted`.
 -- Assumes nothing.
-use borrow.Author.Rules.{rules}
 use Rattle.sending.proofs.TransmissionLaws.{transmit_short, transmit_rules}
 use Rattle.sending.proofs.transmission.transmit.Goals as goal
 

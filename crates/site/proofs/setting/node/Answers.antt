@@ -1,6 +1,5 @@
 -- `site::setting::node` meets its contract: it is the receiver that setup answers.
 -- Assumes nothing.
-use borrow.Author.Rules.{rules}
 use Rattle.site.proofs.setting.node.Goals as goal
 
 pub returns : goal.returns

@@ -1,6 +1,5 @@
 -- `site::setting::setup` meets its contract: each key is filled in where the definition fills it in.
 -- Assumes nothing.
-use borrow.Author.Rules.{rules}
 use Rattle.site.proofs.setting.setup.Goals as goal
 
 pub returns : goal.returns

@@ -1,6 +1,5 @@
 -- `site::words::handed_up` meets its contract: a message that is handed up names its length, and no other answer has one.
 -- Assumes nothing.
-use borrow.Author.Rules.{rules}
 use Rattle.site.proofs.words.handed_up.Goals as goal
 
 pub returns-in-Access : goal.returns-in-Access

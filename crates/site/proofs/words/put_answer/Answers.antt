@@ -1,6 +1,5 @@
 -- `site::words::put_answer` meets its contract: each case is one rule.
 -- Assumes nothing.
-use borrow.Author.Rules.{rules}
 use Rattle.site.proofs.WordsLaws.{answer_rules}
 use Rattle.site.proofs.words.put_answer.Goals as goal
 

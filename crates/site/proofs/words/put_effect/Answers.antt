@@ -1,6 +1,5 @@
 -- `site::words::put_effect` meets its contract: each case is one rule.
 -- Assumes nothing.
-use borrow.Author.Rules.{rules}
 use Rattle.site.proofs.WordsLaws.{effect_rules}
 use Rattle.site.proofs.words.put_effect.Goals as goal
 

@@ -1,6 +1,5 @@
 -- `site::words::put_said` meets its contract: each case is one rule.
 -- Assumes nothing.
-use borrow.Author.Rules.{rules}
 use Rattle.site.proofs.WordsLaws.{said_rules}
 use Rattle.site.proofs.words.put_said.Goals as goal
 

@@ -1,13 +1,10 @@
 -- `speed::hearing::hear_over` meets its contract: after i turns count and message buffer are those of i hearings, and a turn counts at most 2.
 -- Assumes nothing.
-use mathlib.Core.Path.{◌≡◌, refl, ap, ◌∙◌}
+use mathlib.Core.Path.{◌≡◌}
 use Prim.Native.Nat.{◌*◌, ◌-◌, ◌≤◌}
-use native.Mathlib.Omega.{arith}
-use borrow.Author.Rules.{rules}
 use lib.ListN.{length}
 use Rattle.common.specs.Lent.{lent}
 use Rattle.speed.specs.Hearing.{heard_over}
-use Rattle.speed.proofs.HearingLaws.{heard_more}
 use Rattle.speed.proofs.hearing.hear_over.Given as goal
 
 abbrev pub invariant-loop-i : goal.invariant-loop-i

@@ -1,13 +1,9 @@
 -- `speed::hearing::hear_row` meets its contract: after i turns receiver, count and message buffer are those of i PDUs, and a turn counts at most 1.
 -- Assumes nothing.
-use mathlib.Core.Path.{◌≡◌, refl, ap, ◌∙◌}
+use mathlib.Core.Path.{◌≡◌}
 use Prim.Native.Nat.{◌-◌, ◌≤◌}
-use native.Mathlib.Omega.{arith}
-use borrow.Author.Rules.{rules}
 use lib.ListN.{length}
-use Rattle.common.specs.Lent.{lent}
 use Rattle.speed.specs.Hearing.{row, heard_row}
-use Rattle.speed.proofs.HearingLaws.{pdu_part, row_more}
 use Rattle.speed.proofs.hearing.hear_row.Given as goal
 
 abbrev pub invariant-loop-i : goal.invariant-loop-i

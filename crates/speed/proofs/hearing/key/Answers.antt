@@ -1,6 +1,5 @@
 -- `speed::hearing::key` meets its contract: sixteen octets from 16 * i on are within the 48.
 -- Assumes nothing.
-use borrow.Author.Rules.{rules}
 use Rattle.speed.proofs.hearing.key.Goals as goal
 
 pub returns : goal.returns

@@ -1,7 +1,6 @@
 -- `speed::hearing::open_over` meets its contract: after i turns the count is that of i openings, and a turn counts at most 1.
 -- Assumes nothing.
 use mathlib.Core.Path.{◌≡◌, refl, ap, ◌∙◌}
-use Prim.Native.Nat.{◌-◌, ◌≤◌}
 use native.Mathlib.Omega.{arith}
 use borrow.Author.Rules.{rules}
 use Rattle.speed.specs.Hearing.{opened_over}

@@ -1,11 +1,8 @@
 -- `speed::hearing::open_over` meets its contract: after i turns the count is that of i openings, and a turn counts at most 1.
 -- Assumes nothing.
-use mathlib.Core.Path.{◌≡◌, refl, ap, ◌∙◌}
+use mathlib.Core.Path.{◌≡◌}
 use Prim.Native.Nat.{◌-◌, ◌≤◌}
-use native.Mathlib.Omega.{arith}
-use borrow.Author.Rules.{rules}
 use Rattle.speed.specs.Hearing.{opened_over}
-use Rattle.speed.proofs.HearingLaws.{opened_more}
 use Rattle.speed.proofs.hearing.open_over.Given as goal
 
 abbrev pub invariant-loop-i : goal.invariant-loop-i

@@ -1,6 +1,5 @@
 -- `speed::hearing::receiver` meets its contract: it is the receiver that setup answers.
 -- Assumes nothing.
-use borrow.Author.Rules.{rules}
 use Rattle.speed.proofs.hearing.receiver.Goals as goal
 
 pub returns : goal.returns

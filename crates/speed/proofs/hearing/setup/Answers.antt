@@ -1,6 +1,5 @@
 -- `speed::hearing::setup` meets its contract: each key is filled in where the definition fills it in.
 -- Assumes nothing.
-use borrow.Author.Rules.{rules}
 use Rattle.speed.proofs.hearing.setup.Goals as goal
 
 pub returns : goal.returns

@@ -1,6 +1,5 @@
 -- `speed::hearing::speed_hear` meets its contract: each return is one rule of `heard_times`, and the test before it says which.
 -- Assumes nothing.
-use borrow.Author.Rules.{rules}
 use Rattle.speed.proofs.HearingLaws.{heard_rules}
 use Rattle.speed.proofs.hearing.speed_hear.Goals as goal
 

@@ -1,7 +1,6 @@
 -- `speed::hearing::speed_hear_row` meets its contract: each return is one rule of `heard_all`, and the test before it says which.
 -- Assumes nothing.
 use native.Mathlib.Omega.{arith}
-use borrow.Author.Rules.{rules}
 use Rattle.speed.proofs.HearingLaws.{row_rules}
 use Rattle.speed.proofs.hearing.speed_hear_row.Goals as goal
 

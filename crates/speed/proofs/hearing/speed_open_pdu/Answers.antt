@@ -1,6 +1,5 @@
 -- `speed::hearing::speed_open_pdu` meets its contract: each return is one rule of `opened_times`, and the test before it says which.
 -- Assumes nothing.
-use borrow.Author.Rules.{rules}
 use Rattle.speed.proofs.HearingLaws.{opened_rules}
 use Rattle.speed.proofs.hearing.speed_open_pdu.Goals as goal
 

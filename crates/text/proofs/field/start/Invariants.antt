@@ -1,14 +1,9 @@
 -- `field::start` meets its contract: what is to be found behind the line's `n` spaces is to be found behind `left` from `i` on, and what is left of the line falls.
 -- Assumes nothing.
-use mathlib.Core.Logic.{⊎_elim}
-use mathlib.Core.Path.{◌≡◌, sym, ◌∙◌, ap}
-use Prim.Native.Nat.{ℕ, ◌+◌, ◌-◌, ◌≤◌}
-use native.Mathlib.Omega.{arith}
-use borrow.Author.Rules.{rules}
-use borrow.Author.Tests.{ltb-true, ltb-false}
+use mathlib.Core.Path.{◌≡◌}
+use Prim.Native.Nat.{◌-◌, ◌≤◌}
 use lib.ListN.{length, drop}
 use Rattle.text.specs.Field.{behind}
-use Rattle.text.proofs.FieldLaws.{behind_space, behind_other, behind_none, behind_first, drop_past}
 use Rattle.text.proofs.field.start.Given as goal
 
 abbrev pub invariant-loop-i : goal.invariant-loop-i

@@ -1,6 +1,5 @@
 -- `hex::fill` meets its contract: what the text reads as is one rule.
 -- Assumes nothing.
-use borrow.Author.Rules.{rules}
 use Rattle.text.proofs.HexLaws.{filling_rules}
 use Rattle.text.proofs.hex.fill.Goals as goal
 

@@ -2,12 +2,11 @@
 -- Assumes nothing.
 use mathlib.Core.List.{List, ◌++◌}
 use mathlib.Core.Path.{◌≡◌, refl, sym, ap, ◌∙◌}
-use Prim.Native.Nat.{ℕ, ◌+◌, ◌-◌, ◌≤◌}
+use Prim.Native.Nat.{ℕ, ◌+◌}
 use native.Mathlib.Omega.{arith}
 use borrow.Author.Rules.{rules}
-use lib.ListN.{length, take}
+use lib.ListN.{take}
 use lib.Seq.{take_all}
-use Rattle.common.specs.Lent.{lent}
 use Rattle.text.specs.Hex.{pairs}
 use Rattle.text.specs.Written.{putting}
 use Rattle.text.proofs.HexLaws.{pairs_more, no_pairs, text_none, text_pairs}

@@ -1,17 +1,11 @@
 -- `hex::put` meets its contract: after `i` octets their pairs are put, and what is left of the octets falls.
 -- Assumes nothing.
-use mathlib.Core.List.{List, ◌++◌}
-use mathlib.Core.Path.{◌≡◌, refl, sym, ap, ◌∙◌}
-use Prim.Native.Nat.{ℕ, ◌+◌, ◌-◌, ◌≤◌}
-use native.Mathlib.Omega.{arith}
-use borrow.Author.Rules.{rules}
+use mathlib.Core.Path.{◌≡◌}
+use Prim.Native.Nat.{◌-◌, ◌≤◌}
 use lib.ListN.{length, take}
-use lib.Seq.{take_all}
 use Rattle.common.specs.Lent.{lent}
 use Rattle.text.specs.Hex.{pairs}
 use Rattle.text.specs.Written.{putting}
-use Rattle.text.proofs.HexLaws.{pairs_more, no_pairs, text_none, text_pairs}
-use Rattle.text.proofs.WrittenLaws.{put_full, put_then, put_nothing}
 use Rattle.text.proofs.hex.put.Given as goal
 
 abbrev pub invariant-loop-i : goal.invariant-loop-i

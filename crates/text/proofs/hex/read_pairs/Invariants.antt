@@ -1,11 +1,9 @@
 -- `hex::read_pairs` meets its contract: before pair `i` the octets of the pairs in front of it are read, and what is left of the pairs falls.
 -- Assumes nothing.
-use mathlib.Core.Path.{◌≡◌, ◌∙◌}
-use Prim.Native.Nat.{◌+◌, ◌*◌, ◌-◌, ◌≤◌}
-use native.Mathlib.Omega.{arith}
-use borrow.Author.Rules.{rules}
-use lib.ListN.{length, length-set}
-use Rattle.text.proofs.HexLaws.{PairsRead, pair_wrong_high, pair_wrong_low, pair_on, pairs_on, pairs_short, pairs_all}
+use mathlib.Core.Path.{◌≡◌}
+use Prim.Native.Nat.{◌-◌, ◌≤◌}
+use lib.ListN.{length}
+use Rattle.text.proofs.HexLaws.{PairsRead}
 use Rattle.text.proofs.hex.read_pairs.Given as goal
 
 abbrev pub invariant-loop-i : goal.invariant-loop-i

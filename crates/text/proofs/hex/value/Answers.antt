@@ -1,7 +1,6 @@
 -- `hex::value` meets its contract: each range is one rule, and the tests before it say that no other fits.
 -- Assumes nothing.
 use native.Mathlib.Omega.{arith}
-use borrow.Author.Rules.{rules}
 use Rattle.text.proofs.HexLaws.{value_low, value_decimal, value_between, value_upper, value_between_cases, value_lower, value_high}
 use Rattle.text.proofs.hex.value.Goals as goal
 

@@ -1,7 +1,6 @@
 -- `number::put_decimal` meets its contract: the label is put, and behind it the fewest digits that hold the number.
 -- Assumes nothing.
 use native.Mathlib.Omega.{arith}
-use borrow.Author.Rules.{rules}
 use Rattle.text.proofs.NumberLaws.{put_number}
 use Rattle.text.proofs.number.put_decimal.Goals as goal
 

@@ -1,8 +1,5 @@
 -- `number::put_signed` meets its contract: the sign is the label of the number, and there is none where the number is not below 0.
 -- Assumes nothing.
-use borrow.Author.Rules.{rules}
-use Rattle.text.proofs.number.put_signed.Reads as reads
-use Rattle.text.proofs.number.put_signed.Lts as lts
 use Rattle.text.proofs.number.put_signed.Goals as goal
 
 pub returns-then-below : goal.returns-then-below

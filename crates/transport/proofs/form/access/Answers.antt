@@ -1,6 +1,5 @@
 -- `transport::form::access` meets its contract: each return is one rule of `access_form`.
 -- Assumes nothing.
-use borrow.Author.Rules.{rules}
 use Rattle.transport.proofs.FormLaws.{access_rules}
 use Rattle.transport.proofs.form.access.Goals as goal
 

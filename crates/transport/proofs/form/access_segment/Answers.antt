@@ -1,6 +1,5 @@
 -- `transport::form::access_segment` meets its contract: each return is one rule of `access_segment_form`.
 -- Assumes nothing.
-use borrow.Author.Rules.{rules}
 use Rattle.transport.proofs.FormLaws.{access_segment_rules}
 use Rattle.transport.proofs.form.access_segment.Goals as goal
 

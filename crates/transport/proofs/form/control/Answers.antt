@@ -1,6 +1,5 @@
 -- `transport::form::control` meets its contract: each return is one rule of `control_form`.
 -- Assumes nothing.
-use borrow.Author.Rules.{rules}
 use Rattle.transport.proofs.FormLaws.{control_rules}
 use Rattle.transport.proofs.form.control.Goals as goal
 

@@ -1,6 +1,5 @@
 -- `transport::form::control_segment` meets its contract: each return is one rule of `control_segment_form`.
 -- Assumes nothing.
-use borrow.Author.Rules.{rules}
 use Rattle.transport.proofs.FormLaws.{control_segment_rules}
 use Rattle.transport.proofs.form.control_segment.Goals as goal
 

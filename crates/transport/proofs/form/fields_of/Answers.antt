@@ -1,8 +1,6 @@
 -- `transport::form::fields_of` meets its contract: the number of octets 1-3 has them, and CTL says whether its highest bit is SZMIC.
 -- Assumes nothing.
-use mathlib.Core.Logic.{⊎_elim}
 use mathlib.Core.Path.{◌∙◌}
-use borrow.Author.Rules.{rules}
 use Rattle.transport.proofs.FormLaws.{fields_are}
 use mathlib.Core.Path.{ap}
 use Rattle.std.proofs.Common.{not}

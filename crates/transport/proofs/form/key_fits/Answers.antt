@@ -1,6 +1,5 @@
 -- `transport::form::key_fits` meets its contract: each return is one rule of `key_fits`.
 -- Assumes nothing.
-use borrow.Author.Rules.{rules}
 use Rattle.transport.proofs.FormLaws.{key_fits_rules}
 use Rattle.transport.proofs.form.key_fits.Goals as goal
 

@@ -1,6 +1,5 @@
 -- `transport::form::read` meets its contract: CTL and SEG say which of the four it is.
 -- Assumes nothing.
-use borrow.Author.Rules.{rules}
 use Rattle.transport.proofs.FormLaws.{read_rules}
 use Rattle.transport.proofs.form.read.Goals as goal
 

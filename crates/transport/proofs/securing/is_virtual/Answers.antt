@@ -1,6 +1,5 @@
 -- `transport::securing::is_virtual` meets its contract: it asks of the kind what `is_virtual` asks.
 -- Assumes nothing.
-use borrow.Author.Rules.{rules}
 use Rattle.transport.specs.Securing.{is_virtual}
 use Rattle.transport.proofs.securing.is_virtual.Goals as goal
 

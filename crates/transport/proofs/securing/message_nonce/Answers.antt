@@ -1,6 +1,5 @@
 -- `transport::securing::message_nonce` meets its contract: AKF says whose nonce `message_nonce_of` is.
 -- Assumes nothing.
-use borrow.Author.Rules.{rules}
 use Rattle.transport.proofs.SecuringLaws.{nonce_rules}
 use Rattle.transport.proofs.securing.message_nonce.Goals as goal
 

@@ -1,7 +1,6 @@
 -- `transport::securing::open` meets its contract: each answer is its law, by the tests before it and what the keys of that AKF make of the message.
 -- Assumes nothing.
 use native.Mathlib.Omega.{arith}
-use borrow.Author.Rules.{rules}
 use Rattle.modes.proofs.CcmLaws.{mic_octets_bounds}
 use Rattle.transport.specs.Securing.{trans_mic}
 use Rattle.transport.proofs.SecuringLaws.{open_short_buffer, open_too_short, open_application, open_device}

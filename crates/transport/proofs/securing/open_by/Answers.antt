@@ -1,6 +1,5 @@
 -- `transport::securing::open_by` meets its contract: the schedule, the nonce and the size of the TransMIC are those of `opened_by`.
 -- Assumes nothing.
-use borrow.Author.Rules.{rules}
 use Rattle.transport.proofs.SecuringLaws.{opened_by_law}
 use Rattle.transport.proofs.securing.open_by.Goals as goal
 

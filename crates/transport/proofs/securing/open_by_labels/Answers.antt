@@ -2,16 +2,15 @@
 -- opens the message, and the count of trials stays a place among the labels of DST. The measure is what is left of the four labels. Assumes nothing.
 use mathlib.Core.Bool.{false}
 use mathlib.Core.Logic.{⊎_elim}
-use mathlib.Core.Path.{◌≡◌, refl, ap, ◌∙◌}
-use Prim.Native.Nat.{ℕ, ◌≤◌, ◌<◌, ◌-◌, min}
+use mathlib.Core.Path.{refl, ap, ◌∙◌}
+use Prim.Native.Nat.{◌≤◌, ◌<◌, min}
 use native.Mathlib.Omega.{arith}
-use borrow.Author.Rules.{rules}
-use borrow.Author.Tests.{leb-true, leb-false, eq-eqb, ne_eqb}
+use borrow.Author.Tests.{leb-false, eq-eqb, ne_eqb}
 use lib.ListN.{length}
 use Rattle.common.specs.Lent.{lent}
 use Rattle.transport.specs.declared.securing.Opener.TheVariants.{Application}
 use Rattle.transport.specs.Securing.{label_places, application_key_at, label_at}
-use Rattle.transport.proofs.SecuringLaws.{SearchingLabels, no_label_yet, label_passed, label_tried, label_opens, no_label_opens, opened_on, opened_kept, opened_as_long}
+use Rattle.transport.proofs.SecuringLaws.{no_label_yet, label_passed, label_tried, label_opens, no_label_opens, opened_on, opened_kept, opened_as_long}
 use Rattle.transport.proofs.securing.open_by_labels.Goals as goal
 use Rattle.transport.proofs.securing.open_by_labels.Goals.{then-l-e+else-open_by_label, else-l-e}
 

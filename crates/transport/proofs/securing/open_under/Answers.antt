@@ -1,7 +1,6 @@
 -- `transport::securing::open_under` meets its contract: for a virtual DST the labels are tried, for any other the key alone.
 -- Assumes nothing.
 use mathlib.Core.Path.{sym, ◌∙◌}
-use borrow.Author.Rules.{rules}
 use Rattle.transport.proofs.SecuringLaws.{under_labels, under_alone}
 use Rattle.transport.proofs.securing.open_under.Goals as goal
 

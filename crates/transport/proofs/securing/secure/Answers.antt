@@ -1,6 +1,5 @@
 -- `transport::securing::secure` meets its contract: the schedule, the nonce and the size of the TransMIC are those of `securing`.
 -- Assumes nothing.
-use borrow.Author.Rules.{rules}
 use Rattle.transport.proofs.SecuringLaws.{secured_by}
 use Rattle.transport.proofs.securing.secure.Goals as goal
 

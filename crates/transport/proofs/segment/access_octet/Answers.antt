@@ -1,7 +1,6 @@
 -- `transport::segment::access_octet` meets its contract: SEG and AKF say which sum it is.
 -- Assumes nothing.
 use native.Mathlib.Omega.{arith}
-use borrow.Author.Rules.{rules}
 use Rattle.transport.specs.Segment.{access_octet}
 use Rattle.transport.proofs.segment.access_octet.Goals as goal
 

@@ -1,7 +1,6 @@
 -- `transport::segment::ack_number` meets its contract: OBO says which sum it is.
 -- Assumes nothing.
 use native.Mathlib.Omega.{arith}
-use borrow.Author.Rules.{rules}
 use Rattle.transport.specs.Segment.{acknowledgement_number}
 use Rattle.transport.proofs.segment.ack_number.Goals as goal
 

@@ -3,7 +3,6 @@
 use mathlib.Core.Path.{ap}
 use mathlib.Core.List.{◌∷◌, ◌++◌}
 use Prim.Native.Nat.{ℕ}
-use borrow.Author.Rules.{rules}
 use Rattle.network.specs.Octets.{octets}
 use Rattle.transport.specs.Segment.{acknowledgement_octets}
 use Rattle.transport.proofs.segment.acknowledgement.Goals as goal

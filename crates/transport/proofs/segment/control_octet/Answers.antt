@@ -1,7 +1,6 @@
 -- `transport::segment::control_octet` meets its contract: SEG says which sum it is.
 -- Assumes nothing.
 use native.Mathlib.Omega.{arith}
-use borrow.Author.Rules.{rules}
 use Rattle.transport.specs.Segment.{control_octet}
 use Rattle.transport.proofs.segment.control_octet.Goals as goal
 

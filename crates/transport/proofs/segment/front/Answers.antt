@@ -3,7 +3,6 @@
 use mathlib.Core.Path.{ap}
 use mathlib.Core.List.{◌∷◌}
 use Prim.Native.Nat.{ℕ}
-use borrow.Author.Rules.{rules}
 use Rattle.network.specs.Octets.{octets}
 use Rattle.transport.specs.Segment.{segment_front}
 use Rattle.transport.proofs.segment.front.Goals as goal

@@ -1,7 +1,6 @@
 -- `transport::segment::number` meets its contract: SZMIC says which sum it is.
 -- Assumes nothing.
 use native.Mathlib.Omega.{arith}
-use borrow.Author.Rules.{rules}
 use Rattle.transport.specs.Segment.{segment_number}
 use Rattle.transport.proofs.segment.number.Goals as goal
 

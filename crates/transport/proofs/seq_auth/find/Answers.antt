@@ -1,7 +1,6 @@
 -- `transport::seq_auth::find` meets its contract: each return is one case of `seq_auth`, and the tests before it say which.
 -- Assumes nothing.
 use borrow.Author.Tests.{le-leb, lt-leb}
-use borrow.Author.Rules.{rules}
 use Rattle.transport.specs.SeqAuth.{seq_auth}
 use Rattle.transport.proofs.seq_auth.find.Goals as goal
 

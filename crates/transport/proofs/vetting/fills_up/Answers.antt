@@ -1,7 +1,6 @@
 -- `transport::vetting::fills_up` meets its contract: each return is one rule of `fills`; the sum is small, since SegN has one octet.
 -- Assumes nothing.
 use native.Mathlib.Omega.{arith}
-use borrow.Author.Rules.{rules}
 use Rattle.transport.proofs.VettingRules.{fills_rules, full_low}
 use Rattle.transport.proofs.vetting.fills_up.Goals as goal
 

@@ -2,7 +2,6 @@
 -- Assumes nothing.
 use mathlib.Core.Path.{sym}
 use native.Mathlib.Omega.{arith}
-use borrow.Author.Rules.{rules}
 use lib.Seq.{length-take-le}
 use Rattle.transport.proofs.VettingRules.{fit_rules}
 use Rattle.transport.proofs.vetting.fit.Goals as goal

@@ -1,6 +1,5 @@
 -- `transport::vetting::full` meets its contract: CTL says which product it is.
 -- Assumes nothing.
-use borrow.Author.Rules.{rules}
 use Rattle.transport.proofs.VettingRules.{ctl_rules}
 use Rattle.transport.proofs.vetting.full.Goals as goal
 

@@ -1,9 +1,7 @@
 -- `transport::vetting::join` meets its contract: what is laid so far and what stands behind the fronts from `at` on is the whole. What is left of the list falls.
 -- Assumes nothing.
-use Prim.Native.Nat.{◌-◌}
 use borrow.Author.Rules.{rules}
-use lib.ListN.{length}
-use Rattle.transport.proofs.VettingRules.{Laid, laid_none, laid_room, laid_more, laid_all}
+use Rattle.transport.proofs.VettingRules.{laid_none, laid_room, laid_more, laid_all}
 use Rattle.transport.proofs.vetting.join.Goals as goal
 
 pub lay-requires : goal.lay-requires

@@ -1,6 +1,5 @@
 -- `transport::vetting::judge` meets its contract: each return is one rule of `judged`.
 -- Assumes nothing.
-use borrow.Author.Rules.{rules}
 use Rattle.transport.proofs.VettingRules.{judge_rules}
 use Rattle.transport.proofs.vetting.judge.Goals as goal
 

@@ -1,13 +1,10 @@
 -- `transport::vetting::judge_by` meets its contract: the judgement of all PDUs is that of those from `at` on, of which the first is PDU k. What is left of the list falls.
 -- Assumes nothing.
-use mathlib.Core.Path.{◌≡◌, refl, sym, ◌∙◌}
+use mathlib.Core.Path.{◌≡◌}
 use Prim.Native.Nat.{◌-◌, ◌≤◌}
-use native.Mathlib.Omega.{arith}
-use borrow.Author.Rules.{rules}
 use lib.ListN.{length, drop}
 use Rattle.transport.specs.Listed.{pdus}
 use Rattle.transport.specs.Vetting.{judged_from}
-use Rattle.transport.proofs.VettingRules.{from_whole, from_unfinished, from_fault, from_on}
 use Rattle.transport.proofs.vetting.judge_by.Given as goal
 
 abbrev pub invariant-loop-at : goal.invariant-loop-at

@@ -1,7 +1,6 @@
 -- `transport::vetting::lay` meets its contract: there is room behind `to`, so the octets are copied whole.
 -- Assumes nothing.
 use mathlib.Core.Path.{refl}
-use borrow.Author.Rules.{rules}
 use Rattle.common.proofs.Onto.{laid_copied}
 use Rattle.transport.proofs.vetting.lay.Goals as goal
 
