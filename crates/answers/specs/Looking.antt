@@ -1,8 +1,7 @@
 -- What the receiver holds, as text: one line a thing.
 --   placed_text f i l   the text of each element with its place, from i on, one behind the other
 --   receiver_text r     all of it
-use Rattle.std.specs.Prelude.{List, [], ◌∷◌, ◌++◌, ℕ, suc, min, eqb, take}
-use Rattle.common.specs.Choice.{if◌then◌else◌}
+use Rattle.std.specs.Prelude.{List, [], ◌∷◌, ◌++◌, ℕ, suc, min, eqb, take, if◌then◌else◌}
 use Rattle.memory.specs.declared.cache.Seen.{Seen}
 use Rattle.memory.specs.declared.cache.Cache.{Cache}
 use Rattle.memory.specs.declared.replay.Last.{Last}

@@ -3,8 +3,7 @@
 --   giving_key line word, setting_up line word    these and the words that lead to a receiver
 --   speaking line word, with_receiver line word   these and the words that need one
 --   command_of line ready                         the command of a line, where a receiver is ready or not
-use Rattle.std.specs.Prelude.{Bool, List, ℕ}
-use Rattle.common.specs.Choice.{if◌then◌else◌}
+use Rattle.std.specs.Prelude.{Bool, List, ℕ, if◌then◌else◌}
 use Rattle.common.specs.Lists.{same}
 use Rattle.text.specs.Field.{field_of}
 use Rattle.text.specs.Octets.{octets}

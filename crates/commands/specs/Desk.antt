@@ -3,8 +3,7 @@
 --   at_start              the desk at the start
 --   after_setup d ready   after a `setup`, ready or refused
 --   noting d said text    what a line leaves that needs no receiver, and what it is answered
-use Rattle.std.specs.Prelude.{Bool, false, ◌||◌, List, ℕ}
-use Rattle.common.specs.Choice.{if◌then◌else◌}
+use Rattle.std.specs.Prelude.{Bool, false, ◌||◌, List, ℕ, if◌then◌else◌}
 use Rattle.sensor.specs.declared.properties.Answer.{Answer}
 use Rattle.sensor.specs.declared.properties.Answer.TheVariants.{Named, Refused}
 use Rattle.sensor.specs.declared.properties.Naming.{Naming}

@@ -3,8 +3,7 @@
 --   hear_of, access_of, control_of, readings_of         the same, and the buffer with its octets
 --   vet_of                                              the same, and the buffer with the list of its PDUs
 --   line_of line ready out                              what a line says, where a receiver is ready or not, and the buffer
-use Rattle.std.specs.Prelude.{Bool, List, [], ◌∷◌, ℕ, eqb, ltb, length, drop}
-use Rattle.common.specs.Choice.{if◌then◌else◌}
+use Rattle.std.specs.Prelude.{Bool, List, [], ◌∷◌, ℕ, eqb, ltb, length, drop, if◌then◌else◌}
 use Rattle.common.specs.Lent.{Lent, lent}
 use Rattle.text.specs.declared.hex.Octets.{Octets}
 use Rattle.text.specs.declared.hex.Octets.TheVariants.{Count, NotHex}

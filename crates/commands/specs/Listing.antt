@@ -3,8 +3,7 @@
 --   are_pdus texts       whether each text is a PDU
 --   leading_pdus texts   the PDUs of the texts in front
 --   listing texts out    how many octets list the texts' PDUs, and the buffer with that list
-use Rattle.std.specs.Prelude.{Bool, true, false, List, [], ◌∷◌, ℕ, length, take, replicate}
-use Rattle.common.specs.Choice.{if◌then◌else◌}
+use Rattle.std.specs.Prelude.{Bool, true, false, List, [], ◌∷◌, ℕ, length, take, replicate, if◌then◌else◌}
 use Rattle.common.specs.Lent.{Lent, lent}
 use Rattle.common.specs.Lists.{onto}
 use Rattle.transport.specs.Listed.{written}

@@ -6,8 +6,7 @@
 --   with_key text x f           the key of an access message
 --   with_mic text x f           the size of its MIC
 --   with_request line x f       element, destination, TTL and network key
-use Rattle.std.specs.Prelude.{Bool, true, false, List, ℕ, eqb, take, drop}
-use Rattle.common.specs.Choice.{if◌then◌else◌}
+use Rattle.std.specs.Prelude.{Bool, true, false, List, ℕ, eqb, take, drop, if◌then◌else◌}
 use Rattle.common.specs.Lists.{same}
 use Rattle.transport.specs.declared.securing.MessageKey.{MessageKey}
 use Rattle.transport.specs.declared.securing.MessageKey.TheVariants.{Application, Device}

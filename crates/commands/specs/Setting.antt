@@ -2,8 +2,7 @@
 --   sixteen_of text      whether a text is sixteen octets, and the octets
 --   sequences_of texts   each element's next SEQ
 --   giving s item line   whether the line's fields fit, and the setup with what it gives
-use Rattle.std.specs.Prelude.{Bool, true, false, ◌&&◌, List, [], ◌∷◌, map, ℕ, ◌+◌, min, length, drop, replicate}
-use Rattle.common.specs.Choice.{if◌then◌else◌}
+use Rattle.std.specs.Prelude.{Bool, true, false, ◌&&◌, List, [], ◌∷◌, map, ℕ, ◌+◌, min, length, drop, replicate, if◌then◌else◌}
 use Rattle.common.specs.Lent.{Lent}
 use Rattle.common.specs.Lists.{padded}
 use Rattle.node.specs.declared.setup.Setup.{Setup}

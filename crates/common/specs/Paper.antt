@@ -3,8 +3,7 @@
 --   number_of   the number, 0 where nothing is refused
 --   bit         a bool among the values
 --   ToldApart   no two answers are given alike
-use Rattle.std.specs.Prelude.{Bool, List, ◌≡◌, ℕ}
-use Rattle.common.specs.Choice.{if◌then◌else◌}
+use Rattle.std.specs.Prelude.{Bool, List, ◌≡◌, ℕ, if◌then◌else◌}
 
 pub data Paper (Word : Type 0) : Type 0 where
   -- the number of the table

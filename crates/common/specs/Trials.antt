@@ -1,7 +1,6 @@
 -- Candidates tried one by one, stopping at the first that opens, for any element type and any test.
 --   tries opens cs   which of the candidates cs opens, and how many of them were tried
-use Rattle.std.specs.Prelude.{Bool, List, [], ◌∷◌, ℕ, ◌+◌}
-use Rattle.common.specs.Choice.{if◌then◌else◌}
+use Rattle.std.specs.Prelude.{Bool, List, [], ◌∷◌, ℕ, ◌+◌, if◌then◌else◌}
 
 -- what trials end with
 pub data Outcome (A : Type 0) : Type 0 where

@@ -7,8 +7,7 @@
 --   reads n s octet         one octet more, of a line of which at most n octets are kept
 --   reads_all n s octets    octets, one after the other
 --   InBlocks                it is all one in which blocks they come
-use Rattle.std.specs.Prelude.{Bool, List, [], ◌∷◌, ◌++◌, ◌≡◌, ℕ, ◌+◌, ◌≤◌, eqb, ltb, length, take}
-use Rattle.common.specs.Choice.{if◌then◌else◌}
+use Rattle.std.specs.Prelude.{Bool, List, [], ◌∷◌, ◌++◌, ◌≡◌, ℕ, ◌+◌, ◌≤◌, eqb, ltb, length, take, if◌then◌else◌}
 use Rattle.common.specs.Lent.{Lent, lent}
 use Rattle.common.specs.Lists.{onto}
 use Rattle.commands.specs.Line.{line_of}

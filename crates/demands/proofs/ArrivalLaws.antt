@@ -14,8 +14,8 @@ use native.Mathlib.Omega.{arith}
 use borrow.Author.Tests.{eq-eqb, eqb-true, eqb-false}
 use lib.Dec.{eqb}
 use lib.ListN.{length}
+use Rattle.std.specs.Prelude.{if◌then◌else◌}
 use Rattle.common.specs.Bits.{has_bit, with_bit, all_bits}
-use Rattle.common.specs.Choice.{if◌then◌else◌}
 use Rattle.common.specs.Lent.{Lent}
 use Rattle.common.proofs.BitLaws.{has_with_own, has_with_other, with_of_set}
 use Rattle.common.proofs.Tests.{by_test}

@@ -13,8 +13,8 @@ use native.Mathlib.Omega.{arith}
 use borrow.Author.Tests.{eq-eqb, ne_eqb, eqb-true, eqb-false}
 use lib.Dec.{eqb}
 use lib.ListN.{length}
+use Rattle.std.specs.Prelude.{if◌then◌else◌}
 use Rattle.common.specs.Bits.{has_bit, with_bit, all_bits}
-use Rattle.common.specs.Choice.{if◌then◌else◌}
 use Rattle.common.specs.Search.{picked}
 use Rattle.common.proofs.BitLaws.{has_all, with_of_set}
 use Rattle.common.proofs.Tests.{by_test}

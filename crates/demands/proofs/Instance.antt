@@ -11,8 +11,8 @@ use Prim.Native.Nat.{ℕ, zero, suc, ◌+◌, ◌≤◌, ◌<◌}
 use native.Mathlib.Omega.{arith}
 use lib.Dec.{eqb}
 use lib.ListN.{length, replicate}
+use Rattle.std.specs.Prelude.{if◌then◌else◌}
 use Rattle.common.specs.Bits.{has_bit, with_bit}
-use Rattle.common.specs.Choice.{if◌then◌else◌}
 use Rattle.common.specs.Search.{first}
 use Rattle.network.specs.Address.{kind_of, is_unicast, is_reserved}
 use Rattle.network.specs.Opening.{opening}

@@ -15,8 +15,8 @@ use native.Mathlib.Omega.{arith}
 use borrow.Author.Tests.{eq-eqb, ne_eqb, eqb-false}
 use lib.Dec.{eqb}
 use lib.ListN.{length, take}
+use Rattle.std.specs.Prelude.{if◌then◌else◌}
 use Rattle.common.specs.Bits.{has_bit}
-use Rattle.common.specs.Choice.{if◌then◌else◌}
 use Rattle.common.specs.Lent.{Lent}
 use Rattle.common.specs.Lists.{tab_from}
 use Rattle.common.proofs.Tests.{by_choice}

@@ -11,8 +11,8 @@ use native.Mathlib.Omega.{arith}
 use borrow.Author.Tests.{ne_eqb, eqb-true, eqb-false, leb-true, leb-false}
 use lib.Dec.{eqb, leb}
 use lib.Pow.{pow_pos}
+use Rattle.std.specs.Prelude.{if◌then◌else◌}
 use Rattle.common.specs.Bits.{has_bit, with_bit, all_bits}
-use Rattle.common.specs.Choice.{if◌then◌else◌}
 use Rattle.common.proofs.BitLaws.{has_none, with_of_set, has_with_own, has_with_other, with_bound, has_all, all_bound, has_all_above, bits_ext}
 use Rattle.common.proofs.Tests.{by_test}
 use Rattle.node.specs.declared.addresses.Node.{Node}

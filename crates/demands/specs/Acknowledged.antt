@@ -4,10 +4,9 @@
 --   Hears                 it hears the PDU
 --   Marks                 what it answers, and what it keeps
 --   AcknowledgementRead   the promise
-use Rattle.std.specs.Prelude.{true, false, List, ◌∷◌, ◌++◌, ◌≡◌, ℕ, ◌≤◌, ◌<◌, eqb, length}
+use Rattle.std.specs.Prelude.{true, false, List, ◌∷◌, ◌++◌, ◌≡◌, ℕ, ◌≤◌, ◌<◌, eqb, length, if◌then◌else◌}
 use Rattle.std.specs.Int.Bits.{bit_or}
 use Rattle.common.specs.Bits.{all_bits}
-use Rattle.common.specs.Choice.{if◌then◌else◌}
 use Rattle.network.specs.declared.header.Header.{Header}
 use Rattle.network.specs.Candidates.{key_at, opens}
 use Rattle.network.specs.Opening.{opening}

@@ -7,8 +7,7 @@
 --   CacheHolds          the cache holds the last sixteen of them
 --   CachedExactly       exactly what is one of those is refused 5
 --   FreshUnderIndex     so nothing is that is the first of its source under an IV Index, whatever SEQs were heard under another
-use Rattle.std.specs.Prelude.{Bool, ◌&&◌, ◌||◌, List, [], ◌∷◌, ◌++◌, map, ◌≡◌, ℕ, eqb, leb}
-use Rattle.common.specs.Choice.{if◌then◌else◌}
+use Rattle.std.specs.Prelude.{Bool, ◌&&◌, ◌||◌, List, [], ◌∷◌, ◌++◌, map, ◌≡◌, ℕ, eqb, leb, if◌then◌else◌}
 use Rattle.network.specs.declared.header.Header.{Header}
 use Rattle.network.specs.Opening.{opening}
 use Rattle.memory.specs.declared.cache.Seen.{Seen}

@@ -1,7 +1,6 @@
 -- Forwarding (document 01, "Forwarding"; document 02, W5): a PDU that passes refusals 1 to 4, 22 and 5, so whose SRC is none of our elements, is forwarded exactly when relay is on, TTL
 -- is at least 2 and DST is no local unicast address; what is forwarded is the PDU sealed again by the key that opened it, with TTL less 1, in as many octets.
-use Rattle.std.specs.Prelude.{List, ◌≡◌, ℕ, length}
-use Rattle.common.specs.Choice.{if◌then◌else◌}
+use Rattle.std.specs.Prelude.{List, ◌≡◌, ℕ, length, if◌then◌else◌}
 use Rattle.common.specs.Lent.{lent}
 use Rattle.common.specs.Lists.{onto, Octets}
 use Rattle.network.specs.declared.header.Header.{Header}

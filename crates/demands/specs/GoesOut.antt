@@ -2,9 +2,8 @@
 --   sent_in_full sender q words buf   the call that sends a message, and one for each segment behind the first
 --   GoesOut                           each of them makes a PDU
 --   SegmentGoes                       behind any calls that leave the message kept, so does one that sends a segment
-use Rattle.std.specs.Prelude.{Bool, true, false, List, [], ◌∷◌, ◌≡◌, ℕ, ◌+◌, ◌≤◌, length}
+use Rattle.std.specs.Prelude.{Bool, true, false, List, [], ◌∷◌, ◌≡◌, ℕ, ◌+◌, ◌≤◌, length, if◌then◌else◌}
 use Rattle.common.specs.Bits.{has_bit}
-use Rattle.common.specs.Choice.{if◌then◌else◌}
 use Rattle.common.specs.Lists.{tab_from}
 use Rattle.network.specs.Pdu.{pdu_octets}
 use Rattle.node.specs.declared.addresses.Node.{Node}

@@ -9,9 +9,8 @@
 --   Answered           every answer to a segment, and to a PDU that no key opens
 --   Acknowledges       2: what an acknowledgement names, and when there is none
 --   EndsAlike          3: what is left at the end
-use Rattle.std.specs.Prelude.{Bool, true, false, ◌&&◌, ◌||◌, not, List, [], ◌∷◌, ◌++◌, map, ◌⊎◌, ◌≡◌, ℕ, zero, suc, ◌≤◌, ◌<◌, eqb, length, get_or, take}
+use Rattle.std.specs.Prelude.{Bool, true, false, ◌&&◌, ◌||◌, not, List, [], ◌∷◌, ◌++◌, map, ◌⊎◌, ◌≡◌, ℕ, zero, suc, ◌≤◌, ◌<◌, eqb, length, get_or, take, if◌then◌else◌}
 use Rattle.common.specs.Bits.{has_bit, with_bit, all_bits}
-use Rattle.common.specs.Choice.{if◌then◌else◌}
 use Rattle.common.specs.Lent.{lent}
 use Rattle.common.specs.Lists.{onto}
 use Rattle.common.specs.Paper.{number_of}

@@ -6,8 +6,7 @@
 --   addressee r c     whom call c sends to
 --   Carried           the PDU that a call makes carries what it used, to its addressee, and no other call makes one
 --   Rise, NeverTwice  the two promises
-use Rattle.std.specs.Prelude.{true, List, [], ◌∷◌, ◌++◌, ◌≡◌, ℕ, ◌<◌}
-use Rattle.common.specs.Choice.{if◌then◌else◌}
+use Rattle.std.specs.Prelude.{true, List, [], ◌∷◌, ◌++◌, ◌≡◌, ℕ, ◌<◌, if◌then◌else◌}
 use Rattle.common.specs.Lent.{lent}
 use Rattle.network.specs.declared.header.Header.{Header}
 use Rattle.network.specs.declared.sealing.Answer.TheVariants.{Sealed}

@@ -7,9 +7,8 @@
 --   Hearing, hear_call             what the fresh receiver hears
 --   Shared, Between, Telling       the premises
 --   ReadBack                       the promise: what each hearing hands up, stores and counts, and that the message is handed up once
-use Rattle.std.specs.Prelude.{Bool, true, false, ◌||◌, List, [], ◌∷◌, ◌++◌, map, ◌≡◌, ℕ, ◌≤◌, ◌<◌, eqb, leb, length, get_or, take}
+use Rattle.std.specs.Prelude.{Bool, true, false, ◌||◌, List, [], ◌∷◌, ◌++◌, map, ◌≡◌, ℕ, ◌≤◌, ◌<◌, eqb, leb, length, get_or, take, if◌then◌else◌}
 use Rattle.common.specs.Bits.{has_bit, with_bit}
-use Rattle.common.specs.Choice.{if◌then◌else◌}
 use Rattle.network.specs.declared.header.Header.{Header}
 use Rattle.network.specs.Candidates.{key_at, opens}
 use Rattle.network.specs.Opening.{opening}

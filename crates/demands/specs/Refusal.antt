@@ -3,8 +3,7 @@
 --   is_refused a                the answer is a refusal
 --   Untouched r pdu message o   receiver and both buffers are what they were
 --   Behind r h fwd n o          what a refusal behind the cache leaves
-use Rattle.std.specs.Prelude.{Bool, true, false, ◌&&◌, ◌||◌, List, ◌≡◌, ℕ, eqb, leb}
-use Rattle.common.specs.Choice.{if◌then◌else◌}
+use Rattle.std.specs.Prelude.{Bool, true, false, ◌&&◌, ◌||◌, List, ◌≡◌, ℕ, eqb, leb, if◌then◌else◌}
 use Rattle.common.specs.Lent.{lent}
 use Rattle.network.specs.declared.header.Header.{Header}
 use Rattle.network.specs.declared.opening.Answer as opening_answer

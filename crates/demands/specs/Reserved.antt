@@ -4,8 +4,7 @@
 --   NoneListened     setup takes none as a group
 --   NoneAsked        no request to send to one makes a PDU, whatever receiver is asked
 --   NoneSentTo       nor does any call, of a receiver that setup made
-use Rattle.std.specs.Prelude.{true, false, ◌&&◌, List, ◌≡◌, ℕ, ◌<◌, leb, length, get_or}
-use Rattle.common.specs.Choice.{if◌then◌else◌}
+use Rattle.std.specs.Prelude.{true, false, ◌&&◌, List, ◌≡◌, ℕ, ◌<◌, leb, length, get_or, if◌then◌else◌}
 use Rattle.common.specs.Lent.{lent}
 use Rattle.common.specs.Lists.{onto, Octets}
 use Rattle.network.specs.declared.header.Header.{Header}

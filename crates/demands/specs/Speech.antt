@@ -8,8 +8,7 @@
 --   hand_up node s                     what is handed up of it
 --   network_place, application_place   how many keys and pairs are tried for it
 -- Keys are named by their places in the receiver's own lists; a label by its octets, and by its place where it is answered.
-use Rattle.std.specs.Prelude.{Bool, true, false, List, [], ◌⊎◌, ◌≡◌, ℕ, ◌+◌, ◌%◌, ◌≤◌, ◌<◌, min, length}
-use Rattle.common.specs.Choice.{if◌then◌else◌}
+use Rattle.std.specs.Prelude.{Bool, true, false, List, [], ◌⊎◌, ◌≡◌, ℕ, ◌+◌, ◌%◌, ◌≤◌, ◌<◌, min, length, if◌then◌else◌}
 use Rattle.common.specs.Lists.{padded, same}
 use Rattle.common.specs.Search.{first}
 use Rattle.network.specs.declared.header.Header.{Header}

@@ -1,9 +1,8 @@
 -- What becomes of a segment that has a SeqAuth (document 01, "Transport" and "Numbers of the refusals", 9 to 12).
 --   paper d                            how a decision is given; PaperApart: no two alike
 --   decision replay sessions src seg   the decision
-use Rattle.std.specs.Prelude.{Bool, List, [], ◌∷◌, ℕ, ltb}
+use Rattle.std.specs.Prelude.{Bool, List, [], ◌∷◌, ℕ, ltb, if◌then◌else◌}
 use Rattle.common.specs.Bits.{has_bit, all_bits}
-use Rattle.common.specs.Choice.{if◌then◌else◌}
 use Rattle.common.specs.Paper.{Paper, Refusal, Given, ToldApart}
 use Rattle.memory.specs.declared.pair.Pair.{Pair}
 use Rattle.memory.specs.declared.replay.Entry.{Entry}

@@ -1,10 +1,9 @@
 -- The outgoing segmented message, and the acknowledgements of it that are heard (document 01, "Sending").
 --   fits_outgoing out h obo seq_zero        DST is the sending element, SeqZero fits, and SRC is the destination or OBO is 1
 --   acknowledging out h obo seq_zero bits   what an acknowledgement leaves of the message
-use Rattle.std.specs.Prelude.{Bool, ◌&&◌, ◌||◌, not, ℕ, ◌%◌, eqb, replicate}
+use Rattle.std.specs.Prelude.{Bool, ◌&&◌, ◌||◌, not, ℕ, ◌%◌, eqb, replicate, if◌then◌else◌}
 use Rattle.std.specs.Int.Bits.{bit_and, bit_or}
 use Rattle.common.specs.Bits.{all_bits}
-use Rattle.common.specs.Choice.{if◌then◌else◌}
 use Rattle.network.specs.declared.header.Header.{Header}
 use Rattle.transport.specs.Segment.{message_octets}
 use Rattle.memory.specs.declared.outgoing.Outgoing.{Outgoing}

@@ -2,8 +2,7 @@
 --   newer a b       a is greater than b
 --   same_pair a b   they are equal
 --   greater a b     the greater of the two
-use Rattle.std.specs.Prelude.{Bool, ◌&&◌, eqb, ltb}
-use Rattle.common.specs.Choice.{if◌then◌else◌}
+use Rattle.std.specs.Prelude.{Bool, ◌&&◌, eqb, ltb, if◌then◌else◌}
 use Rattle.memory.specs.declared.pair.Pair.{Pair}
 
 -- no message

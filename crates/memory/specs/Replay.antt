@@ -10,8 +10,7 @@
 --   Listing                          a list's operations; `ascending` are those of this one
 --   ReplayKept l                     all its places are there, and they ascend
 --   EndsThere                        so a source's entry is found
-use Rattle.std.specs.Prelude.{Bool, ◌&&◌, ◌||◌, not, List, ◌≡◌, ℕ, ◌-◌, ◌<◌, eqb, ltb, length, get_or, replicate, set}
-use Rattle.common.specs.Choice.{if◌then◌else◌}
+use Rattle.std.specs.Prelude.{Bool, ◌&&◌, ◌||◌, not, List, ◌≡◌, ℕ, ◌-◌, ◌<◌, eqb, ltb, length, get_or, replicate, set, if◌then◌else◌}
 use Rattle.common.specs.Halving.{halve}
 use Rattle.common.specs.Lists.{tab}
 use Rattle.memory.specs.declared.pair.Pair.{Pair}

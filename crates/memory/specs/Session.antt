@@ -9,9 +9,8 @@
 --   stored s h seg_o                     the session with a segment in its place
 --   complete s                           no segment is missing
 --   block_ack s                          bits 0 to SegN report places filled
-use Rattle.std.specs.Prelude.{Bool, true, false, ◌&&◌, List, [], ◌++◌, ◌≡◌, ℕ, ◌+◌, ◌*◌, ◌%◌, ◌<◌, eqb, ltb, length, get_or, take, drop, replicate}
+use Rattle.std.specs.Prelude.{Bool, true, false, ◌&&◌, List, [], ◌++◌, ◌≡◌, ℕ, ◌+◌, ◌*◌, ◌%◌, ◌<◌, eqb, ltb, length, get_or, take, drop, replicate, if◌then◌else◌}
 use Rattle.common.specs.Bits.{with_bit, all_bits}
-use Rattle.common.specs.Choice.{if◌then◌else◌}
 use Rattle.common.specs.Lists.{onto}
 use Rattle.common.specs.Search.{first}
 use Rattle.network.specs.declared.header.Header.{Header}

@@ -2,8 +2,7 @@
 --   walked            its operations
 --   In e l            an entry stands in a list
 --   SameEntries a b   both lists hold the same entries
-use Rattle.std.specs.Prelude.{Bool, ◌||◌, List, ◌≡◌, ℕ, ◌<◌, eqb, ltb, get_or, set}
-use Rattle.common.specs.Choice.{if◌then◌else◌}
+use Rattle.std.specs.Prelude.{Bool, ◌||◌, List, ◌≡◌, ℕ, ◌<◌, eqb, ltb, get_or, set, if◌then◌else◌}
 use Rattle.common.specs.Search.{first}
 use Rattle.memory.specs.declared.replay.Entry.{Entry}
 use Rattle.memory.specs.Replay.{replay_entries, no_entry, Listing}

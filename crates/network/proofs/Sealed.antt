@@ -11,7 +11,7 @@ use borrow.Author.Tests.{le-ltb, le-leb, leb-true}
 use lib.Dec.{ltb}
 use lib.ListN.{length, get_or, take, drop, length-append}
 use lib.Seq.{take_at, drop_at, length-take-le}
-use Rattle.common.specs.Choice.{if◌then◌else◌}
+use Rattle.std.specs.Prelude.{if◌then◌else◌}
 use Rattle.common.specs.Lists.{padded}
 use Rattle.common.specs.Lent.{lent}
 use Rattle.common.proofs.Lists.{length_tab}

@@ -10,7 +10,7 @@ use borrow.Author.Tests.{lt-leb, le-leb, lt-ltb, le-ltb, not-true, not-false}
 use lib.Dec.{eqb, leb}
 use lib.ListN.{length, get_or, take, drop, length-append, length-drop}
 use lib.Seq.{length-take-le, take_all, take-append-le, take-append-add, drop_at, drop-length}
-use Rattle.common.specs.Choice.{if◌then◌else◌}
+use Rattle.std.specs.Prelude.{if◌then◌else◌}
 use Rattle.common.specs.Lists.{padded, onto}
 use Rattle.common.specs.Lent.{Lent, lent}
 use Rattle.common.specs.Paper.{Paper, Refusal, Given}

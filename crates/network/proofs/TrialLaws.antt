@@ -12,7 +12,7 @@ use borrow.Author.Tests.{le-ltb, ltb-true, ltb-false, not-true, not-false}
 use lib.Dec.{ltb}
 use lib.ListN.{length, get_or, take, drop, replicate, length-append, length-drop, length-replicate, get_or-replicate, get_or-append, get_or-eq_default}
 use lib.Seq.{get_or-take, get_or-drop, get_or-append-add, length-take-le, take_all, take_at}
-use Rattle.common.specs.Choice.{if◌then◌else◌}
+use Rattle.std.specs.Prelude.{if◌then◌else◌}
 use Rattle.common.specs.Lists.{tab, padded, onto}
 use Rattle.common.specs.Lent.{Lent, lent}
 use Rattle.common.proofs.Lists.{tab_is, take_tab, padded_all}

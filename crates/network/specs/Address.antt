@@ -2,8 +2,7 @@
 --   kind_of a                       the kind of an address
 --   is_unicast a, is_reserved a     whether it is unicast, or reserved
 --   addresses_allowed ctl src dst   whether refusal 4 lets SRC and DST pass
-use Rattle.std.specs.Prelude.{Bool, true, false, not, ◌&&◌, ℕ, eqb, leb}
-use Rattle.common.specs.Choice.{if◌then◌else◌}
+use Rattle.std.specs.Prelude.{Bool, true, false, not, ◌&&◌, ℕ, eqb, leb, if◌then◌else◌}
 use Rattle.network.specs.declared.address.AddressKind.{AddressKind}
 use Rattle.network.specs.declared.address.AddressKind.TheVariants.{Unassigned, Unicast, Virtual, Group, Reserved}
 

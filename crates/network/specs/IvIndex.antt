@@ -2,8 +2,7 @@
 --   iv_index_heard current ivi   the one that a heard PDU's IVI picks
 --   iv_index_sent current flag   the one that sending uses
 --   paper i                      how an answer is given; PaperApart: no two alike
-use Rattle.std.specs.Prelude.{Bool, [], ◌∷◌, ℕ, ◌-◌, ◌%◌, eqb}
-use Rattle.common.specs.Choice.{if◌then◌else◌}
+use Rattle.std.specs.Prelude.{Bool, [], ◌∷◌, ℕ, ◌-◌, ◌%◌, eqb, if◌then◌else◌}
 use Rattle.common.specs.Paper.{Paper, Refusal, Given, ToldApart}
 use Rattle.network.specs.declared.iv_index.IvIndex.{IvIndex}
 use Rattle.network.specs.declared.iv_index.IvIndex.TheVariants.{Index, Nothing}

@@ -2,8 +2,7 @@
 --   network_nonce ctl ttl seq src iv           of a Network PDU
 --   application_nonce szmic seq src dst iv     of an access message under an application key
 --   device_nonce szmic seq src dst iv          of one under the device key
-use Rattle.std.specs.Prelude.{Bool, List, [], ◌∷◌, ◌++◌, ℕ, ◌+◌, ◌%◌}
-use Rattle.common.specs.Choice.{if◌then◌else◌}
+use Rattle.std.specs.Prelude.{Bool, List, [], ◌∷◌, ◌++◌, ℕ, ◌+◌, ◌%◌, if◌then◌else◌}
 use Rattle.network.specs.Octets.{octets}
 
 -- CTL and TTL in one octet: CTL the high bit, TTL the low 7

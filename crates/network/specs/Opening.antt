@@ -1,8 +1,7 @@
 -- Opening a Network PDU: refusals 1, 2, 3, 4 in order, then the header (document 01, "Numbers of the refusals").
 --   paper a                        how an answer is given; PaperApart: no two alike
 --   opening keys count current pdu what a call answers
-use Rattle.std.specs.Prelude.{List, [], ℕ, ◌/◌, ◌%◌, eqb, ltb, length, get_or}
-use Rattle.common.specs.Choice.{if◌then◌else◌}
+use Rattle.std.specs.Prelude.{List, [], ℕ, ◌/◌, ◌%◌, eqb, ltb, length, get_or, if◌then◌else◌}
 use Rattle.common.specs.Paper.{Paper, Refusal, Given, ToldApart}
 use Rattle.keys.specs.declared.NetworkKeys.{NetworkKeys}
 use Rattle.network.specs.declared.iv_index.IvIndex.{IvIndex}

@@ -3,8 +3,7 @@
 --   sealing key h buf        what a call leaves
 --   forwards relay local h   whether a PDU is forwarded
 --   forwarding keys h buf    what a call that forwards it leaves
-use Rattle.std.specs.Prelude.{Bool, ◌&&◌, not, List, [], ◌∷◌, ℕ, ◌-◌, leb, ltb, length}
-use Rattle.common.specs.Choice.{if◌then◌else◌}
+use Rattle.std.specs.Prelude.{Bool, ◌&&◌, not, List, [], ◌∷◌, ℕ, ◌-◌, leb, ltb, length, if◌then◌else◌}
 use Rattle.common.specs.Lists.{onto}
 use Rattle.common.specs.Lent.{Lent, lent}
 use Rattle.common.specs.Paper.{Paper, Refusal, Given, ToldApart}

@@ -1,6 +1,5 @@
 -- One key tried on one PDU of 14 to 29 octets: the header that it gives, or that it does not authenticate.
-use Rattle.std.specs.Prelude.{Bool, true, false, ◌&&◌, List, ℕ, ◌-◌, ◌%◌, leb, ltb, length, get_or, take, drop}
-use Rattle.common.specs.Choice.{if◌then◌else◌}
+use Rattle.std.specs.Prelude.{Bool, true, false, ◌&&◌, List, ℕ, ◌-◌, ◌%◌, leb, ltb, length, get_or, take, drop, if◌then◌else◌}
 use Rattle.common.specs.Lists.{padded}
 use Rattle.common.specs.Lent.{Lent}
 use Rattle.aes.specs.KeyExpansion.{key_schedule}

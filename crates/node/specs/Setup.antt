@@ -4,8 +4,7 @@
 --   node_of s   the node: unused places zero, derived keys worked out
 --   next_of s   each element's next SEQ
 --   making s    what a call leaves
-use Rattle.std.specs.Prelude.{Bool, true, false, ◌&&◌, not, List, [], ℕ, ◌+◌, eqb, leb, ltb, get_or, replicate, set}
-use Rattle.common.specs.Choice.{if◌then◌else◌}
+use Rattle.std.specs.Prelude.{Bool, true, false, ◌&&◌, not, List, [], ℕ, ◌+◌, eqb, leb, ltb, get_or, replicate, set, if◌then◌else◌}
 use Rattle.common.specs.Lists.{tab}
 use Rattle.common.specs.Search.{first}
 use Rattle.keys.specs.declared.NetworkKeys.{NetworkKeys}

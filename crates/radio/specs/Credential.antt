@@ -4,8 +4,7 @@
 --   pieces credentials         the first four of a list of credentials
 --   piece_count credentials    how many of them are there whole
 --   credentials_done key out   what a call of `gorephan_credentials` leaves
-use Rattle.std.specs.Prelude.{not, List, ◌∷◌, ◌++◌, ℕ, ◌/◌, min, eqb, ltb, length, get_or, drop}
-use Rattle.common.specs.Choice.{if◌then◌else◌}
+use Rattle.std.specs.Prelude.{not, List, ◌∷◌, ◌++◌, ℕ, ◌/◌, min, eqb, ltb, length, get_or, drop, if◌then◌else◌}
 use Rattle.common.specs.Chunks.{chunk}
 use Rattle.common.specs.Lent.{Lent, lent}
 use Rattle.common.specs.Lists.{tab, padded, onto}

@@ -2,8 +2,7 @@
 --   packed refusal trials octets place   the number that a call answers
 --   told octet0 out o                    what a call tells of an opening, and leaves
 --   open_done credentials iv pdu out     what a call of `gorephan_open` leaves
-use Rattle.std.specs.Prelude.{List, ℕ, ◌+◌, ◌*◌, eqb, ltb, length, get_or}
-use Rattle.common.specs.Choice.{if◌then◌else◌}
+use Rattle.std.specs.Prelude.{List, ℕ, ◌+◌, ◌*◌, eqb, ltb, length, get_or, if◌then◌else◌}
 use Rattle.common.specs.Lent.{Lent, lent}
 use Rattle.common.specs.Lists.{onto}
 use Rattle.common.specs.Paper.{number_of}

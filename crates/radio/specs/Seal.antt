@@ -2,8 +2,7 @@
 --   header_for iv ctl ttl seq src dst transport                  the header that a call names
 --   seal_number a                                                the number that a call answers
 --   seal_done credential iv ctl ttl seq src dst transport out    what a call of `gorephan_seal` leaves
-use Rattle.std.specs.Prelude.{Bool, not, List, ℕ, ◌+◌, ◌*◌, eqb, ltb, length}
-use Rattle.common.specs.Choice.{if◌then◌else◌}
+use Rattle.std.specs.Prelude.{Bool, not, List, ℕ, ◌+◌, ◌*◌, eqb, ltb, length, if◌then◌else◌}
 use Rattle.common.specs.Lent.{Lent, lent}
 use Rattle.common.specs.Lists.{padded}
 use Rattle.common.specs.Paper.{number_of}

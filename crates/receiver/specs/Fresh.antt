@@ -1,6 +1,5 @@
 -- Setup (document 01, "What the receiver holds"): 14 outside the numbers of its table, else a receiver that has heard and sent nothing.
-use Rattle.std.specs.Prelude.{List, [], ℕ}
-use Rattle.common.specs.Choice.{if◌then◌else◌}
+use Rattle.std.specs.Prelude.{List, [], ℕ, if◌then◌else◌}
 use Rattle.common.specs.Paper.{Paper, Refusal, Given, ToldApart}
 use Rattle.node.specs.declared.addresses.Node.{Node}
 use Rattle.node.specs.declared.setup.Setup.{Setup}

@@ -1,6 +1,5 @@
 -- Giving up a session; giving up what isn't there is 14 (document 01, "Sending").
-use Rattle.std.specs.Prelude.{[], ℕ, eqb, ltb}
-use Rattle.common.specs.Choice.{if◌then◌else◌}
+use Rattle.std.specs.Prelude.{[], ℕ, eqb, ltb, if◌then◌else◌}
 use Rattle.common.specs.Paper.{Paper, Refusal, Given, ToldApart}
 use Rattle.memory.specs.Session.{session_slots, no_session, session_place}
 use Rattle.receiver.specs.declared.answer.Refusal.TheVariants.{OutsideRules}

@@ -3,8 +3,7 @@
 --   relayed node h fwd        what forwarding leaves
 --   taken r h msg             6, then by the transport form: what a PDU in the cache leaves
 --   hearing r pdu fwd msg     what a call leaves
-use Rattle.std.specs.Prelude.{List, ℕ, ltb, length}
-use Rattle.common.specs.Choice.{if◌then◌else◌}
+use Rattle.std.specs.Prelude.{List, ℕ, ltb, length, if◌then◌else◌}
 use Rattle.common.specs.Lent.{Lent, lent}
 use Rattle.network.specs.declared.header.Header.{Header}
 use Rattle.network.specs.declared.opening.Answer.TheVariants as network

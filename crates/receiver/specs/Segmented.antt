@@ -4,8 +4,7 @@
 --   gathered r slot s msg      the session with a segment more: stored, or complete
 --   placed r h seg msg         what a segment with a SeqAuth leaves
 --   segmented r h fields msg   what a segment leaves
-use Rattle.std.specs.Prelude.{List, ℕ, length, get_or, take}
-use Rattle.common.specs.Choice.{if◌then◌else◌}
+use Rattle.std.specs.Prelude.{List, ℕ, length, get_or, take, if◌then◌else◌}
 use Rattle.common.specs.Lent.{Lent, lent}
 use Rattle.common.specs.Lists.{onto}
 use Rattle.network.specs.declared.header.Header.{Header}

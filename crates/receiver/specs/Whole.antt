@@ -4,8 +4,7 @@
 --   whole_access r h akf aid msg                  what an access message leaves
 --   whole_control r h opcode msg                  what a control message leaves
 --   whole_acknowledgement r h obo seq_zero bits   what an acknowledgement leaves
-use Rattle.std.specs.Prelude.{Bool, false, List, ℕ, length, drop}
-use Rattle.common.specs.Choice.{if◌then◌else◌}
+use Rattle.std.specs.Prelude.{Bool, false, List, ℕ, length, drop, if◌then◌else◌}
 use Rattle.common.specs.Lent.{Lent, lent}
 use Rattle.common.specs.Lists.{onto}
 use Rattle.network.specs.declared.header.Header.{Header}

@@ -3,8 +3,7 @@
 --   whole_header e q k additional payload      the header of one that goes in one PDU
 --   outgoing_of e q k additional payload       the message that is kept of one that goes in segments
 --   sending_access r q key szmic payload buf   what a call leaves
-use Rattle.std.specs.Prelude.{Bool, true, false, ◌&&◌, ◌||◌, not, List, ◌∷◌, ℕ, min, eqb, leb, ltb, length, replicate}
-use Rattle.common.specs.Choice.{if◌then◌else◌}
+use Rattle.std.specs.Prelude.{Bool, true, false, ◌&&◌, ◌||◌, not, List, ◌∷◌, ℕ, min, eqb, leb, ltb, length, replicate, if◌then◌else◌}
 use Rattle.common.specs.Lent.{Lent, lent}
 use Rattle.common.specs.Lists.{padded}
 use Rattle.network.specs.declared.header.Header.{Header}

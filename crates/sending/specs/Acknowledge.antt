@@ -2,9 +2,8 @@
 -- The operations of the replay list are a parameter, `by`, so that a receiver with another list is these same definitions.
 --   chosen replay sessions src        what is acknowledged
 --   acknowledging r network src buf   what a call leaves
-use Rattle.std.specs.Prelude.{true, false, List, ℕ, ◌%◌, min, eqb, ltb, length}
+use Rattle.std.specs.Prelude.{true, false, List, ℕ, ◌%◌, min, eqb, ltb, length, if◌then◌else◌}
 use Rattle.common.specs.Bits.{all_bits}
-use Rattle.common.specs.Choice.{if◌then◌else◌}
 use Rattle.common.specs.Lent.{Lent, lent}
 use Rattle.common.specs.Lists.{padded}
 use Rattle.network.specs.declared.header.Header.{Header}

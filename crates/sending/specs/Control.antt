@@ -3,8 +3,7 @@
 --   whole_header iv q dst opcode parameters     the header of one that goes in one PDU
 --   outgoing_of r q opcode parameters           the message that is kept of one that goes in segments
 --   sending_control r q opcode parameters buf   what a call leaves
-use Rattle.std.specs.Prelude.{Bool, true, false, ◌&&◌, ◌||◌, List, ◌∷◌, ℕ, eqb, leb, ltb, length}
-use Rattle.common.specs.Choice.{if◌then◌else◌}
+use Rattle.std.specs.Prelude.{Bool, true, false, ◌&&◌, ◌||◌, List, ◌∷◌, ℕ, eqb, leb, ltb, length, if◌then◌else◌}
 use Rattle.common.specs.Lent.{Lent, lent}
 use Rattle.common.specs.Lists.{padded}
 use Rattle.network.specs.declared.header.Header.{Header}

@@ -2,9 +2,8 @@
 --   segment_header o seg_o     the header of a segment
 --   starting r element o buf   what beginning a message leaves
 --   sending_segment r n buf    what sending a named segment leaves
-use Rattle.std.specs.Prelude.{Bool, ◌&&◌, not, List, ℕ, ◌+◌, ◌-◌, ◌*◌, ◌%◌, eqb, leb, ltb, length, take}
+use Rattle.std.specs.Prelude.{Bool, ◌&&◌, not, List, ℕ, ◌+◌, ◌-◌, ◌*◌, ◌%◌, eqb, leb, ltb, length, take, if◌then◌else◌}
 use Rattle.common.specs.Bits.{has_bit}
-use Rattle.common.specs.Choice.{if◌then◌else◌}
 use Rattle.common.specs.Chunks.{chunk}
 use Rattle.common.specs.Lent.{Lent, lent}
 use Rattle.common.specs.Lists.{padded}

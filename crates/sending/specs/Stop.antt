@@ -1,6 +1,5 @@
 -- Giving up the outgoing message; giving up what isn't there is 14 (document 01, "Sending").
-use Rattle.std.specs.Prelude.{eqb}
-use Rattle.common.specs.Choice.{if◌then◌else◌}
+use Rattle.std.specs.Prelude.{eqb, if◌then◌else◌}
 use Rattle.memory.specs.Outgoing.{no_outgoing}
 use Rattle.receiver.specs.declared.answer.Refusal.TheVariants.{OutsideRules}
 use Rattle.receiver.specs.declared.give_up.Answer.TheVariants.{Done, Refused}

@@ -3,8 +3,7 @@
 --   address_of node element       an element's address
 --   next_seq r element            its next SEQ
 --   transmitted r element h buf   what a transmission leaves
-use Rattle.std.specs.Prelude.{List, ℕ, ◌+◌, ◌%◌, ltb, get_or, set}
-use Rattle.common.specs.Choice.{if◌then◌else◌}
+use Rattle.std.specs.Prelude.{List, ℕ, ◌+◌, ◌%◌, ltb, get_or, set, if◌then◌else◌}
 use Rattle.common.specs.Lent.{Lent, lent}
 use Rattle.network.specs.declared.header.Header.{Header}
 use Rattle.network.specs.declared.sealing.Answer.{Answer}

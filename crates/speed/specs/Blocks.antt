@@ -1,8 +1,7 @@
 -- A block encrypted over itself.
 --   encrypted n ks b              b after n encryptions
 --   blocks_done key block times   what a call of `speed_blocks` leaves
-use Rattle.std.specs.Prelude.{not, List, ℕ, zero, suc, eqb, length}
-use Rattle.common.specs.Choice.{if◌then◌else◌}
+use Rattle.std.specs.Prelude.{not, List, ℕ, zero, suc, eqb, length, if◌then◌else◌}
 use Rattle.common.specs.Lent.{Lent, lent}
 use Rattle.aes.specs.Cipher.{cipher}
 use Rattle.aes.specs.KeyExpansion.{key_schedule}

@@ -6,8 +6,7 @@
 --   heard_all_law keys first iv pdus msg           what a call of `speed_hear_row` leaves
 --   opened_over node pdu n                         how many of n openings open the PDU
 --   opened_times keys first iv pdu times           what a call of `speed_open_pdu` answers
-use Rattle.std.specs.Prelude.{false, not, List, ℕ, zero, suc, ◌+◌, ◌*◌, ◌/◌, ◌%◌, eqb, length, take, drop, replicate}
-use Rattle.common.specs.Choice.{if◌then◌else◌}
+use Rattle.std.specs.Prelude.{false, not, List, ℕ, zero, suc, ◌+◌, ◌*◌, ◌/◌, ◌%◌, eqb, length, take, drop, replicate, if◌then◌else◌}
 use Rattle.common.specs.Lent.{Lent, lent}
 use Rattle.network.specs.declared.opening.Answer.TheVariants as network
 use Rattle.network.specs.declared.opening.Answer as opening_answer

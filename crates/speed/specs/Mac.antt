@@ -1,6 +1,5 @@
 -- A CMAC into a lent buffer.
-use Rattle.std.specs.Prelude.{not, List, ℕ, eqb, ltb, length}
-use Rattle.common.specs.Choice.{if◌then◌else◌}
+use Rattle.std.specs.Prelude.{not, List, ℕ, eqb, ltb, length, if◌then◌else◌}
 use Rattle.common.specs.Lists.{onto}
 use Rattle.common.specs.Lent.{Lent, lent}
 use Rattle.aes.specs.KeyExpansion.{key_schedule}

@@ -1,6 +1,5 @@
 -- A CCM opening, with a MIC of four octets, into a lent buffer.
-use Rattle.std.specs.Prelude.{Bool, not, List, ℕ, eqb, length}
-use Rattle.common.specs.Choice.{if◌then◌else◌}
+use Rattle.std.specs.Prelude.{Bool, not, List, ℕ, eqb, length, if◌then◌else◌}
 use Rattle.common.specs.Lent.{Lent, lent}
 use Rattle.aes.specs.KeyExpansion.{key_schedule}
 use Rattle.modes.specs.declared.ccm.MicSize.TheVariants.{Four}

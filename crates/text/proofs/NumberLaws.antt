@@ -12,8 +12,8 @@ use borrow.Author.Tests.{lt-ltb, le-ltb, le-leb, lt-leb, eq-eqb, ne_eqb, leb-tru
 use lib.Dec.{leb, ltb}
 use lib.ListN.{length, get_or, drop}
 use lib.Seq.{drop-cons}
+use Rattle.std.specs.Prelude.{if◌then◌else◌}
 use Rattle.io.specs.Digits.{last_digits, IsDigitCount}
-use Rattle.common.specs.Choice.{if◌then◌else◌}
 use Rattle.common.specs.Lent.{lent}
 use Rattle.common.specs.Lists.{tab}
 use Rattle.common.specs.Search.{first}

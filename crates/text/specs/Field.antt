@@ -2,8 +2,7 @@
 --   behind n line     what stands behind the n-th space
 --   field_of n line   field number n, from 0
 --   fields line       all of them
-use Rattle.std.specs.Prelude.{Bool, List, [], ◌∷◌, ℕ, zero, suc, eqb, length, take}
-use Rattle.common.specs.Choice.{if◌then◌else◌}
+use Rattle.std.specs.Prelude.{Bool, List, [], ◌∷◌, ℕ, zero, suc, eqb, length, take, if◌then◌else◌}
 use Rattle.common.specs.Lists.{tab}
 use Rattle.common.specs.Search.{first, picked}
 

@@ -4,9 +4,8 @@
 --   reading text out   what a text reads as, and the buffer with its octets
 --   filling text out   whether it fills the buffer, and the buffer
 --   hex_text octets    octets, written
-use Rattle.std.specs.Prelude.{Bool, false, ◌&&◌, List, [], ◌∷◌, ◌++◌, ℕ, ◌+◌, ◌-◌, ◌*◌, ◌/◌, ◌%◌, eqb, leb, ltb, length}
+use Rattle.std.specs.Prelude.{Bool, false, ◌&&◌, List, [], ◌∷◌, ◌++◌, ℕ, ◌+◌, ◌-◌, ◌*◌, ◌/◌, ◌%◌, eqb, leb, ltb, length, if◌then◌else◌}
 use Rattle.io.specs.Digits.{last_digits}
-use Rattle.common.specs.Choice.{if◌then◌else◌}
 use Rattle.common.specs.Lent.{Lent, lent}
 use Rattle.common.specs.Lists.{onto, same}
 use Rattle.text.specs.declared.hex.Octets.{Octets}

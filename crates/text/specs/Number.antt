@@ -5,9 +5,8 @@
 --   number_text w n              n in hex, in at least w digits
 --   decimal_text n               n in decimal
 --   hundredths_text below n      n hundredths in decimal, with two digits behind the point, and - in front where they are below 0
-use Rattle.std.specs.Prelude.{Bool, ◌&&◌, List, [], ◌∷◌, ◌++◌, ℕ, ◌+◌, ◌*◌, ◌/◌, ◌%◌, ◌^◌, min, max, eqb, leb, ltb, length}
+use Rattle.std.specs.Prelude.{Bool, ◌&&◌, List, [], ◌∷◌, ◌++◌, ℕ, ◌+◌, ◌*◌, ◌/◌, ◌%◌, ◌^◌, min, max, eqb, leb, ltb, length, if◌then◌else◌}
 use Rattle.io.specs.Digits.{last_digits}
-use Rattle.common.specs.Choice.{if◌then◌else◌}
 use Rattle.common.specs.Lists.{tab}
 use Rattle.common.specs.Search.{first}
 use Rattle.text.specs.Hex.{hex_value}

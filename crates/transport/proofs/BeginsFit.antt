@@ -14,7 +14,7 @@ use borrow.Author.Tests.{ltb-true, ltb-false, lt-ltb}
 use lib.Dec.{ltb}
 use lib.ListN.{length, get_or, drop, length-take, take-append-drop, length-replicate, replicate}
 use lib.Seq.{take_at, drop_at, get_or-take}
-use Rattle.common.specs.Choice.{if◌then◌else◌}
+use Rattle.std.specs.Prelude.{if◌then◌else◌}
 use Rattle.common.specs.Chunks.{chunk, chunk_count}
 use Rattle.common.specs.Lists.{tab, tab_from}
 use Rattle.common.proofs.Chunks.{chunk_full, chunk_some, chunk_last, chunks_join, Cuts, length_joined, chunk_joined, count_joined}

@@ -4,7 +4,7 @@ use mathlib.Core.Path.{◌≡◌, refl}
 use Prim.Native.Nat.{ℕ, ◌+◌}
 use lib.Dec.{eqb}
 use lib.ListN.{get_or}
-use Rattle.common.specs.Choice.{if◌then◌else◌}
+use Rattle.std.specs.Prelude.{if◌then◌else◌}
 use Rattle.common.specs.Paper.{Paper, Refusal, Given}
 use Rattle.common.proofs.PaperLaws.{told_apart, bit_back}
 use Rattle.transport.specs.declared.form.Form.{Form}

@@ -5,8 +5,7 @@
 --   form_of h                         the form of an opened header's transport PDU
 --   is_segment f                      it is a segment of a longer message
 --   paper f                           how a form is given; PaperApart: no two alike
-use Rattle.std.specs.Prelude.{Bool, true, false, not, ◌&&◌, ◌||◌, List, [], ◌∷◌, ℕ, ◌+◌, eqb, leb, get_or}
-use Rattle.common.specs.Choice.{if◌then◌else◌}
+use Rattle.std.specs.Prelude.{Bool, true, false, not, ◌&&◌, ◌||◌, List, [], ◌∷◌, ℕ, ◌+◌, eqb, leb, get_or, if◌then◌else◌}
 use Rattle.common.specs.Paper.{Paper, Refusal, Given, bit, ToldApart}
 use Rattle.network.specs.declared.header.Header.{Header}
 use Rattle.network.specs.Address.{is_unicast}

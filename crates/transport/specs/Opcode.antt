@@ -1,6 +1,5 @@
 -- The opcode of a control PDU has 7 bits, and its kind by its range (document 01, "Transport").
-use Rattle.std.specs.Prelude.{ℕ, eqb, leb}
-use Rattle.common.specs.Choice.{if◌then◌else◌}
+use Rattle.std.specs.Prelude.{ℕ, eqb, leb, if◌then◌else◌}
 use Rattle.transport.specs.declared.opcode.OpcodeKind.{OpcodeKind}
 use Rattle.transport.specs.declared.opcode.OpcodeKind.TheVariants.{OfAcknowledgement, OfControl, NoOpcode}
 

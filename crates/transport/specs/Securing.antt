@@ -4,8 +4,7 @@
 --   pairs held e                    what is tried: keys, each alone or with the labels of DST
 --   securing key e a m buf          what a call that secures m into buf leaves
 --   unsecuring held e c buf         what a call that opens c into buf leaves
-use Rattle.std.specs.Prelude.{Bool, true, false, ◌&&◌, List, [], ◌∷◌, map, ℕ, ◌+◌, ◌-◌, min, eqb, ltb, length, get_or}
-use Rattle.common.specs.Choice.{if◌then◌else◌}
+use Rattle.std.specs.Prelude.{Bool, true, false, ◌&&◌, List, [], ◌∷◌, map, ℕ, ◌+◌, ◌-◌, min, eqb, ltb, length, get_or, if◌then◌else◌}
 use Rattle.common.specs.Lent.{Lent, lent}
 use Rattle.common.specs.Lists.{tab, onto, joined}
 use Rattle.common.specs.Paper.{Paper, Refusal, Given, ToldApart}

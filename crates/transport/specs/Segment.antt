@@ -6,8 +6,7 @@
 --   last_segment size len                                SegN of a message of so many octets
 --   segment_at size first szmic seq_zero seg_n u seg_o   a segment of the upper transport PDU u
 -- A number wider than its field counts by its low bits; RFU bits are written 0.
-use Rattle.std.specs.Prelude.{Bool, List, ◌∷◌, ◌++◌, ℕ, ◌+◌, ◌-◌, ◌*◌, ◌%◌}
-use Rattle.common.specs.Choice.{if◌then◌else◌}
+use Rattle.std.specs.Prelude.{Bool, List, ◌∷◌, ◌++◌, ℕ, ◌+◌, ◌-◌, ◌*◌, ◌%◌, if◌then◌else◌}
 use Rattle.common.specs.Chunks.{chunk, chunk_count}
 use Rattle.modes.specs.Ccm.{longest}
 use Rattle.network.specs.Octets.{octets}

@@ -1,6 +1,5 @@
 -- SeqAuth (MP 3.5.3.1) is the IV Index followed by the sequence number that a segmented message was begun with: here that number.
-use Rattle.std.specs.Prelude.{[], ◌∷◌, ℕ, ◌+◌, ◌-◌, ◌*◌, ◌/◌, ◌%◌, leb}
-use Rattle.common.specs.Choice.{if◌then◌else◌}
+use Rattle.std.specs.Prelude.{[], ◌∷◌, ℕ, ◌+◌, ◌-◌, ◌*◌, ◌/◌, ◌%◌, leb, if◌then◌else◌}
 use Rattle.common.specs.Paper.{Paper, Refusal, Given, ToldApart}
 use Rattle.transport.specs.declared.seq_auth.SeqAuth.{SeqAuth}
 use Rattle.transport.specs.declared.seq_auth.SeqAuth.TheVariants.{At, Nowhere}

@@ -7,8 +7,7 @@
 --   joined l                  what stands behind their fronts
 --   vetting ctl list out      what a call leaves
 --   paper v                   how an answer is given; PaperApart: no two alike
-use Rattle.std.specs.Prelude.{Bool, true, not, ◌&&◌, ◌||◌, List, [], ◌∷◌, ◌++◌, ◌≡◌, ℕ, suc, ◌+◌, ◌*◌, ◌≤◌, ◌<◌, eqb, leb, ltb, length, get_or, take, drop}
-use Rattle.common.specs.Choice.{if◌then◌else◌}
+use Rattle.std.specs.Prelude.{Bool, true, not, ◌&&◌, ◌||◌, List, [], ◌∷◌, ◌++◌, ◌≡◌, ℕ, suc, ◌+◌, ◌*◌, ◌≤◌, ◌<◌, eqb, leb, ltb, length, get_or, take, drop, if◌then◌else◌}
 use Rattle.common.specs.Lent.{Lent, lent}
 use Rattle.common.specs.Lists.{tab, onto, same}
 use Rattle.common.specs.Paper.{Paper, Refusal, Given, ToldApart}

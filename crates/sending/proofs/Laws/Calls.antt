@@ -11,8 +11,8 @@ use Prim.Native.Nat.{ℕ, ◌≤◌, ◌<◌, min}
 use borrow.Author.Tests.{ne_eqb, lt-ltb, le-ltb, ltb-true}
 use lib.Dec.{leb, ltb}
 use lib.ListN.{length}
+use Rattle.std.specs.Prelude.{if◌then◌else◌}
 use Rattle.common.specs.Bits.{all_bits}
-use Rattle.common.specs.Choice.{if◌then◌else◌}
 use Rattle.common.specs.Lent.{Lent, lent}
 use Rattle.common.proofs.Tests.{by_test, by_choice}
 use Rattle.network.specs.declared.header.Header.{Header}
