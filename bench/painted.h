@@ -7,7 +7,7 @@
 #include <string.h>
 #include <ucontext.h>
 
-static _Alignas(16) uint8_t area[128 * 1024];
+static _Alignas(16) uint8_t area[256 * 1024];
 static ucontext_t back, there;
 
 // Where the stack ends at the call of a function that stands in for the one that is measured, and whose first statement this is: its frame's address is

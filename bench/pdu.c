@@ -1,4 +1,4 @@
-// Times the opening of a Network PDU through the C function of crates/radio against plain.c at -O2 and at -O3 and, where it is compiled
+// Times the opening of a Network PDU through the C function of crates/radio_c against plain.c at -O2 and at -O3 and, where it is compiled
 // with MBEDTLS, against the same work by that library. First it holds all to the same answers and octets. Each call expands the keys that it needs.
 #include <stdbool.h>
 #include <stddef.h>

@@ -20,7 +20,7 @@ GCC, OBJDUMP, UNDER = (os.environ.get(name, default) for name, default in (("GCC
 THREE = ("credentials", "open", "seal")
 HEAR = "receiver::hear::hear"
 # The crates that the radio archive is made of.
-CRATES = ("common", "aes", "modes", "keys", "network", "radio")
+CRATES = ("common", "aes", "modes", "keys", "network", "radio", "radio_c")
 TABLE = 256  # octets of the S-box
 # How many calls of a recursive function may be open at once: the exponent 254 is halved until it is 0, nine in all.
 DEPTHS = {"aes::worked_out::to_the": 9}
@@ -156,7 +156,7 @@ def measuring(archive):
     with return addresses and what is written below the stack pointer; {outside}, which the archive's user gives, count 8 octets. A frame or call that cannot be
     told is an error, so the figure is a bound. The last column is what runs wrote to a stack filled with a pattern (bench/stack.c, bench/stack_hear.c): the
     three functions with four credentials and PDUs of 29 octets, `hear` with two segments that complete a message. The script refuses a run that is deeper
-    than what was counted. `hear` is taken from the archive of crates/speed; the states that it is given and gives stand in its caller's memory and are not
+    than what was counted. `hear` is taken from the archive of crates/speed_c; the states that it is given and gives stand in its caller's memory and are not
     counted."""
 
 

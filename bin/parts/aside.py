@@ -32,7 +32,7 @@ def emptied(folder, *but):
 
 
 def copied(name, *without):
-    """The folder of that name, made a copy of crates.txt and crates/, but for what crates have by these names. What `rt` has kept of the copy stays, in out/."""
+    """The folder of that name, made a copy of crates.txt and crates/, but for what crates have by these names. What `rt` has kept of the copy stays."""
     folder, ours = aside(name), ROOT / "crates"
     kept = folder / "crates"
     kept.mkdir(exist_ok=True)

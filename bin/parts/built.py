@@ -18,7 +18,7 @@ from progress import Progress
 # What `rt` says as it begins a crate and when that is proved, and when all is proved and built and the program is run.
 BEGUN, PROVED, RUNS = re.compile(r"rt: chose --jobs \d+ for (\w+)"), "logic=proved ", re.compile(r"^rt: running out/", re.M)
 # Lines of it that tell nothing of why a crate is not proved.
-QUIET = re.compile(r"(?:\w+ .*: proved|(?:logic|library|crate|statements|axioms|empty contracts|linked|rt: chose) .*|(?:logic|only)=.*)\n?")
+QUIET = re.compile(r"(?:\w+ .*: proved|(?:logic|library|crate|statements|axioms|linked|rt: chose|rt: \w+: begins with) .*|(?:logic|only)=.*)\n?")
 # The log of a running proof is read so often, and a terminal's line written so often.
 LOOK, TICK = 0.2, 1.0
 

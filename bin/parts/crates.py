@@ -65,7 +65,8 @@ def stale(table, crates):
     found = set()
     for name in crates:
         kept = stamp(name)
-        since = kept.stat().st_mtime if kept else 0
+        # one that was taken over from another checkout has that one's time, and its own in the second
+        since = max(kept.stat().st_mtime, kept.stat().st_ctime) if kept else 0
         if found.intersection(table[name]) or not since or any(path.stat().st_mtime > since for path in files(name, PROVED)):
             found.add(name)
     return found

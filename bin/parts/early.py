@@ -3,9 +3,8 @@
   early.py LOG ANSWERS                       answers a log; the status is 1 where there are no such answers
   early.py --compared LOG EARLY ANSWERS      compares, on standard output; the status is 1 where they differ
 
-The answers are what the independent model answers, after `rt try` has run the console itself, unproved, on the log, and has seen it write exactly that: `rt`
-builds only what is proved, and of what an unproved program writes it tells no more than whether that is what was expected. It does so for the beginning of a
-long log; behind that the model alone answers, which is said. Where there are no such answers, a word says why.
+The answers are what the independent model answers, after `rt try` has run the console itself, unproved, on the log, and that has written exactly this. It does
+so for the beginning of a long log; behind that the model alone answers, which is said. Where there are no such answers, a word says why.
 """
 import os
 import re
@@ -26,9 +25,10 @@ MARK, NONE = "not proved yet: ", "no answers yet: "
 LINES, OCTETS = 10000, 1 << 20
 # The model answers as much of a log as it can in so many seconds, over 100,000 `hear` lines; `rt try` has until so many seconds after the start.
 MODEL, LATEST = 8, 25
-# What `rt try` says of its interpreter where that has used up its steps, fewer than a hundred `hear` lines, and of each of three ways to compile.
-LIMIT = re.compile(r"\AFAIL: the interpreter failed.*^the run did not finish within \d+ steps", re.M | re.S)
-FAILED, WRITTEN, WAYS = re.compile("^FAIL: ", re.M), re.compile("^ok: the native program .* wrote what is expected$", re.M), 3
+# So many seconds are left to `rt try` for its own end.
+PATIENCE = 10
+# The last line of what `rt try` says: the program has ended, in one of its two runs or in both alike; or neither was done, for steps, seconds or octets.
+ENDED, UNANSWERED = re.compile(r"^run=ended status=0 .*proved=no\n\Z", re.M), re.compile(r"^run=no-answer .*proved=no\n\Z", re.M)
 TOO_LONG, NO_MODEL = "it takes too long to run the console unproved", "the independent model, tests/independent, does not run"
 ALONE = "the independent model alone answers"
 # Two consoles that are not proved yet may run beside each other.
@@ -98,52 +98,51 @@ def alone(begun, answers):
     return words and f"the console itself, run unproved, has written {words} of answers; behind them {ALONE}"
 
 
-def laid_out(log, answers):
-    """A repository that is ours but for what the console reads and is to write."""
-    shutil.rmtree(HERE, ignore_errors=True)
-    console = HERE / "crates" / "console"
-    console.mkdir(parents=True)
-    shutil.copy(ROOT / "crates.txt", HERE)
-    for crate in (ROOT / "crates").iterdir():
-        if crate.name != console.name:
-            (console.parent / crate.name).symlink_to(crate)
-    (console / "src").symlink_to(ROOT / "crates" / "console" / "src")
-    (console / "stdin").write_bytes(log)
-    (console / "stdout").write_bytes(answers)
+def differs(wrote, answers):
+    """Words for the first line that is another where the answers should be these, both as octets; no text where they are the same."""
+    for number, (one, other) in enumerate(zip_longest(lines_of(wrote), lines_of(answers)), 1):
+        if one != other:
+            return f"line {number} of what it writes is {one!r}, and of the model's answers {other!r}\n"
+    return "" if wrote == answers else "the last line has no end\n"
 
 
 class Trying:
-    """`rt try` at work: it runs the console, unproved, on a log, and sees whether it writes these answers."""
+    """`rt try` at work: it runs the console, unproved, on a log, and tells what that writes, which these answers are held to."""
 
     def __init__(self, log, answers):
-        laid_out(log, answers)
-        with open(HERE / "log", "wb") as said:
-            self.run = subprocess.Popen(["rt", "try", "console"], cwd=HERE, stdin=subprocess.DEVNULL, stdout=said, stderr=subprocess.STDOUT,
-                                        start_new_session=True)
+        self.answers = answers
+        shutil.rmtree(HERE, ignore_errors=True)
+        HERE.mkdir(parents=True)
+        (HERE / "stdin").write_bytes(log)
+        with open(HERE / "stdin", "rb") as given, open(HERE / "stdout", "wb") as wrote, open(HERE / "log", "wb") as said:
+            self.run = subprocess.Popen(["rt", "try"], cwd=ROOT / "crates" / "console", stdin=given, stdout=wrote, stderr=said, start_new_session=True)
 
     def wrong(self, seconds=0):
-        """No text where the console writes these answers, else a word; None where that is not known within so many seconds."""
+        """No text where the console writes these answers, else a word; None where that is not known within so many seconds, or `rt try` gives up."""
         try:
-            status = self.run.wait(seconds)
+            self.run.wait(seconds)
         except subprocess.TimeoutExpired:
             return None
-        if not status or is_limit((HERE / "log").read_text("utf-8", "replace")):
+        said = (HERE / "log").read_text("utf-8", "replace")
+        found = differs((HERE / "stdout").read_bytes(), self.answers)
+        if ENDED.search(said) and not found:
             return ""
+        if UNANSWERED.search(said):
+            return None
         kept = HERE.with_suffix(".log")
-        shutil.copy(HERE / "log", kept)
+        kept.write_text(said + found, "utf-8")
         return f"run unproved, the console does not write what the independent model answers: {kept.relative_to(ROOT)}"
 
     def end(self):
         """Ends it, with all that it has started, and takes its folder away."""
         if self.run.poll() is None:
-            os.killpg(self.run.pid, signal.SIGKILL)
+            os.killpg(self.run.pid, signal.SIGTERM)  # then `rt` ends what it runs, which has a session of its own
+            try:
+                self.run.wait(PATIENCE)
+            except subprocess.TimeoutExpired:
+                os.killpg(self.run.pid, signal.SIGKILL)
         self.run.wait()
         shutil.rmtree(HERE, ignore_errors=True)
-
-
-def is_limit(said):
-    """Whether `rt try` has failed for the interpreter's limit alone, and the console, compiled each way, wrote what is expected."""
-    return bool(LIMIT.search(said)) and len(FAILED.findall(said)) == 1 and len(WRITTEN.findall(said)) == WAYS
 
 
 def tried(log, answers, latest):

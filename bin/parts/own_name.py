@@ -3,14 +3,17 @@ import os
 
 
 def owns(log, folder, name, suffix):
-    """Whether the file of this name is the log's. A link beside it leads to its log, and is made where the name is free."""
-    link = folder / f"{name}.log"
-    if not (folder / f"{name}{suffix}").exists() and not link.is_symlink():
+    """Whether the file of this name is the log's. A file beside it has the path of its log, and is made where the name is free."""
+    beside = folder / f"{name}.log"
+    if not (folder / f"{name}{suffix}").exists() and not beside.exists():
+        part = folder / f".{name}.{os.getpid()}"
+        part.write_bytes(os.fsencode(log))
         try:
-            link.symlink_to(log)
+            os.link(part, beside)  # whole or not at all
         except FileExistsError:
             pass  # another has just taken the name
-    return link.is_symlink() and link.readlink() == log
+        part.unlink()
+    return beside.is_file() and beside.read_bytes() == os.fsencode(log)
 
 
 def own_name(log, folder, suffix):

@@ -11,24 +11,31 @@ from explaining import ROOT, SECONDS
 from logs import PDU, READY
 from typed_early import piped, typed
 
-# `try` asks whether the console writes what is expected, as rt does, or says what TRIED has, and neither of too much: a limit is that of the interpreter alone,
-# unless it is said that a compiled console differs, too. `check` waits for the file GO, if one is named, and hands out the built console.
+# `try` writes what the console does, or what the model does, or something else, as TRIED has it, and says how it has ended: the interpreter may have used up
+# its steps, and of too many lines or octets it says nothing. `run` waits for the file GO, if one is named, and hands out the built console.
 STAND_IN = r"""#!/bin/sh
 case $1 in
 version) echo stand-in ;;
-try) [ "$TRIED" != real ] || exec "$RT" try console
-    [ "$TRIED" != slow ] || sleep 60
-    [ "$(wc -l <crates/console/stdin)" -le 10000 ] && [ "$(wc -c <crates/console/stdout)" -le 1048576 ] || exit 1
-    [ "$TRIED" != asked ] || { $CONSOLE <crates/console/stdin | cmp -s - crates/console/stdout && exit; }
+try) [ "$TRIED" != real ] || exec "$RT" try
+    [ "$TRIED" != slow ] || exec sleep 60
+    [ "$TRIED" != unanswered ] || { printf 'checked: no-answer: the run takes long\nrun=no-answer proved=no\n' >&2 && exit 6; }
+    given=$TREE/../given.$$
+    cat >"$given"
+    case $TRIED in
+    asked | limit) $CONSOLE <"$given" ;;
+    fits) python3 -B "$TREE/tests/independent/console.py" <"$given" ;;
+    *) echo another ;;
+    esac >"$given.wrote"
+    [ "$(wc -l <"$given")" -le 10000 ] && [ "$(wc -c <"$given.wrote")" -le 1048576 ] || exit 1
+    cat "$given.wrote"
     case $TRIED in limit*)
-        printf 'FAIL: the interpreter failed, with status 83\nthe run did not finish within 10000000 steps: it may loop\n'
-        printf 'ok: the native program at -O%s ended and wrote what is expected\n' 0 3
-        [ "$TRIED" = limit ] || printf 'FAIL: the native program with checks ended, but did not write what is expected\n'
-        [ "$TRIED" != limit ] || printf 'ok: the native program with checks ended and wrote what is expected\n' ;;
-    esac
-    [ "$TRIED" = fits ] ;;
-check) until [ -z "${GO-}" ] || [ -e "$GO" ]; do sleep 0.05; done
-    cd "$TREE" && mkdir -p target/bin && cp "$BUILT" target/bin/console && echo "rt: console proved (1 s)" ;;
+        echo 'interpreter: no-answer: the run did not finish within 20000000 steps: the program may loop forever' ;;
+    esac >&2
+    printf 'checked: ended status=0\nrun=ended status=0 runners=1 proved=no\n' >&2 ;;
+run) until [ -z "${GO-}" ] || [ -e "$GO" ]; do sleep 0.05; done
+    mkdir -p out && cp "$BUILT" out/console || exit
+    printf 'rt: chose --jobs 2 for console\nlogic=proved functions=1\nrt: running out/console; to give it other input, run that file yourself\n' >&2
+    cat stdout ;;
 esac
 """
 # It answers each line, and each wrongly.
@@ -70,7 +77,7 @@ class Tree:
         shutil.copy(ROOT / "tests" / "python", self.root / "tests")
         (self.root / "docs").symlink_to(ROOT / "docs")
         shutil.copy(ROOT / "crates.txt", self.root)
-        (self.root / "crates").symlink_to(ROOT / "crates")
+        shutil.copytree(ROOT / "crates", self.root / "crates", ignore=lambda at, _: ("out", "must-fail") if Path(at).parent == ROOT / "crates" else ())
         self.log.write_text(LOG)
         stand_in = Path(folder, "path", "rt")
         stand_in.parent.mkdir()
@@ -86,7 +93,8 @@ class Tree:
 
     def unbuilt(self):
         """Takes away what is built there."""
-        shutil.rmtree(self.root / "target", ignore_errors=True)
+        for folder in ("target", "crates/console/out"):
+            shutil.rmtree(self.root / folder, ignore_errors=True)
 
     def run(self, program, tried, log=LOG, **also):
         """Runs a script of bin/ on a log, where nothing is built."""
@@ -134,6 +142,8 @@ def _console(tree):
     limit, differs = tree.run("console", "limit"), tree.run("console", "limit and a difference")
     yield "bin/console, at the interpreter's limit", _marked(limit.stderr) == ANSWERS and SAME in limit.stderr
     yield "bin/console, at the interpreter's limit, where another is written compiled", NONE in differs.stderr and MARK not in differs.stderr
+    kept = next((tree.root / "target" / "early").glob("*.log"), None)
+    yield "bin/console, what is kept of a difference", kept and "line 1 of what it writes is 'another', and of the model's answers 'ok'" in kept.read_text()
     with tree.other_model("import sys\nsys.exit(1)\n"):
         lost = tree.run("console", "asked")
     yield "bin/console, where the model does not run", lost.stdout == first.stdout and f"{NONE}the independent model" in lost.stderr and MARK not in lost.stderr
@@ -170,8 +180,10 @@ def _late(tree):
     """What is not known in time is not waited for: neither the model's answers to the end of a log, nor what `rt try` sees."""
     with tree.in_a_hurry(8, 2):
         slow = tree.run("console", "slow")
-    yield "bin/console, where rt try takes long", (
-        _marked(slow.stderr) == ["the independent model alone answers: it takes too long to run the console unproved", *ANSWERS] and SAME in slow.stderr)
+    given_up = tree.run("console", "unanswered")
+    for what, run in (("takes long", slow), ("gives up", given_up)):
+        yield f"bin/console, where rt try {what}", (
+            _marked(run.stderr) == ["the independent model alone answers: it takes too long to run the console unproved", *ANSWERS] and SAME in run.stderr)
     *heard, asks, acknowledges = (ROOT / "tests" / "answers" / "station.log").read_text().splitlines()
     with tree.in_a_hurry(1.5, 25), tree.other_model(LIKE_OURS.format(MOST)):
         late, paged = tree.run("console", "asked", LATER), tree.run("class", "asked", LATER)

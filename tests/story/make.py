@@ -8,7 +8,7 @@ names the box in the picture), that what a box sends is named there (`hear humid
 what was handed up from it (`readings humidity`; `changed` has the forms) and what its maker has sent in of it (`vet humidity`; `on_bench` has them),
 and that `=>` may stand behind a command, with words of its answer: they must stand in the answer in that order, `forward` exactly where something is
 forwarded. The answers are those of the independent model, which
-the console itself is held to by `rt check console`.
+the console itself is held to by `rt ci`.
 """
 import subprocess
 import sys

@@ -14,7 +14,7 @@ use Rattle.common.proofs.Tests.{by_test}
 use Rattle.aes.specs.Field.{xtime}
 use Rattle.aes.specs.Sbox.{sbox_table, sbox}
 use Rattle.aes.specs.Cipher.{sub_bytes, shift_rows, three_times, mix_column, mix_columns, add_round_key, round, last_round, rounds, cipher}
-use Rattle.aes.specs.KeyExpansion.{word_of, sub_word, rot_word, xPower, rcon, temp, w, four_words, round_key, key_schedule}
+use Rattle.aes.specs.KeyExpansion.{word_of, sub_word, rot_word, x_power, rcon, temp, w, four_words, round_key, key_schedule}
 use Rattle.modes.specs.declared.ccm.MicSize.{MicSize}
 use Rattle.modes.specs.declared.ccm.MicSize.TheVariants.{Eight}
 use Rattle.modes.specs.Ccm.{mic_octets, ccm_block, first_block, mac_input, mac_block, stream, stream_octet, ctr, mic, sealed, decrypted}
@@ -78,7 +78,7 @@ record Macs : Type 0 where
 
 macs : Macs
 unfolding mac cmac last_block complete block_count subkey2 subkey1 double const_rb shift_left chain blocks
-    key_schedule round_key four_words w temp rcon xPower rot_word sub_word word_of
+    key_schedule round_key four_words w temp rcon x_power rot_word sub_word word_of
     cipher rounds last_round round add_round_key mix_columns mix_column three_times shift_rows sub_bytes sbox sbox_table xtime xored
 macs =
     record {
@@ -164,7 +164,7 @@ record Fronts : Type 0 where
 
 fronts : Fronts
 unfolding front_of obfuscated privacy_block clear_front ctl_ttl octets
-    key_schedule round_key four_words w temp rcon xPower rot_word sub_word word_of
+    key_schedule round_key four_words w temp rcon x_power rot_word sub_word word_of
     cipher rounds last_round round add_round_key mix_columns mix_column three_times shift_rows sub_bytes sbox sbox_table xtime xored
 fronts = record { hidden_0 = refl; hidden_1 = refl; clear_0 = refl; clear_1 = refl; clear_first = refl; clear_second = refl }
 
@@ -188,7 +188,7 @@ record Bodies : Type 0 where
 
 bodies : Bodies
 unfolding nonce_of number number_from ctl_ttl network_nonce octets mic stream mac_block mac_input first_block ccm_block chain blocks
-    key_schedule round_key four_words w temp rcon xPower rot_word sub_word word_of
+    key_schedule round_key four_words w temp rcon x_power rot_word sub_word word_of
     cipher rounds last_round round add_round_key mix_columns mix_column three_times shift_rows sub_bytes sbox sbox_table xtime xored
 bodies = record { body_0 = refl; body_1 = refl; false_0 = refl; false_1 = refl; false_first = refl; false_second = refl }
 

@@ -15,7 +15,7 @@ use Rattle.common.proofs.Tests.{by_choice}
 use Rattle.aes.specs.Field.{xtime}
 use Rattle.aes.specs.Sbox.{sbox_table, sbox}
 use Rattle.aes.specs.Cipher.{sub_bytes, shift_rows, three_times, mix_column, mix_columns, add_round_key, round, last_round, rounds, cipher}
-use Rattle.aes.specs.KeyExpansion.{word_of, sub_word, rot_word, xPower, rcon, temp, w, four_words, round_key, key_schedule}
+use Rattle.aes.specs.KeyExpansion.{word_of, sub_word, rot_word, x_power, rcon, temp, w, four_words, round_key, key_schedule}
 use Rattle.modes.specs.declared.ccm.MicSize.{MicSize}
 use Rattle.modes.specs.declared.ccm.MicSize.TheVariants.{Four}
 use Rattle.modes.specs.Ccm.{mic_octets, longest, longest_data, ccm_block, stream, first_block_with, data_blocks, mac_input_with, mac_block_with, mic_with, sealed_with, decrypted_with, opening_with}
@@ -68,7 +68,7 @@ record Hashes : Type 0 where
 
 hashes : Hashes
 unfolding mac cmac last_block complete block_count subkey2 subkey1 double const_rb shift_left chain blocks
-    key_schedule round_key four_words w temp rcon xPower rot_word sub_word word_of
+    key_schedule round_key four_words w temp rcon x_power rot_word sub_word word_of
     cipher rounds last_round round add_round_key mix_columns mix_column three_times shift_rows sub_bytes sbox sbox_table xtime xored
 hashes = record { first_hash = refl; second_hash = refl }
 
@@ -189,7 +189,7 @@ payload = replicate 8 0x21
 
 differ : same (mic_with (key_schedule application_key) nonce 4 first_label payload) (mic_with (key_schedule application_key) nonce 4 second_label payload) ≡ false
 unfolding mic_with mac_block_with mac_input_with data_blocks first_block_with stream ccm_block chain blocks
-    key_schedule round_key four_words w temp rcon xPower rot_word sub_word word_of
+    key_schedule round_key four_words w temp rcon x_power rot_word sub_word word_of
     cipher rounds last_round round add_round_key mix_columns mix_column three_times shift_rows sub_bytes sbox sbox_table xtime xored
 differ = refl
 

@@ -35,7 +35,7 @@ use Rattle.sending.proofs.Laws.Allowed.{Asked, ttl_low, sendable_allowed}
 use Rattle.sending.proofs.Laws.Stamped.{address_local}
 use Rattle.demands.specs.Call.{Call, SendSegment, Outcome, left_said, step, after}
 use Rattle.demands.specs.GoesOut.{accepted, StaysKept}
-use Rattle.demands.specs.ReadBack.{say_call, goes_whole, said_by, pdu_made, Piece, pieces, seg_nAs, Shared}
+use Rattle.demands.specs.ReadBack.{say_call, goes_whole, said_by, pdu_made, Piece, pieces, seg_n_as, Shared}
 use Rattle.demands.specs.Speech.{Words, Speech, is_control, last_of, header_of}
 use Rattle.demands.proofs.Invariant.{good_step}
 use Rattle.demands.proofs.Pieces.{Of, Laws, Holds, can_told, pdu_told, pieces_told, holds_behind, kept_behind, segment_goes}
@@ -162,5 +162,5 @@ module _ (sender : Receiver) (good : Good sender) (node : Node) (shared : Shared
     laws_begun l =
         (first, record { of = of_zero; from = omega arith }, pieces_told sender own node shared q there s refl o keeping l behind (suc first) holds_begun)
 
-    pub last_begun : seg_nAs (left_said said).answer ≡ last_of node s
+    pub last_begun : seg_n_as (left_said said).answer ≡ last_of node s
     last_begun = rw g.says segn_is

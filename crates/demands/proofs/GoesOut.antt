@@ -46,7 +46,7 @@ use Rattle.sending.proofs.Laws.Transmitted.{saying, Sends, saying_is, starting_i
 use Rattle.demands.specs.Call.{Call, SendSegment, Said, Outcome, made_by, left_said, step, run, after}
 use Rattle.demands.specs.GoesOut.{rest_as, accepted, pdu_count, GoesOut, StaysKept, SegmentGoes}
 use Rattle.demands.specs.Interleaved.{Each}
-use Rattle.demands.specs.ReadBack.{say_call, goes_whole, said_by, seg_nAs, Shared}
+use Rattle.demands.specs.ReadBack.{say_call, goes_whole, said_by, seg_n_as, Shared}
 use Rattle.demands.specs.Speech.{Words, Access, Control, Speech, key_of, envelope_of, akf_of, aid_of, octets_of, last_of}
 use Rattle.demands.proofs.Begun.{there, ttl_fits, from_unicast, keeping, segn_is, HoldsIt, last_most}
 use Rattle.demands.proofs.Begun.{can_begun, goes_begun, raised_begun, out_begun, holds_begun, keeps_begun, holds_after, kept_after, last_begun}
@@ -233,7 +233,7 @@ module _ (sender : Receiver) (good : Good sender) (q : Request) (words : Words) 
   abbrev Goes : Outcome → Type 0
   Goes x =
       let r = after x.receiver l in
-      StaysKept x.receiver l → n ≤ seg_nAs x.answer → has_bit r.out.heard n ≡ false → next_seq r q.element ≤ next_seq sender q.element + 8191
+      StaysKept x.receiver l → n ≤ seg_n_as x.answer → has_bit r.out.heard n ≡ false → next_seq r q.element ≤ next_seq sender q.element + 8191
       → next_seq r q.element ≤ 0xFFFFFF → (step r (SendSegment n room)).made ≡ true
 
   goes_way : Way sender q words (sending_as sender q words buf) → Goes (left_said (sending_as sender q words buf))
@@ -256,29 +256,29 @@ segment_goes_out sender q words buf l n room good sent w kept last unheard wide 
 -- ---- SegN, as the call that began a message answers it
 last_way :
     (sender : Receiver) (good : Good sender) (q : Request) (words : Words) (buf : List ℕ) → goes_whole words ≡ false → Way sender q words (sending_as sender q words buf)
-    → seg_nAs (left_said (sending_as sender q words buf)).answer ≡ last_of sender.node (said_by sender q words)
+    → seg_n_as (left_said (sending_as sender q words buf)).answer ≡ last_of sender.node (said_by sender q words)
 last_way sender good q words buf w (Whole a v g) = absurd (true≢false (sym v ∙ w))
 last_way sender good q words buf w (Begun a v g) = last_begun sender good sender.node (shared_itself sender.node) q words a buf g
 
 pub last_answered :
     (sender : Receiver) (q : Request) (words : Words) (buf : List ℕ) → Good sender → (step sender (say_call q words buf)).made ≡ true → goes_whole words ≡ false
-    → seg_nAs (step sender (say_call q words buf)).answer ≡ last_of sender.node (said_by sender q words)
+    → seg_n_as (step sender (say_call q words buf)).answer ≡ last_of sender.node (said_by sender q words)
 last_answered sender q words buf good sent w =
     let e = step_is sender q words buf in
-    let By : Outcome → Type 0 = λ x. seg_nAs x.answer ≡ last_of sender.node (said_by sender q words) in
+    let By : Outcome → Type 0 = λ x. seg_n_as x.answer ≡ last_of sender.node (said_by sender q words) in
     subst By (sym e) (last_way sender good q words buf w (way sender q words buf (subst (λ (x : Outcome). x.made ≡ true) e sent)))
 
 -- 0 where it goes whole
 whole_way :
     (sender : Receiver) (q : Request) (words : Words) (buf : List ℕ) → goes_whole words ≡ true → Way sender q words (sending_as sender q words buf)
-    → seg_nAs (left_said (sending_as sender q words buf)).answer ≡ 0
-whole_way sender q words buf w (Whole a v g) = ap (λ (x : said-answer.Answer). seg_nAs (Said x)) g.says
+    → seg_n_as (left_said (sending_as sender q words buf)).answer ≡ 0
+whole_way sender q words buf w (Whole a v g) = ap (λ (x : said-answer.Answer). seg_n_as (Said x)) g.says
 whole_way sender q words buf w (Begun a v g) = absurd (true≢false (sym w ∙ v))
 
 pub whole_answered :
     (sender : Receiver) (q : Request) (words : Words) (buf : List ℕ) → (step sender (say_call q words buf)).made ≡ true → goes_whole words ≡ true
-    → seg_nAs (step sender (say_call q words buf)).answer ≡ 0
+    → seg_n_as (step sender (say_call q words buf)).answer ≡ 0
 whole_answered sender q words buf sent w =
     let e = step_is sender q words buf in
-    let By : Outcome → Type 0 = λ x. seg_nAs x.answer ≡ 0 in
+    let By : Outcome → Type 0 = λ x. seg_n_as x.answer ≡ 0 in
     subst By (sym e) (whole_way sender q words buf w (way sender q words buf (subst (λ (x : Outcome). x.made ≡ true) e sent)))

@@ -21,7 +21,7 @@ use Rattle.demands.specs.Call.{Outcome, left_said, step, run}
 use Rattle.demands.specs.GoesOut.{rest_as, outcomes, rest_of}
 use Rattle.demands.specs.InOrder.{in_order, InOrder}
 use Rattle.demands.specs.Interleaved.{node_of, Each}
-use Rattle.demands.specs.ReadBack.{say_call, said_by, pdu_made, Piece, pieces_as, made_of, seg_nAs, Made, piece_at, brings, OwnKeyFirst, Between, Hears}
+use Rattle.demands.specs.ReadBack.{say_call, said_by, pdu_made, Piece, pieces_as, made_of, seg_n_as, Made, piece_at, brings, OwnKeyFirst, Between, Hears}
 use Rattle.demands.specs.Speech.{Words, Speech}
 use Rattle.demands.proofs.Begun.{there, keeping, holds_begun, keeps_begun}
 use Rattle.demands.proofs.Pieces.{Row, row_more, row_made}
@@ -92,7 +92,7 @@ module _ (sender : Receiver) (setup : Setup) (q : Request) (words : Words) (buf 
   abbrev RowBy : Outcome → Type 0
   RowBy x =
       Each (λ y. y.made ≡ true) (run x.receiver (rest_as x.answer buf))
-      → Row (first x ∷ pieces_as x.answer x.receiver (rest_as x.answer buf)) 0 (suc (seg_nAs x.answer))
+      → Row (first x ∷ pieces_as x.answer x.receiver (rest_as x.answer buf)) 0 (suc (seg_n_as x.answer))
 
   row_none : (p : Piece) → p.segment ≡ 0 → Row (p ∷ []) 0 1
   row_none p e = row_more p [] 0 0 e (record { long = refl; place_is = λ i h. absurd (omega arith) })
@@ -115,7 +115,7 @@ module _ (sender : Receiver) (setup : Setup) (q : Request) (words : Words) (buf 
   -- places 0 to SegN
   pub row_full :
       Each (λ o. o.made ≡ true) (outcomes sender q words buf)
-      → Row (made_of sender q words buf (rest_of sender q words buf)) 0 (suc (seg_nAs (step sender (say_call q words buf)).answer))
+      → Row (made_of sender q words buf (rest_of sender q words buf)) 0 (suc (seg_n_as (step sender (say_call q words buf)).answer))
   row_full sent =
       let e = step_is sender q words buf in
       let made = subst (λ (x : Outcome). x.made ≡ true) e sent.0 in

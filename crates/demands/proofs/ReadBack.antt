@@ -34,7 +34,7 @@ use Rattle.sending.proofs.Laws.Stamped.{stamps}
 use Rattle.demands.specs.Call.{Call, Said, Outcome, left_said}
 use Rattle.demands.specs.GoesOut.{accepted}
 use Rattle.demands.specs.Interleaved.{node_of, Each}
-use Rattle.demands.specs.ReadBack.{goes_whole, said_by, pdu_made, Piece, pieces, pieces_as, seg_nAs, Hearing, Between, Hears, ReadInFull, ReadBack}
+use Rattle.demands.specs.ReadBack.{goes_whole, said_by, pdu_made, Piece, pieces, pieces_as, seg_n_as, Hearing, Between, Hears, ReadInFull, ReadBack}
 use Rattle.demands.specs.Speech.{Words, Access, Control, Speech, key_of, akf_of, aid_of, envelope_of, octets_of, last_of, Speakable}
 use Rattle.demands.proofs.Begun.{ttl_fits, from_unicast, laws_begun, last_begun}
 use Rattle.demands.proofs.ReadOnce.{read_once}
@@ -70,7 +70,7 @@ module _ (sender : Receiver) (setup : Setup) (q : Request) (words : Words) (buf 
   Read ps n = (heard : List Hearing) → Each (Hears node s ps) heard → ReadInFull setup s ps n heard
 
   abbrev ReadAs : Outcome → Type 0
-  ReadAs x = Read (made_as x) (seg_nAs x.answer)
+  ReadAs x = Read (made_as x) (seg_n_as x.answer)
 
   -- ---- in segments
   module _ (a : accepted sender q words ≡ true) (w : goes_whole words ≡ false) (g : StartedBy sender q.element (kept_as sender q words) said) where
@@ -101,7 +101,7 @@ module _ (sender : Receiver) (setup : Setup) (q : Request) (words : Words) (buf 
     read_segments =
         let these : made_as (left_said said) ≡ ps = ap (λ (x : said-answer.Answer). first ∷ pieces_as (Said x) said.answer.receiver l) g.says in
         let last = last_begun sender b.good node b.shared q words a buf g in
-        subst (λ (x : List Piece). Read x (seg_nAs (left_said said).answer)) (sym these) (subst (Read ps) (sym last) read_these)
+        subst (λ (x : List Piece). Read x (seg_n_as (left_said said).answer)) (sym these) (subst (Read ps) (sym last) read_these)
 
   -- ---- whole
   module _ (a : accepted sender q words ≡ true) (g : SaidBy sender q.element (header_as sender q words) said) (ctl : Bool) (octet : ℕ) (body : List ℕ)
@@ -145,8 +145,8 @@ module _ (sender : Receiver) (setup : Setup) (q : Request) (words : Words) (buf 
     read_one : ReadAs (left_said said)
     read_one =
         let these : made_as (left_said said) ≡ first ∷ [] = ap (λ (x : said-answer.Answer). first ∷ pieces_as (Said x) said.answer.receiver l) g.says in
-        let none : seg_nAs (left_said said).answer ≡ 0 = ap (λ (x : said-answer.Answer). seg_nAs (Said x)) g.says in
-        subst (λ (x : List Piece). Read x (seg_nAs (left_said said).answer)) (sym these) (subst (Read (first ∷ [])) (sym none) read_these_whole)
+        let none : seg_n_as (left_said said).answer ≡ 0 = ap (λ (x : said-answer.Answer). seg_n_as (Said x)) g.says in
+        subst (λ (x : List Piece). Read x (seg_n_as (left_said said).answer)) (sym these) (subst (Read (first ∷ [])) (sym none) read_these_whole)
 
 -- ---- by the words
 module _ (sender : Receiver) (setup : Setup) (q : Request) (buf : List ℕ) (l : List Call) where

@@ -43,7 +43,7 @@ use Rattle.demands.specs.Instance.{shed, bench, to_shed, report, lent_pdu, heari
 use Rattle.demands.specs.Instance.{heard_twice, command, heard_backwards, updating, to_box, greeting, greeted, in_use, SendingsMet}
 use Rattle.demands.specs.Interleaved as scene
 use Rattle.demands.specs.Interleaved.{start, is_last_missing, Each, handed}
-use Rattle.demands.specs.ReadBack.{say_call, goes_whole, said_by, Piece, made_of, seg_nAs, Incoming, Made, Relayed, Unopened}
+use Rattle.demands.specs.ReadBack.{say_call, goes_whole, said_by, Piece, made_of, seg_n_as, Incoming, Made, Relayed, Unopened}
 use Rattle.demands.specs.ReadBack.{piece_at, is_piece, brings, Shared, OwnMessageFirst, Between, OneOf, ComesAs, Hears, Telling}
 use Rattle.demands.specs.Refusal.{no_key_opens}
 use Rattle.demands.specs.Speech.{Words, Speech, key_of, envelope_of, octets_of, last_of, hand_up}
@@ -99,7 +99,7 @@ module _ (sender : Receiver) (words : Words) (between : Between sender shed to_s
   all_made = in_full sender shed to_shed words between a low
 
   -- ---- and SegN is n
-  module _ (n : ℕ) (last : seg_nAs (step sender (say_call to_shed words lent_pdu)).answer ≡ n) where
+  module _ (n : ℕ) (last : seg_n_as (step sender (say_call to_shed words lent_pdu)).answer ≡ n) where
     abbrev ps : List Piece
     ps = made_of sender to_shed words lent_pdu (rest_of sender to_shed words lent_pdu)
 
@@ -264,7 +264,7 @@ module _ (sender : Receiver) (good : Good sender) (shared : Shared sender.node n
   report_between = to_shed_law sender report good shared other
       (λ msg j h. let a = holds.one_application in let z = plain_first node (said_by sender to_shed report) true shed_plain (omega arith) holds.bound_there in absurd (omega arith))
 
-  report_seg_n : seg_nAs (step sender (say_call to_shed report lent_pdu)).answer ≡ 2
+  report_seg_n : seg_n_as (step sender (say_call to_shed report lent_pdu)).answer ≡ 2
   report_seg_n =
       let made = (in_full sender shed to_shed report report_between a low).0 in
       last_answered sender to_shed report lent_pdu good made ways.report_cut ∙ report_last sender

@@ -16,7 +16,7 @@ use Rattle.sending.specs.Control.{control_allowed}
 use Rattle.sending.specs.Transmission.{next_seq}
 use Rattle.demands.specs.Call.{Call, SendSegment, Answer, Heard, Said, Ended, Outcome, step, run, after}
 use Rattle.demands.specs.Interleaved.{Each}
-use Rattle.demands.specs.ReadBack.{say_call, goes_whole, said_by, seg_nAs}
+use Rattle.demands.specs.ReadBack.{say_call, goes_whole, said_by, seg_n_as}
 use Rattle.demands.specs.Speech.{Words, Access, Control, Speech, last_of}
 
 -- ---- in full
@@ -66,6 +66,6 @@ SegmentGoes =
     → Good sender
     → (let o = step sender (say_call q words buf) in
     let r = after o.receiver l in
-    o.made ≡ true → goes_whole words ≡ false → StaysKept o.receiver l → n ≤ seg_nAs o.answer → has_bit r.out.heard n ≡ false → pdu_octets ≤ length room
+    o.made ≡ true → goes_whole words ≡ false → StaysKept o.receiver l → n ≤ seg_n_as o.answer → has_bit r.out.heard n ≡ false → pdu_octets ≤ length room
     → next_seq r q.element ≤ next_seq sender q.element + 8191 → next_seq r q.element ≤ 0xFFFFFF
     → (step r (SendSegment n room)).made ≡ true)

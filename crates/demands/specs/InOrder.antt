@@ -9,7 +9,7 @@ use Rattle.sending.specs.declared.request.Request.{Request}
 use Rattle.demands.specs.Call.{step}
 use Rattle.demands.specs.GoesOut.{rest_of, outcomes}
 use Rattle.demands.specs.Interleaved.{node_of, Each}
-use Rattle.demands.specs.ReadBack.{say_call, said_by, made_of, seg_nAs, Made, Hearing, brings, OwnKeyFirst, Between, Telling}
+use Rattle.demands.specs.ReadBack.{say_call, said_by, made_of, seg_n_as, Made, Hearing, brings, OwnKeyFirst, Between, Telling}
 use Rattle.demands.specs.Speech.{Words}
 
 -- places 0 to n, each once
@@ -19,9 +19,9 @@ in_order n fwd msg = tab_from (λ i. record { what = Made i; forward = fwd; mess
 -- the premises of `ReadBack` are met, and each segment comes
 pub record ToldInOrder (sender : Receiver) (setup : Setup) (q : Request) (words : Words) (buf fwd msg : List ℕ) : Type 0 where
   pub telling :
-      Telling sender setup q words buf (rest_of sender q words buf) (in_order (seg_nAs (step sender (say_call q words buf)).answer) fwd msg)
+      Telling sender setup q words buf (rest_of sender q words buf) (in_order (seg_n_as (step sender (say_call q words buf)).answer) fwd msg)
   pub each_comes :
-      (let seg_n = seg_nAs (step sender (say_call q words buf)).answer in
+      (let seg_n = seg_n_as (step sender (say_call q words buf)).answer in
       (i : ℕ) → i ≤ seg_n → brings (made_of sender q words buf (rest_of sender q words buf)) i (in_order seg_n fwd msg) ≡ true)
 
 abbrev pub InOrder : Type 0

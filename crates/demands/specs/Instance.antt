@@ -35,7 +35,7 @@ use Rattle.demands.specs.CacheHolds.{entered}
 use Rattle.demands.specs.Call.{Call, Hear, SendAccess, Acknowledge, Outcome, step, after}
 use Rattle.demands.specs.GoesOut.{rest_of}
 use Rattle.demands.specs.Interleaved.{Event, Segment, Foreign, Ask, Own, Arrival, start, node_of, Each, Scene, AllCome, handed, behind, AskedOf}
-use Rattle.demands.specs.ReadBack.{say_call, said_by, pdu_made, made_of, seg_nAs, Incoming, Made, Relayed, Unopened, Hearing, brings, Telling}
+use Rattle.demands.specs.ReadBack.{say_call, said_by, pdu_made, made_of, seg_n_as, Incoming, Made, Relayed, Unopened, Hearing, brings, Telling}
 use Rattle.demands.specs.Speech.{Words, Access, Control, Speech, hand_up}
 
 abbrev pub network_key : List ℕ
@@ -129,7 +129,7 @@ abbrev pub Told : Receiver → Words → List Incoming → Type 0
 Told sender words l =
     (let calls = rest_of sender to_shed words lent_pdu in
     Telling sender shed to_shed words lent_pdu calls (map hearing l)
-    × ((i : ℕ) → i ≤ seg_nAs (step sender (say_call to_shed words lent_pdu)).answer → brings (made_of sender to_shed words lent_pdu calls) i (map hearing l) ≡ true))
+    × ((i : ℕ) → i ≤ seg_n_as (step sender (say_call to_shed words lent_pdu)).answer → brings (made_of sender to_shed words lent_pdu calls) i (map hearing l) ≡ true))
 
 -- the last of three segments first, a PDU that no key opens, segment 0 from a relay, the last once more, and segment 1
 abbrev pub overheard : List Incoming

@@ -102,12 +102,12 @@ made_of sender q words buf l =
     record { segment = 0; pdu = pdu_made o } ∷ pieces_as o.answer o.receiver l
 
 -- SegN, as the call that began the message answers it
-abbrev pub seg_nAs : Answer → ℕ
-seg_nAs (Said (Sent len)) = 0
-seg_nAs (Said (Started len seg_n)) = seg_n
-seg_nAs (Said (Refused n)) = 0
-seg_nAs (Heard a) = 0
-seg_nAs (Ended a) = 0
+abbrev pub seg_n_as : Answer → ℕ
+seg_n_as (Said (Sent len)) = 0
+seg_n_as (Said (Started len seg_n)) = seg_n
+seg_n_as (Said (Refused n)) = 0
+seg_n_as (Heard a) = 0
+seg_n_as (Ended a) = 0
 
 -- ---- the fresh receiver
 -- what it hears
@@ -269,4 +269,4 @@ abbrev pub ReadBack : Type 0
 ReadBack =
     (sender : Receiver) (setup : Setup) (q : Request) (words : Words) (buf : List ℕ) (l : List Call) (heard : List Hearing)
     → Telling sender setup q words buf l heard
-    → ReadInFull setup (said_by sender q words) (made_of sender q words buf l) (seg_nAs (step sender (say_call q words buf)).answer) heard
+    → ReadInFull setup (said_by sender q words) (made_of sender q words buf l) (seg_n_as (step sender (say_call q words buf)).answer) heard

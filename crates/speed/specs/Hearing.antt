@@ -3,7 +3,7 @@
 --   heard_over r pdu slot msg n                    the count over n hearings, and the message buffer after them
 --   heard_times keys first iv pdu slot msg times   what a call of `speed_hear` leaves
 --   heard_row r pdus msg n                         what the first n of many PDUs in a row leave
---   heard_all_law keys first iv pdus msg           what a call of `speed_hear_row` leaves
+--   heard_all keys first iv pdus msg               what a call of `speed_hear_row` leaves
 --   opened_over node pdu n                         how many of n openings open the PDU
 --   opened_times keys first iv pdu times           what a call of `speed_open_pdu` answers
 use Rattle.std.specs.Prelude.{false, not, List, ℕ, zero, suc, ◌+◌, ◌*◌, ◌/◌, ◌%◌, eqb, length, take, drop, replicate, if◌then◌else◌}

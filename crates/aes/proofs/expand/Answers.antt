@@ -8,12 +8,12 @@ use native.Mathlib.Omega.{arith}
 use borrow.Author.Rules.{rules}
 use lib.ListN.{replicate}
 use Rattle.common.proofs.Fill.{filled_none, filled_more, filled_all}
-use Rattle.aes.specs.KeyExpansion.{xPower, round_key, key_schedule}
+use Rattle.aes.specs.KeyExpansion.{x_power, round_key, key_schedule}
 use Rattle.aes.proofs.KeyExpansion.{round_key_first, key_more, power_more}
 use Rattle.aes.proofs.expand.Goals as goal
 
 pub loop-i-init : goal.loop-i-init
-unfolding xPower
+unfolding x_power
 loop-i-init c =
     let key = c.args.key in
     let first = round_key_first key c.well_formed.0.1.0.1 in
@@ -30,7 +30,7 @@ loop-i-preserved c =
     let back : l.i ≡ l.i + 1 - 1 = omega arith in (
       search rules,
       filled_more [] (round_key key) 11 l.ks l.i _ p.1 (search rules) next,
-      power_more key l.i p.0 p.2 c.twice-rc.ensures ∙ ap xPower back,
+      power_more key l.i p.0 p.2 c.twice-rc.ensures ∙ ap x_power back,
     )
 
 pub returns : goal.returns
