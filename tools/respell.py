@@ -17,9 +17,12 @@ WORD = re.compile(r'[^\s(){}.;,@"«»]+')
 DECL = re.compile(r"(?m)^ *(?:(?:pub|abbrev|unfoldable|data|record|opaque|private) +)*([^\s(){}.;,@\"«»:]+)(?: \{[^{}\n]*\})* :(?=\s|$)")
 COMMENT = re.compile(r"--[^\n]*")
 BINDER = re.compile(r"[({]([\w'′₀-₉-]+(?: [\w'′₀-₉-]+)*) :(?=\s)")
+RULESET = re.compile(r"(?m)^ *(?:pub +)?ruleset +([^\s=]+) =")
 ROW = re.compile(r"^( *(?:--|//)   )(\S.*?)( {2,})(\S.*)$")
 # A name that would fall together with a definition, and that is no lemma.
 NAMED = {"in_use": "told_in_use"}
+# Two names whose words a script does not tell apart.
+APART = {"xPower": "x_power", "segNAs": "seg_n_as"}
 OWN = ("Proof.antt", "Answers.antt", "Invariants.antt")
 
 
@@ -29,6 +32,8 @@ def function_file(path):
 
 
 def snake(name):
+    if name in APART:
+        return APART[name]
     words = re.sub(r"(?<=[a-z0-9])[A-Z]", lambda m: "_" + m[0].lower(), name)
     return words.replace("-", "_")
 
@@ -39,7 +44,7 @@ def table():
         if function_file(path):
             continue
         text = COMMENT.sub("", open(path, encoding="utf-8").read())
-        names |= {m[1] for m in DECL.finditer(text)}
+        names |= {m[1] for m in DECL.finditer(text)} | set(RULESET.findall(text))
         bound |= {w for m in BINDER.finditer(text) for w in m[1].split()}
     turn = {}
     for n in sorted(names | bound):

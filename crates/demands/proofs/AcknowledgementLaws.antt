@@ -2,7 +2,7 @@
 -- that header's, and its form is the one that was written. Assumes nothing.
 --   unstamped, h, pdu   the header before and after it is stamped, and its PDU
 --   goes_out            it is sent, where a SEQ is left
---   made_by_law   what was made
+--   made_by_law         what was made
 --   formed, form_is     what is read
 use mathlib.Core.Bool.{true, false}
 use mathlib.Core.List.{List}
