@@ -48,7 +48,7 @@ def table():
         bound |= {w for m in BINDER.finditer(text) for w in m[1].split()}
     turn = {}
     for n in sorted(names | bound):
-        if "-" in n.strip("-") and re.fullmatch(r"[\w′'₀-₉-]+", n) or re.fullmatch(r"[a-z]\w*[a-z0-9][A-Z]\w*", n):
+        if n in APART or "-" in n.strip("-") and re.fullmatch(r"[\w′'₀-₉-]+", n) or re.fullmatch(r"[a-z]\w*[a-z0-9][A-Z]\w*", n):
             turn[n] = snake(n)
     apart(names, turn)
     return names, turn
