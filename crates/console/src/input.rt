@@ -44,7 +44,7 @@ struct Piece {
 // Gathers the octets of a block from `at` to the next newline, or to the end of the block.
 fn gather(block: &[u8], at: usize, line: &mut [u8], gathered: usize) -> Piece
     requires { at < length block.now }
-    ensures at_lt_at { at < result.at }
+    ensures further { at < result.at }
     ensures gathers { Gathers (length line.old) (take gathered line.old) (drop at block.now) result.whole (take result.gathered line.new) (drop result.at block.now) }
 {
     let end = text::until(block, at, b'\n');

@@ -10,11 +10,11 @@ returns-then-end-block c =
     let put = c in
     let first = c in
     let until = c in
-    record { at_lt_at = search rules; gathers = gathers_whole _ _ _ _ _ _ _ _ c.until-end.ensures.value c.first.ensures c.put-more.ensures (omega arith) }
+    record { further = search rules; gathers = gathers_whole _ _ _ _ _ _ _ _ c.until-end.ensures.value c.first.ensures c.put-more.ensures (omega arith) }
 
 pub returns : goal.returns
 returns c =
     let put = c in
     let first = c in
     let until = c in
-    record { at_lt_at = search rules; gathers = gathers_part _ _ _ _ _ _ _ _ c.until-end.ensures.value c.first.ensures c.put-more.ensures (omega arith) }
+    record { further = search rules; gathers = gathers_part _ _ _ _ _ _ _ _ c.until-end.ensures.value c.first.ensures c.put-more.ensures (omega arith) }

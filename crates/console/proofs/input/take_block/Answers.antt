@@ -14,7 +14,7 @@ use Rattle.console.proofs.TurnLaws.{ended_hear, ended_step, turn_whole, turn_par
 use Rattle.console.proofs.input.take_block.Goals as goal
 
 pub loop-at-smaller-in-Hear : goal.loop-at-smaller-in-Hear
-loop-at-smaller-in-Hear c = omega (arith, c.gather-piece.ensures.at_lt_at, c.loop-at-test.true)
+loop-at-smaller-in-Hear c = omega (arith, c.gather-piece.ensures.further, c.loop-at-test.true)
 
 pub loop-at-preserved-in-Hear : goal.loop-at-preserved-in-Hear
 loop-at-preserved-in-Hear c =
@@ -30,7 +30,7 @@ loop-at-preserved-in-Hear c =
     )
 
 pub loop-at-smaller-in_default : goal.loop-at-smaller-in_default
-loop-at-smaller-in_default c = omega (arith, c.gather-piece.ensures.at_lt_at, c.loop-at-test.true)
+loop-at-smaller-in_default c = omega (arith, c.gather-piece.ensures.further, c.loop-at-test.true)
 
 pub loop-at-preserved-in_default : goal.loop-at-preserved-in_default
 loop-at-preserved-in_default c =
