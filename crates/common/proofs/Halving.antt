@@ -2,7 +2,7 @@
 -- search of all. Where the test holds up to a place and not from there on, halving ends at that place. Assumes nothing.
 --   reach                            how many places n looks settle
 --   halve_enough                     more looks make no difference
---   Halving, halving-..              the loop's invariant
+--   Halving, halving_..              the loop's invariant
 --   Falls, Found, halve_finds        what is found
 use mathlib.Core.Bool.{Bool, true, false, false≢true}
 use mathlib.Core.Path.{◌≡◌, refl, sym, ◌∙◌}

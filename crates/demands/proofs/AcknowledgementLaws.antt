@@ -30,7 +30,7 @@ use Rattle.transport.proofs.ReadsBack.{acknowledgement_reads_back}
 use Rattle.node.specs.Made.{WellMade}
 use Rattle.receiver.specs.declared.state.Receiver.{Receiver}
 use Rattle.sending.specs.declared.acknowledge.Chosen.{Chosen}
-use Rattle.sending.specs.declared.answer.Answer as said-answer
+use Rattle.sending.specs.declared.answer.Answer as said_answer
 use Rattle.sending.specs.declared.answer.Spoken.{Spoken}
 use Rattle.sending.specs.Acknowledge.{acknowledgement_header}
 use Rattle.sending.specs.Request.{unnamed_ttl}
@@ -114,7 +114,7 @@ module _ (r : Receiver) (element net src : ℕ) (c : Chosen) (buf : List ℕ) wh
         can =
             subst (λ (z : Header). sealable (key_at keys net) z ≡ true) header_is (subst (λ (k : ℕ). sealable (key_at keys k) y ≡ true) key_is x.transmitted_is.can);
         pdu_is =
-            ap (λ (a : said-answer.Answer). take (length_by a) b) x.says ∙ x.transmitted_is.pdu ∙ ap (λ (k : ℕ). pdu_of (key_at keys k) y) key_is
+            ap (λ (a : said_answer.Answer). take (length_by a) b) x.says ∙ x.transmitted_is.pdu ∙ ap (λ (k : ℕ). pdu_of (key_at keys k) y) key_is
             ∙ ap (pdu_of (key_at keys net)) header_is;
       }
 

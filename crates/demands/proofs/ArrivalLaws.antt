@@ -188,10 +188,10 @@ module _ (node : Node) (speeches : List Speech) (spent : Spent) where
       answered_new : seen r.cache h ≡ false → SegmentAnswered node s (filled k) i msg (step r (Hear pdu fwd msg))
       answered_new e =
           let l = leaves e in
-          let tried_as_law : (step r (Hear pdu fwd msg)).tried ≡ record { network = trials; application = t.answer.trials } =
+          let tried_counts : (step r (Hear pdu fwd msg)).tried ≡ record { network = trials; application = t.answer.trials } =
           ap (λ (n : ℕ). record { network = n; application = (hearing r pdu fwd msg).heard.application }) l.network_is
           ∙ ap (λ (n : ℕ). record { network = trials; application = n }) l.application_is in
-          same_answered node s (filled k) i msg (left_taken node s t) (step r (Hear pdu fwd msg)) (ap Heard l.answers) l.message_is tried_as_law steps.answers
+          same_answered node s (filled k) i msg (left_taken node s t) (step r (Hear pdu fwd msg)) (ap Heard l.answers) l.message_is tried_counts steps.answers
 
       -- each speech's stage behind it
       more_stages :

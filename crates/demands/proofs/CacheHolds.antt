@@ -22,7 +22,7 @@ use Rattle.memory.proofs.Remembered.{further_append, holds_last, seen_exactly, a
 use Rattle.memory.proofs.CacheLaws.{seen_place}
 use Rattle.node.specs.declared.setup.Setup.{Setup}
 use Rattle.node.specs.Addresses.{is_local}
-use Rattle.receiver.specs.declared.answer.Answer as heard-answer
+use Rattle.receiver.specs.declared.answer.Answer as heard_answer
 use Rattle.receiver.specs.declared.answer.Answer.TheVariants.{Refused, Stored, Repeated, Access, Control, Acknowledgement}
 use Rattle.receiver.specs.declared.answer.Refusal.{Refusal}
 use Rattle.receiver.specs.declared.fresh.Answer.TheVariants.{Ready}
@@ -66,7 +66,7 @@ late_passes n e =
     rw (ne_eqb m 16 (λ s. omega arith), ne_eqb m 22 (λ s. omega arith), le-leb 1 m (omega arith)) (lt-leb m _ (omega arith))
 
 -- what is entered is refused behind the cache, or not at all
-entered_passes : (a : heard-answer.Answer) → ((n : Refusal) → a ≡ Refused n → late n ≡ true) → stopped (number_of (Heard a)) ≡ false
+entered_passes : (a : heard_answer.Answer) → ((n : Refusal) → a ≡ Refused n → late n ≡ true) → stopped (number_of (Heard a)) ≡ false
 entered_passes (Refused n) f = late_passes n (f n refl)
 entered_passes (Stored src auth bits) f = refl
 entered_passes (Repeated src auth bits) f = refl

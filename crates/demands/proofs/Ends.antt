@@ -18,11 +18,11 @@ use Rattle.common.specs.Paper as given
 use Rattle.common.proofs.Tests.{by_test, and_first, and_second}
 use Rattle.network.specs.declared.header.Header.{Header}
 use Rattle.memory.specs.declared.outgoing.Outgoing.{Outgoing}
-use Rattle.receiver.specs.declared.answer.Answer as heard-answer
+use Rattle.receiver.specs.declared.answer.Answer as heard_answer
 use Rattle.receiver.specs.declared.answer.Answer.TheVariants.{Refused, Stored, Repeated, Access, Control, Acknowledgement}
 use Rattle.receiver.specs.declared.answer.Refusal.{Refusal}
 use Rattle.receiver.specs.declared.answer.Refusal.TheVariants as refusal
-use Rattle.receiver.specs.declared.give_up.Answer.TheVariants as give-up
+use Rattle.receiver.specs.declared.give_up.Answer.TheVariants as give_up
 use Rattle.receiver.specs.declared.give_up.GivenUp.{GivenUp}
 use Rattle.receiver.specs.declared.state.Receiver.{Receiver}
 use Rattle.receiver.specs.Answer.{refusal_number, paper}
@@ -76,7 +76,7 @@ late_changes n l =
 
 -- ---- hearing
 -- which refusal an answer is
-refused_as : (a : heard-answer.Answer) → is_refused (Heard a) ≡ true → (n : Refusal) × (a ≡ Refused n)
+refused_as : (a : heard_answer.Answer) → is_refused (Heard a) ≡ true → (n : Refusal) × (a ≡ Refused n)
 refused_as (Refused n) t = (n, refl)
 refused_as (Stored src auth bits) t = absurd (false≢true t)
 refused_as (Repeated src auth bits) t = absurd (false≢true t)
@@ -141,7 +141,7 @@ module _ (r : Receiver) where
   abbrev EndedEnds : GivenUp → Type 0
   EndedEnds g = Ends r of_asking [] [] (left_ended g)
 
-  not_there : EndedEnds (record { answer = give-up.Refused refusal.OutsideRules; receiver = r })
+  not_there : EndedEnds (record { answer = give_up.Refused refusal.OutsideRules; receiver = r })
   not_there =
       record {
         answers = refl;
@@ -149,7 +149,7 @@ module _ (r : Receiver) where
         message_stays = λ _. refl;
       }
 
-  given_up_law : (q : Receiver) → EndedEnds (record { answer = give-up.Done; receiver = q })
+  given_up_law : (q : Receiver) → EndedEnds (record { answer = give_up.Done; receiver = q })
   given_up_law q = record { answers = refl; everything = λ t. absurd (false≢true t); message_stays = λ _. refl }
 
 -- ---- the calls

@@ -32,7 +32,7 @@ use Rattle.node.specs.declared.addresses.Node.{Node}
 use Rattle.node.specs.Made.{WellMade}
 use Rattle.receiver.specs.declared.state.Receiver.{Receiver}
 use Rattle.receiver.specs.Good.{Good}
-use Rattle.sending.specs.declared.answer.Answer as said-answer
+use Rattle.sending.specs.declared.answer.Answer as said_answer
 use Rattle.sending.specs.declared.answer.Spoken.{Spoken}
 use Rattle.sending.specs.declared.request.Request.{Request}
 use Rattle.sending.specs.Access as access
@@ -272,7 +272,7 @@ last_answered sender q words buf good sent w =
 whole_way :
     (sender : Receiver) (q : Request) (words : Words) (buf : List ℕ) → goes_whole words ≡ true → Way sender q words (sending_as sender q words buf)
     → seg_n_as (left_said (sending_as sender q words buf)).answer ≡ 0
-whole_way sender q words buf w (Whole a v g) = ap (λ (x : said-answer.Answer). seg_n_as (Said x)) g.says
+whole_way sender q words buf w (Whole a v g) = ap (λ (x : said_answer.Answer). seg_n_as (Said x)) g.says
 whole_way sender q words buf w (Begun a v g) = absurd (true≢false (sym w ∙ v))
 
 pub whole_answered :

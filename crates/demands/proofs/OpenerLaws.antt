@@ -3,7 +3,7 @@
 --   opener_key, opener_additional   the opener's key and additional data
 --   label_short                     it has at most sixteen octets
 --   key_held                        a pair that is tried has a key that is held
---   plain-..                        a message to an address that is not virtual, under the first application key
+--   plain_..                        a message to an address that is not virtual, under the first application key
 use mathlib.Core.Bool.{Bool, true, false, true≢false}
 use mathlib.Core.List.{List, []}
 use mathlib.Core.Path.{◌≡◌, refl, sym, ◌∙◌}

@@ -14,7 +14,7 @@ use Rattle.node.specs.Made.{WellMade}
 use Rattle.node.specs.Setup.{making}
 use Rattle.node.proofs.IndexLaws.{local_fixed}
 use Rattle.node.proofs.SetupLaws.{local_is_unicast}
-use Rattle.receiver.specs.declared.answer.Answer as heard-answer
+use Rattle.receiver.specs.declared.answer.Answer as heard_answer
 use Rattle.receiver.specs.declared.answer.Answer.TheVariants.{Refused, Stored, Repeated, Access, Control, Acknowledgement}
 use Rattle.receiver.specs.declared.answer.Refusal.TheVariants.{OwnSource}
 use Rattle.receiver.specs.declared.state.Receiver.{Receiver}
@@ -33,7 +33,7 @@ use Rattle.demands.proofs.Left.{walk_step}
 use Rattle.demands.proofs.Still.{fixed_step}
 
 -- ---- 22
-own_answer : (a : heard-answer.Answer) → number_of (Heard a) ≡ 22 → a ≡ Refused OwnSource
+own_answer : (a : heard_answer.Answer) → number_of (Heard a) ≡ 22 → a ≡ Refused OwnSource
 own_answer (Refused n) e = ap Refused (number_apart n OwnSource e)
 own_answer (Stored src auth bits) e = absurd (omega arith)
 own_answer (Repeated src auth bits) e = absurd (omega arith)

@@ -24,7 +24,7 @@ use Rattle.receiver.specs.declared.fresh.Answer.TheVariants.{Ready}
 use Rattle.receiver.specs.declared.state.Receiver.{Receiver}
 use Rattle.receiver.specs.Fresh.{setting_up}
 use Rattle.receiver.proofs.Good.{good_fresh}
-use Rattle.sending.specs.declared.answer.Answer as said-answer
+use Rattle.sending.specs.declared.answer.Answer as said_answer
 use Rattle.sending.specs.declared.answer.Spoken.{Spoken}
 use Rattle.sending.specs.declared.request.Request.{Request}
 use Rattle.sending.specs.Request.{ttl_of}
@@ -99,7 +99,7 @@ module _ (sender : Receiver) (setup : Setup) (q : Request) (words : Words) (buf 
 
     read_segments : ReadAs (left_said said)
     read_segments =
-        let these : made_as (left_said said) ≡ ps = ap (λ (x : said-answer.Answer). first ∷ pieces_as (Said x) said.answer.receiver l) g.says in
+        let these : made_as (left_said said) ≡ ps = ap (λ (x : said_answer.Answer). first ∷ pieces_as (Said x) said.answer.receiver l) g.says in
         let last = last_begun sender b.good node b.shared q words a buf g in
         subst (λ (x : List Piece). Read x (seg_n_as (left_said said).answer)) (sym these) (subst (Read ps) (sym last) read_these)
 
@@ -144,8 +144,8 @@ module _ (sender : Receiver) (setup : Setup) (q : Request) (words : Words) (buf 
 
     read_one : ReadAs (left_said said)
     read_one =
-        let these : made_as (left_said said) ≡ first ∷ [] = ap (λ (x : said-answer.Answer). first ∷ pieces_as (Said x) said.answer.receiver l) g.says in
-        let none : seg_n_as (left_said said).answer ≡ 0 = ap (λ (x : said-answer.Answer). seg_n_as (Said x)) g.says in
+        let these : made_as (left_said said) ≡ first ∷ [] = ap (λ (x : said_answer.Answer). first ∷ pieces_as (Said x) said.answer.receiver l) g.says in
+        let none : seg_n_as (left_said said).answer ≡ 0 = ap (λ (x : said_answer.Answer). seg_n_as (Said x)) g.says in
         subst (λ (x : List Piece). Read x (seg_n_as (left_said said).answer)) (sym these) (subst (Read (first ∷ [])) (sym none) read_these_whole)
 
 -- ---- by the words

@@ -122,9 +122,9 @@ spares_after r (c ∷ l) g s = spares_after (step r c).receiver l (good_step r c
 unanswered : (r : Receiver) → Good r → Lists Spared r → (net src : ℕ) (buf : List ℕ) → is_reserved src ≡ true → (step r (Acknowledge net src buf)).made ≡ true → ⊥
 unanswered r good s net src buf t =
     let other : (a : ℕ) → Spared a → a ≡ src → ⊥ = λ a u e. true≢false (sym t ∙ ap is_reserved (sym e) ∙ u) in
-    let no_session_law = place_nowhere r.sessions good.sessions_kept.places (record { src = src }) (λ i e. other _ (s.held i) (ap (λ (k : SessionKey). k.src) e)) in
-    let no-entry = look_up_nowhere r.replay src (λ i. other _ (s.entries i)) in
-    let none = ap (λ (c : Chosen). c.dst) (chosen_last r.replay r.sessions src (reserved_some src t) no_entry no_session_law no-entry) in
+    let none_open = place_nowhere r.sessions good.sessions_kept.places (record { src = src }) (λ i e. other _ (s.held i) (ap (λ (k : SessionKey). k.src) e)) in
+    let none_listed = look_up_nowhere r.replay src (λ i. other _ (s.entries i)) in
+    let none = ap (λ (c : Chosen). c.dst) (chosen_last r.replay r.sessions src (reserved_some src t) no_entry none_open none_listed) in
     walk_acknowledge r buf (λ (s : Lent Spoken). made_by s.answer.answer ≡ true → ⊥) (λ _ _ m. false≢true m) net src
     (λ unicast _ _. unicast_some (chosen r.replay r.sessions src).dst unicast none)
 

@@ -1,23 +1,23 @@
 -- The receiver's public calls, what each leaves, and a run of them: what the theorems about lists of calls speak of.
---   Call         one call, with what it is given and the buffers that it is lent
---   lent_for c   the buffer that it is lent for a PDU
---   message_for c the buffer that it is lent for a message
---   Outcome      what a call leaves: the new state, its answer, the lent buffers, the PDU that it made, the keys tried
---   step r c     what call c leaves of receiver r
---   run r l      what each call of a list leaves
---   after r l    the receiver behind the last
+--   Call            one call, with what it is given and the buffers that it is lent
+--   lent_for c      the buffer that it is lent for a PDU
+--   message_for c   the buffer that it is lent for a message
+--   Outcome         what a call leaves: the new state, its answer, the lent buffers, the PDU that it made, the keys tried
+--   step r c        what call c leaves of receiver r
+--   run r l         what each call of a list leaves
+--   after r l       the receiver behind the last
 -- step_by, run_by and after_by are given the operations of a replay list: by another list's they are a receiver with that list.
 use Rattle.std.specs.Prelude.{Bool, true, false, List, [], ◌∷◌, ℕ}
 use Rattle.common.specs.Lent.{Lent}
 use Rattle.transport.specs.declared.securing.MessageKey.{MessageKey}
 use Rattle.memory.specs.Replay.{Listing, ascending}
-use Rattle.receiver.specs.declared.answer.Answer as heard-answer
-use Rattle.receiver.specs.declared.give_up.Answer as ended-answer
+use Rattle.receiver.specs.declared.answer.Answer as heard_answer
+use Rattle.receiver.specs.declared.give_up.Answer as ended_answer
 use Rattle.receiver.specs.declared.give_up.GivenUp.{GivenUp}
 use Rattle.receiver.specs.declared.state.Receiver.{Receiver}
 use Rattle.receiver.specs.GiveUp.{giving_up}
 use Rattle.receiver.specs.Hearing as hear
-use Rattle.sending.specs.declared.answer.Answer as said-answer
+use Rattle.sending.specs.declared.answer.Answer as said_answer
 use Rattle.sending.specs.declared.answer.Answer.TheVariants.{Sent, Started, Refused}
 use Rattle.sending.specs.declared.answer.Spoken.{Spoken}
 use Rattle.sending.specs.declared.request.Request.{Request}
@@ -62,9 +62,9 @@ message_for Stop = []
 -- ---- what a call leaves
 -- what it answers, by the kind of call
 pub data Answer : Type 0 where
-  Heard : heard-answer.Answer → Answer
-  Said : said-answer.Answer → Answer
-  Ended : ended-answer.Answer → Answer
+  Heard : heard_answer.Answer → Answer
+  Said : said_answer.Answer → Answer
+  Ended : ended_answer.Answer → Answer
 
 -- how many keys an answer counts as tried
 pub record Tried : Type 0 where
@@ -84,12 +84,12 @@ pub record Outcome : Type 0 where
   pub tried : Tried
 
 -- the answer of a call that sends tells of a PDU, and of its octets
-abbrev pub made_by : said-answer.Answer → Bool
+abbrev pub made_by : said_answer.Answer → Bool
 made_by (Sent len) = true
 made_by (Started len seg_n) = true
 made_by (Refused n) = false
 
-abbrev pub length_by : said-answer.Answer → ℕ
+abbrev pub length_by : said_answer.Answer → ℕ
 length_by (Sent len) = len
 length_by (Started len seg_n) = len
 length_by (Refused n) = 0

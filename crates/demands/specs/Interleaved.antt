@@ -28,7 +28,7 @@ use Rattle.node.specs.declared.addresses.Node.{Node}
 use Rattle.node.specs.declared.setup.Setup.{Setup}
 use Rattle.node.specs.Addresses.{is_local}
 use Rattle.receiver.specs.declared.fresh.Answer.TheVariants.{Ready}
-use Rattle.receiver.specs.declared.answer.Answer as heard-answer
+use Rattle.receiver.specs.declared.answer.Answer as heard_answer
 use Rattle.receiver.specs.declared.answer.Answer.TheVariants as answer
 use Rattle.receiver.specs.declared.answer.Refusal.{Refusal}
 use Rattle.receiver.specs.declared.answer.Refusal.TheVariants as refusal
@@ -309,7 +309,7 @@ in_turn zero l = []
 in_turn (suc n) l = in_turn n l ++ arrivals_of n l
 
 -- all that a run hands up of a source
-abbrev pub source_of : heard-answer.Answer → ℕ
+abbrev pub source_of : heard_answer.Answer → ℕ
 source_of (answer.Refused n) = 0
 source_of (answer.Stored src auth bits) = src
 source_of (answer.Repeated src auth bits) = src

@@ -21,7 +21,7 @@ use Rattle.transport.specs.Segment.{message_octets}
 use Rattle.node.specs.declared.addresses.Node.{Node}
 use Rattle.node.specs.declared.setup.Setup.{Setup}
 use Rattle.node.specs.Addresses.{is_local, for_node, held_by}
-use Rattle.receiver.specs.declared.answer.Answer.TheVariants as heard-answer
+use Rattle.receiver.specs.declared.answer.Answer.TheVariants as heard_answer
 use Rattle.receiver.specs.declared.answer.Refusal.TheVariants.{Cached}
 use Rattle.receiver.specs.declared.fresh.Answer.TheVariants.{Ready}
 use Rattle.receiver.specs.declared.state.Receiver.{Receiver}
@@ -234,7 +234,7 @@ pub record Reads (node : Node) (s : Speech) (seg_n bits i : ℕ) (o : Outcome) :
   -- one that is new is stored where another is missing
   pub stores : has_bit bits i ≡ false → is_last_missing bits i seg_n ≡ false → is_stored o.answer ≡ true
   -- a message that went whole is refused 5 when it comes again
-  pub again : goes_whole s.words ≡ true → has_bit bits i ≡ true → o.answer ≡ Heard (heard-answer.Refused Cached)
+  pub again : goes_whole s.words ≡ true → has_bit bits i ≡ true → o.answer ≡ Heard (heard_answer.Refused Cached)
   -- network keys are tried up to the message's own, and pairs likewise where it is handed up
   pub counts :
       o.tried ≡ record { network = network_place node s; application = if is_last_missing bits i seg_n then application_place node s s.words else 0 }

@@ -1,6 +1,6 @@
 -- A list of places, each held under a key or empty, in which a key is looked for from the front. What is found has the key; setting a place changes only what is found of the key that
 -- stood there and of the one that is put there; and no key stands twice where each is put into its own place, or into any while it has none. Of any elements and keys. Assumes nothing.
---   each-..      what holds at each place
+--   each_..      what holds at each place
 --   Keyed        how the key of an element is read and compared, and which keys are none
 --   place, free  where a key is found, and the first empty place
 --   Apart        no key stands twice

@@ -1,10 +1,10 @@
 -- The replay list is a map from sources: what is inserted is looked up, and every other source's entry stays. It stays as it is kept; and where fewer sources than there are entries have
 -- one, there is room for any. Assumes nothing.
---   lookUp-.., hasRoom-..   what is found, and that there is room
---   kept-..                 the list stays as it is kept
---   each-..                 what holds of every entry's source
---   Listed, listed_or_none  which sources have an entry
---   room_left               and that there is room
+--   look_up_.., has_room_..   what is found, and that there is room
+--   kept_..                   the list stays as it is kept
+--   each_..                   what holds of every entry's source
+--   Listed, listed_or_none    which sources have an entry
+--   room_left                 and that there is room
 use mathlib.Core.Bool.{true, false, true≢false}
 use mathlib.Core.List.{List}
 use mathlib.Core.Logic.{◌⊎◌, inl, inr, ⊎_elim}

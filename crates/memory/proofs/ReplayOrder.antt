@@ -1,7 +1,7 @@
 -- A replay list in ascending order: that an entry is before a source holds up to the source's place, and not from there on, so halving ends where it stands, and it is looked up there. No
 -- source stands twice, and an empty place is behind all that are used. Assumes nothing.
 --   entries_keyed                 entries as elements with a key
---   before-.., found              which entries stand before a source
+--   before_.., found              which entries stand before a source
 --   sources_apart                 no source stands twice
 --   last_free_law, last_free_by   where a place is empty the last is
 --   ends_there                    halving ends where a source stands

@@ -1,8 +1,8 @@
 -- The sessions are searched by key: what is found under a key is its session; a slot that is set changes nothing for other keys; no two sessions have one key; where eight speak, one that has
 -- no session finds a free slot. Assumes nothing.
 --   sessions_keyed                the key of a session, as lists that are searched by key have one
---   place-.., session-.., free-   what is found
---   apart-..                      no two have one key
+--   place_.., session_.., free-   what is found
+--   apart_..                      no two have one key
 --   SessionsOwned, session_free   whose they are, and that a slot is free
 use mathlib.Core.Bool.{true, false, true≢false}
 use mathlib.Core.List.{List, []}

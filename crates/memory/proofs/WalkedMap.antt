@@ -1,8 +1,8 @@
 -- The old list is a map from sources, too: what is inserted is looked up, and every other source's entry stays, for an entry goes where its source's stood or none did. It stays as it is
 -- kept: all its places are there, and no source stands twice. Assumes nothing.
---   WalkedKept              how it is kept
---   lookUp-.., hasRoom-..   what is found, and that there is room
---   kept-..                 it stays as it is kept
+--   WalkedKept                how it is kept
+--   look_up_.., has_room_..   what is found, and that there is room
+--   kept_..                   it stays as it is kept
 use mathlib.Core.Bool.{true, false, true≢false}
 use mathlib.Core.List.{List}
 use mathlib.Core.Logic.{◌⊎◌, inl, inr}

@@ -1,10 +1,10 @@
 -- An address has its kind by its range (`KindExactly`): the tests before say that it is no other's. SRC and DST are allowed where each is. Assumes nothing.
 --   ranged, kind_in                where an address of a kind lies, and which kind has it
 --   kind_exactly                   `KindExactly`
---   unicast-..                     0x0001-0x7FFF are unicast, and no others
---   reserved_some, -not-unicast    a reserved address is not 0 and not unicast
+--   unicast_..                     0x0001-0x7FFF are unicast, and no others
+--   reserved_some, _not_unicast    a reserved address is not 0 and not unicast
 --   not_reserved                   one of another kind is not reserved
---   reserved_told, -untold         what the code answers, by the variant of its kind
+--   reserved_told, _untold         what the code answers, by the variant of its kind
 --   addresses_allowed_law          a unicast SRC and a DST that may be sent to are allowed
 --   allowed_source, allowed_some   where they are allowed, SRC is unicast and DST is not 0
 --   allowed_by_kind, allowed_not   what the code answers, by its test of SRC
@@ -69,6 +69,7 @@ unicast_bounds a u = (kind_exactly a Unicast).0 (unicast_kind_law a u)
 pub unicast_some : (a : ℕ) → is_unicast a ≡ true → a ≡ 0 → ⊥
 unicast_some a u e = let b = (unicast_bounds a u).0 in omega arith
 
+-- ---- reserved
 untold : (k : AddressKind) → (k ≡ Reserved → ⊥) → false ≡ reserved_kind k
 untold Unassigned n = refl
 untold Unicast n = refl

@@ -1,5 +1,5 @@
 -- Opening a PDU from the code's tests: each answer follows from the tests before it, and its number tells it from every other.
--- Key laws: `paper_apart`; the answers `judge-..` of the candidates' search and `open-..` of a call, each named for what is wrong. Assumes nothing.
+-- Key laws: `paper_apart`; the answers `judge_..` of the candidates' search and `open_..` of a call, each named for what is wrong. Assumes nothing.
 use mathlib.Core.Bool.{Bool, true, false, not}
 use mathlib.Core.List.{List, [], ◌∷◌}
 use mathlib.Core.Path.{◌≡◌, refl, sym, ap, ◌∙◌}

@@ -1,5 +1,5 @@
 -- Sealing and forwarding from the code's steps: which test refuses a header, and how the body and then the front in place make the whole PDU.
--- Key laws: `sealable-..`, one for each test; `body_written`, `front_written`, `pdu_written`; the answers `seal-..` and `forward-..`.
+-- Key laws: `sealable_..`, one for each test; `body_written`, `front_written`, `pdu_written`; the answers `seal_..` and `forward_..`.
 -- Assumes nothing.
 use mathlib.Core.Path.{◌≡◌, refl, sym, ap, ap₂, ◌∙◌}
 use mathlib.Core.Bool.{Bool, true, false, not}

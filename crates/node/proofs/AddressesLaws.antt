@@ -2,8 +2,8 @@
 -- Assumes nothing.
 --   local_low, local_near, local_far     whether an address is local, by its place behind the first
 --   local_within, local_bounds           it is where it lies among the elements', and nowhere else
---   answers-..                           whether the node answers to it
---   for-..                               whether a PDU is for this node
+--   answers_..                           whether the node answers to it
+--   for_..                               whether a PDU is for this node
 use mathlib.Core.Bool.{Bool, true, false, ◌&&◌}
 use mathlib.Core.Path.{◌≡◌, refl}
 use Prim.Native.Nat.{ℕ, ◌+◌, ◌-◌, ◌≤◌, ◌<◌, min}

@@ -17,13 +17,13 @@ use Rattle.receiver.specs.declared.answer.Refusal as refusal
 use Rattle.receiver.specs.declared.answer.Refusal.TheVariants as refusals
 use Rattle.receiver.specs.declared.answer.Answer.{Answer}
 use Rattle.receiver.specs.declared.answer.Answer.TheVariants.{Refused, Stored, Repeated, Access, Control, Acknowledgement}
-use Rattle.receiver.specs.declared.fresh.Answer as fresh-answer
-use Rattle.receiver.specs.declared.fresh.Answer.TheVariants as fresh-answers
-use Rattle.receiver.specs.declared.give_up.Answer as ended-answer
-use Rattle.receiver.specs.declared.give_up.Answer.TheVariants as ended-answers
+use Rattle.receiver.specs.declared.fresh.Answer as fresh_answer
+use Rattle.receiver.specs.declared.fresh.Answer.TheVariants as fresh_answers
+use Rattle.receiver.specs.declared.give_up.Answer as ended_answer
+use Rattle.receiver.specs.declared.give_up.Answer.TheVariants as ended_answers
 use Rattle.receiver.specs.Answer.{refusal_number, NumberApart, Word, stored, repeat, access, control, acknowledgement, paper, PaperApart}
 use Rattle.receiver.specs.Fresh as fresh
-use Rattle.receiver.specs.GiveUp as give-up
+use Rattle.receiver.specs.GiveUp as give_up
 
 -- ---- a refusal by its number
 abbrev early : List refusal.Refusal
@@ -96,24 +96,24 @@ pub paper_apart : PaperApart
 paper_apart = told_apart paper read back
 
 -- ---- of setting up, and of giving up
-abbrev read_ready : Paper fresh.Word → fresh-answer.Answer
-read_ready (Refusal n v) = fresh-answers.Refused (refusal_of n)
-read_ready (Given fresh.ready v) = fresh-answers.Ready
+abbrev read_ready : Paper fresh.Word → fresh_answer.Answer
+read_ready (Refusal n v) = fresh_answers.Refused (refusal_of n)
+read_ready (Given fresh.ready v) = fresh_answers.Ready
 
-ready_back : (a : fresh-answer.Answer) → read_ready (fresh.paper a) ≡ a
-ready_back fresh-answers.Ready = refl
-ready_back (fresh-answers.Refused n) = ap fresh-answers.Refused (refusal_back n)
+ready_back : (a : fresh_answer.Answer) → read_ready (fresh.paper a) ≡ a
+ready_back fresh_answers.Ready = refl
+ready_back (fresh_answers.Refused n) = ap fresh_answers.Refused (refusal_back n)
 
 pub ready_apart : fresh.PaperApart
 ready_apart = told_apart fresh.paper read_ready ready_back
 
-abbrev read_ended : Paper give-up.Word → ended-answer.Answer
-read_ended (Refusal n v) = ended-answers.Refused (refusal_of n)
-read_ended (Given give-up.ended v) = ended-answers.Done
+abbrev read_ended : Paper give_up.Word → ended_answer.Answer
+read_ended (Refusal n v) = ended_answers.Refused (refusal_of n)
+read_ended (Given give_up.ended v) = ended_answers.Done
 
-ended_back : (a : ended-answer.Answer) → read_ended (give-up.paper a) ≡ a
-ended_back ended-answers.Done = refl
-ended_back (ended-answers.Refused n) = ap ended-answers.Refused (refusal_back n)
+ended_back : (a : ended_answer.Answer) → read_ended (give_up.paper a) ≡ a
+ended_back ended_answers.Done = refl
+ended_back (ended_answers.Refused n) = ap ended_answers.Refused (refusal_back n)
 
-pub ended_apart : give-up.PaperApart
-ended_apart = told_apart give-up.paper read_ended ended_back
+pub ended_apart : give_up.PaperApart
+ended_apart = told_apart give_up.paper read_ended ended_back

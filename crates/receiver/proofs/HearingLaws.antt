@@ -10,7 +10,7 @@ use Rattle.common.specs.Lent.{lent}
 use Rattle.network.specs.declared.header.Header.{Header}
 use Rattle.network.specs.declared.opening.Answer.TheVariants as network
 use Rattle.network.specs.declared.opening.Opening.{Opening}
-use Rattle.network.specs.declared.sealing.Answer as sealing-answer
+use Rattle.network.specs.declared.sealing.Answer as sealing_answer
 use Rattle.network.specs.declared.sealing.Answer.TheVariants as sealing
 use Rattle.network.specs.Opening.{opening}
 use Rattle.network.specs.Sealing.{forwards, forwarding}
@@ -39,7 +39,7 @@ module _ (node : Node) (h : Header) (fwd : List ℕ) (local : Bool) (el : local 
   unfolding relayed
   relayed_not t = rw (← el, ← eo, not-true on t)
 
-  module _ (t : not on ≡ false) (a : sealing-answer.Answer) (left : List ℕ) (ea : lent a left ≡ forwarding node.materials h fwd) where
+  module _ (t : not on ≡ false) (a : sealing_answer.Answer) (left : List ℕ) (ea : lent a left ≡ forwarding node.materials h fwd) where
     pub relayed_sealed : (n : ℕ) → a ≡ sealing.Sealed n → lent n left ≡ relayed node h fwd
     unfolding relayed
     relayed_sealed n k = rw (← el, ← eo, not-false on t, ← ea, k)

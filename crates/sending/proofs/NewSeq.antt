@@ -13,7 +13,7 @@ use lib.Seq.{get_or-set_same, get_or-set_other}
 use Rattle.common.specs.Lent.{Lent, lent}
 use Rattle.common.proofs.Tests.{by_test, by_choice}
 use Rattle.network.specs.declared.header.Header.{Header}
-use Rattle.network.specs.declared.sealing.Answer as sealing-answer
+use Rattle.network.specs.declared.sealing.Answer as sealing_answer
 use Rattle.network.specs.declared.sealing.Answer.TheVariants as sealed
 use Rattle.network.specs.Candidates.{network_key_places, key_at}
 use Rattle.network.specs.Sealing.{sealing}
@@ -28,7 +28,7 @@ use Rattle.sending.specs.Transmission.{next_seq, with_next, stamped, sent_as, tr
 Sides : Receiver → ℕ → Transmitted → Type 0
 Sides r element t = ((is_sent t.answer ≡ true) × (t.receiver ≡ with_next r element)) ⊎ ((is_sent t.answer ≡ false) × (t.receiver ≡ r))
 
-sides_sealed : (a : sealing-answer.Answer) (r : Receiver) (element : ℕ) → Sides r element (sent_as a r element)
+sides_sealed : (a : sealing_answer.Answer) (r : Receiver) (element : ℕ) → Sides r element (sent_as a r element)
 unfolding sent_as Sides
 sides_sealed (sealed.Sealed n) r element = inl (refl, refl)
 sides_sealed sealed.OutsideRules r element = inr (refl, refl)
@@ -95,19 +95,19 @@ never_falls r element h buf any =
     (sides r element h buf)
 
 -- ---- what is sent was sealed
-sealed_as : Transmission → sealing-answer.Answer
+sealed_as : Transmission → sealing_answer.Answer
 sealed_as (Sent len) = sealed.Sealed len
 sealed_as NoSeqLeft = sealed.OutsideRules
 sealed_as Unsealed = sealed.OutsideRules
 
-sealed_of : (a : sealing-answer.Answer) (r : Receiver) (element len : ℕ) → (sent_as a r element).answer ≡ Sent len → a ≡ sealed.Sealed len
+sealed_of : (a : sealing_answer.Answer) (r : Receiver) (element len : ℕ) → (sent_as a r element).answer ≡ Sent len → a ≡ sealed.Sealed len
 unfolding sent_as sealed_as
 sealed_of (sealed.Sealed n) r element len e = ap sealed_as e
 sealed_of sealed.OutsideRules r element len e = absurd (false≢true (ap is_sent e))
 sealed_of sealed.ShortBuffer r element len e = absurd (false≢true (ap is_sent e))
 
 module _ (r : Receiver) (element : ℕ) (h : Header) (buf : List ℕ) (len : ℕ) where
-  sealing_made : Lent sealing-answer.Answer
+  sealing_made : Lent sealing_answer.Answer
   sealing_made = sealing (key_at r.node.materials h.key) (stamped r element h) buf
 
   Made : Lent Transmitted → Type 0
@@ -121,7 +121,7 @@ module _ (r : Receiver) (element : ℕ) (h : Header) (buf : List ℕ) (len : ℕ
       by_choice Made (ltb h.key network_key_places)
       (λ u e. (
         ltb-false 0xFFFFFF (next_seq r element) t,
-        ap (λ (a : sealing-answer.Answer). lent a sealing_made.buffer) (sealed_of sealing_made.answer r element len e),
+        ap (λ (a : sealing_answer.Answer). lent a sealing_made.buffer) (sealed_of sealing_made.answer r element len e),
       ))
       (λ u e. absurd (false≢true (ap is_sent e))))
 

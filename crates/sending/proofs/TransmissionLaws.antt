@@ -6,14 +6,14 @@ use Prim.Native.Nat.{ℕ, ◌≤◌, ◌<◌}
 use borrow.Author.Tests.{lt-ltb, le-ltb, eq-eqb, ne_eqb}
 use Rattle.common.specs.Lent.{lent}
 use Rattle.network.specs.declared.header.Header.{Header}
-use Rattle.network.specs.declared.sealing.Answer as sealing-answer
+use Rattle.network.specs.declared.sealing.Answer as sealing_answer
 use Rattle.network.specs.declared.sealing.Answer.TheVariants as sealed
 use Rattle.network.specs.Candidates.{network_key_places, key_at}
 use Rattle.network.specs.Sealing.{sealing}
 use Rattle.memory.specs.declared.outgoing.Outgoing.{Outgoing}
 use Rattle.memory.specs.Outgoing.{no_outgoing}
 use Rattle.receiver.specs.declared.answer.Refusal.TheVariants as refusal
-use Rattle.receiver.specs.declared.give_up.Answer.TheVariants as given_up_law
+use Rattle.receiver.specs.declared.give_up.Answer.TheVariants as given_up
 use Rattle.receiver.specs.declared.state.Receiver.{Receiver}
 use Rattle.receiver.specs.State.{with_outgoing}
 use Rattle.sending.specs.declared.answer.Answer.TheVariants as answer
@@ -35,7 +35,7 @@ module _ (r : Receiver) (element : ℕ) (h : Header) (buf : List ℕ) where
     unfolding transmitted
     transmit_no_key k = rw (le-ltb 0xFFFFFF (next_seq r element) n, le-ltb h.key network_key_places k)
 
-    module _ (k : h.key < network_key_places) (s : Header) (es : s ≡ stamped r element h) (a : sealing-answer.Answer) (left : List ℕ)
+    module _ (k : h.key < network_key_places) (s : Header) (es : s ≡ stamped r element h) (a : sealing_answer.Answer) (left : List ℕ)
         (ea : lent a left ≡ sealing (key_at r.node.materials h.key) s buf) where
       pub transmit_sent :
           (len : ℕ) → a ≡ sealed.Sealed len → (q : Receiver) → q ≡ with_next r element
@@ -89,13 +89,13 @@ pub ruleset spoken_rules = (spoken_sent, spoken_no_seq, spoken_unsealed)
 
 -- ---- 14, or given up
 module _ (r : Receiver) where
-  pub stop_none : r.out.src ≡ 0 → record { answer = given_up_law.Refused refusal.OutsideRules; receiver = r } ≡ stopping r
+  pub stop_none : r.out.src ≡ 0 → record { answer = given_up.Refused refusal.OutsideRules; receiver = r } ≡ stopping r
   unfolding stopping
   stop_none z = rw (eq-eqb r.out.src 0 z)
 
   pub stop_done :
       (r.out.src ≡ 0 → ⊥) → (o : Outgoing) → o ≡ no_outgoing → (q : Receiver) → q ≡ with_outgoing r o
-      → record { answer = given_up_law.Done; receiver = q } ≡ stopping r
+      → record { answer = given_up.Done; receiver = q } ≡ stopping r
   unfolding stopping
   stop_done z o eo q eq = rw (ne_eqb r.out.src 0 z, eq, eo)
 

@@ -1,8 +1,8 @@
 -- What a node said and what it answers, in words.
---   made answer        how many octets of the buffer are the PDU that was sent
---   handed_up answer   how many octets of the message buffer are the message that is handed up
---   said_text seq answer pdu what was sent with a SEQ, or the number of the refusal
---   answer_text answer       what a node answers to a PDU
+--   made answer                how many octets of the buffer are the PDU that was sent
+--   handed_up answer           how many octets of the message buffer are the message that is handed up
+--   said_text seq answer pdu   what was sent with a SEQ, or the number of the refusal
+--   answer_text answer         what a node answers to a PDU
 use Rattle.std.specs.Prelude.{List, ◌++◌, ℕ, take}
 use Prim.Native.String.{String}
 use Rattle.memory.specs.declared.outgoing.Effect.{Effect}

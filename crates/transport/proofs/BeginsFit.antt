@@ -1,9 +1,9 @@
 -- PDUs begin a message's segments exactly if each of them fits what PDU 0 states. The segments of an allowed message fit, for each has the front and the length of its place; and PDUs
 -- that fit begin the segments of what stands behind their fronts, filled up with zeros to SegN. One argument over the segment size. Assumes nothing.
---   joined_segments           what stands behind the fronts of u's segments is u
---   begins-states, begins-fit what PDU 0 of such a list states, and that each PDU fits that
---   Shown, fit_shown          PDUs that fit begin a message's segments, and its SegN is the one stated
---   fit_begins                the same where there may be none
+--   joined_segments             what stands behind the fronts of u's segments is u
+--   begins_states, begins_fit   what PDU 0 of such a list states, and that each PDU fits that
+--   Shown, fit_shown            PDUs that fit begin a message's segments, and its SegN is the one stated
+--   fit_begins                  the same where there may be none
 use mathlib.Core.Bool.{Bool, true, false}
 use mathlib.Core.List.{List, [], ◌∷◌, ◌++◌, flatten}
 use mathlib.Core.Path.{◌≡◌, refl, sym, ap, ap₂, ◌∙◌}

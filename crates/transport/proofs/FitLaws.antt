@@ -1,7 +1,7 @@
 -- What it means that a PDU fits: each test of the definition as a fact, and back. Of CTL five facts count, and no other law about vetting asks what it is. Assumes nothing.
 --   size_some to most_low     these facts
---   Filled, fills-..          how many octets a segment has
---   Fitting, fits-..          a PDU that fits
+--   Filled, fills_..          how many octets a segment has
+--   Fitting, fits_..          a PDU that fits
 --   Fit, fit_take, take_fit   each PDU of a list fits what PDU 0 states; the first PDUs of it
 use mathlib.Core.Bool.{Bool, true, false}
 use mathlib.Core.List.{List, []}

@@ -20,20 +20,20 @@ use Rattle.transport.specs.declared.vetting.Vetted.{Vetted}
 use Rattle.transport.specs.declared.vetting.Vetted.TheVariants as vetted
 use Rattle.transport.specs.Form as form
 use Rattle.transport.specs.Securing as securing
-use Rattle.transport.specs.SeqAuth as seq-auth
+use Rattle.transport.specs.SeqAuth as seq_auth
 use Rattle.transport.specs.Vetting as vetting
 
 -- ---- SeqAuth
-abbrev read_auth : Paper seq-auth.Word → SeqAuth
-read_auth (Given seq-auth.begun v) = At (get_or v 0 0)
+abbrev read_auth : Paper seq_auth.Word → SeqAuth
+read_auth (Given seq_auth.begun v) = At (get_or v 0 0)
 read_auth (Refusal n v) = Nowhere
 
-auth_back : (a : SeqAuth) → read_auth (seq-auth.paper a) ≡ a
+auth_back : (a : SeqAuth) → read_auth (seq_auth.paper a) ≡ a
 auth_back (At n) = refl
 auth_back Nowhere = refl
 
-pub auth_apart : seq-auth.PaperApart
-auth_apart = told_apart seq-auth.paper read_auth auth_back
+pub auth_apart : seq_auth.PaperApart
+auth_apart = told_apart seq_auth.paper read_auth auth_back
 
 -- ---- a form
 abbrev fields_at : List ℕ → ℕ → SegmentFields

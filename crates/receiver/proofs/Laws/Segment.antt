@@ -1,8 +1,8 @@
 -- A segment, by what stands in the receiver: it repeats, joins its source's session or opens one. A session with a segment more is stored, or complete and handed up.
 -- Assumes nothing.
 --   segmented_placed                             a segment whose SeqAuth is found is placed
---   placed-..                                    where, by what entry and session its source has
---   gathered-..                                  a session with a segment more
+--   placed_..                                    where, by what entry and session its source has
+--   gathered_..                                  a session with a segment more
 --   access_up_law, control_up_law, upgraded_is   a complete one
 use mathlib.Core.Bool.{true, false}
 use mathlib.Core.List.{List}

@@ -3,7 +3,7 @@
 -- `taken`, with what was tested on the way. That 13 leaves the buffer is transport's law about securing, and 16 cannot come back from there since the buffer's length was
 -- tested first. Assumes nothing.
 --   Goes         the session that a segment goes to
---   goes-..      its slot, and its key
+--   goes_..      its slot, and its key
 --   frees_slot   whether a refusal frees the slot of a completed session
 --   Ways         what holds on each way of a PDU that passes the cache
 --   walk_taken   so it holds of what such a PDU leaves

@@ -12,7 +12,7 @@ use lib.ListN.{length}
 use Rattle.common.specs.Lent.{Lent, lent}
 use Rattle.common.proofs.Tests.{by_test}
 use Rattle.network.specs.declared.header.Header.{Header}
-use Rattle.network.specs.declared.sealing.Answer as sealing-answer
+use Rattle.network.specs.declared.sealing.Answer as sealing_answer
 use Rattle.network.specs.declared.sealing.Answer.TheVariants as sealed
 use Rattle.network.specs.Address.{is_unicast}
 use Rattle.network.specs.Candidates.{network_key_places}
@@ -67,7 +67,7 @@ module _ (Both : List Entry → List Entry → Type 0) where
 
   module _ (f : Lent Transmitted → Lent Spoken) (a b : List Entry) (each : Each f a b) (r : Receiver) (element : ℕ) where
     agree_sealed :
-        (s : sealing-answer.Answer) (left : List ℕ)
+        (s : sealing_answer.Answer) (left : List ℕ)
         → Says (f (lent (sent_as s (with_replay r a) element) left)) (f (lent (sent_as s (with_replay r b) element) left))
     unfolding sent_as with_next
     agree_sealed (sealed.Sealed n) left = each (Sent n) (with_next r element) left

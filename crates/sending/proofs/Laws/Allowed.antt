@@ -5,7 +5,7 @@
 --   whole_short                           a message that goes whole is short
 --   access_alone, control_alone           a segmented message is begun where none is kept
 --   address_plain, label_is_virtual       an address that may be sent to is not virtual; a label's is
---   unicast-.., address_bare              the device key's messages go to a unicast address; to an address goes no additional data
+--   unicast_.., address_bare              the device key's messages go to a unicast address; to an address goes no additional data
 --   sendable_allowed                      the DST of a destination that may be sent to is one that may be sealed
 --   asked_spared                          and is not reserved
 --   segment_allowed_law, segment_allows   a segment is allowed where its tests pass, and there alone

@@ -1,9 +1,9 @@
 -- A call that sends refuses and leaves everything, or transmits a header and says so, or begins a message. What holds on each of these ways holds of the call:
 -- one walk down each call's chain of tests, with the tests that hold at its end. Assumes nothing.
---   walk-..                        each call
---   ..-whole, ..-begun, ..-sent    what a call says where its tests pass
---   acknowledgement-..             an acknowledgement, sent or refused
---   chosen-..                      what is acknowledged
+--   walk_..                        each call
+--   .._whole, .._begun, .._sent    what a call says where its tests pass
+--   acknowledgement_..             an acknowledgement, sent or refused
+--   chosen_..                      what is acknowledged
 use mathlib.Core.Bool.{Bool, true, false}
 use mathlib.Core.List.{List}
 use mathlib.Core.Path.{◌≡◌, refl}

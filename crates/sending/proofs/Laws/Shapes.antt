@@ -3,7 +3,7 @@
 --   header_sent                           the header of a transport PDU, as an element sends it
 --   whole_access_law, whole_control_law   a message that goes in one PDU is sent so
 --   segment_out                           and so is each segment of the message that is kept
---   acknowledgement_long, -out            and an acknowledgement, of seven octets
+--   acknowledgement_long, _out            and an acknowledgement, of seven octets
 --   segment_unheard                       whatever of it is heard
 --   Keeps, keeps_access, keeps_control    what is kept of a message in segments
 --   envelope_is                           what the second nonce rests on

@@ -19,7 +19,7 @@ use Rattle.common.specs.Lists.{onto}
 use Rattle.common.proofs.Tests.{by_choice}
 use Rattle.keys.specs.declared.NetworkKeys.{NetworkKeys}
 use Rattle.network.specs.declared.header.Header.{Header}
-use Rattle.network.specs.declared.sealing.Answer as sealing-answer
+use Rattle.network.specs.declared.sealing.Answer as sealing_answer
 use Rattle.network.specs.declared.sealing.Answer.TheVariants as sealed
 use Rattle.network.specs.Candidates.{network_key_places, key_at}
 use Rattle.network.specs.Pdu.{pdu_octets, pdu_of}
@@ -28,7 +28,7 @@ use Rattle.memory.specs.declared.outgoing.Outgoing.{Outgoing}
 use Rattle.memory.specs.Outgoing.{no_outgoing}
 use Rattle.receiver.specs.declared.answer.Refusal.{Refusal}
 use Rattle.receiver.specs.declared.answer.Refusal.TheVariants as refusal
-use Rattle.receiver.specs.declared.give_up.Answer.TheVariants as give-up
+use Rattle.receiver.specs.declared.give_up.Answer.TheVariants as give_up
 use Rattle.receiver.specs.declared.give_up.GivenUp.{GivenUp}
 use Rattle.receiver.specs.declared.state.Receiver.{Receiver}
 use Rattle.receiver.specs.Answer.{refusal_number}
@@ -101,7 +101,7 @@ module _ (r : Receiver) (element : ℕ) (h : Header) (buf : List ℕ) where
       → (Sends r element h buf → P (lent (record { answer = Sent (length pdu); receiver = used r element }) (onto pdu buf))) → P (transmitted r element h buf)
   unfolding transmitted sealing sent_as with_next
   by_transmitted P none unsealed sent =
-      let Q : Lent sealing-answer.Answer → Type 0 = λ s. P (lent (sent_as s.answer r element) s.buffer) in
+      let Q : Lent sealing_answer.Answer → Type 0 = λ s. P (lent (sent_as s.answer r element) s.buffer) in
       by_choice P (ltb 0xFFFFFF (next_seq r element)) (λ _. none)
       (λ t. by_choice P (ltb h.key network_key_places)
       (λ u. by_choice Q (ltb (length buf) pdu_octets) (λ _. unsealed)
@@ -141,7 +141,7 @@ module _ (r : Receiver) (element : ℕ) (o : Outgoing) (buf : List ℕ) where
 
 -- ---- the outgoing message is given up
 pub by_stopping :
-    (P : GivenUp → Type 0) (r : Receiver) → P (record { answer = give-up.Refused refusal.OutsideRules; receiver = r })
-    → P (record { answer = give-up.Done; receiver = with_outgoing r no_outgoing }) → P (stopping r)
+    (P : GivenUp → Type 0) (r : Receiver) → P (record { answer = give_up.Refused refusal.OutsideRules; receiver = r })
+    → P (record { answer = give_up.Done; receiver = with_outgoing r no_outgoing }) → P (stopping r)
 unfolding stopping
 by_stopping P r refused done = by_choice P (eqb r.out.src 0) (λ _. refused) (λ _. done)
