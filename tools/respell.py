@@ -1,7 +1,9 @@
 #!/usr/bin/env python3
 """Spells the repository's own definitions, lemmas and fields in snake case: `hasBit` becomes `has_bit`, `with-of-set` becomes `with_of_set`.
 
-usage: tools/respell.py          once, at the top of the repository, behind port.py
+usage: tools/respell.py               once, at the top of the repository, behind port.py
+       tools/respell.py --anyway      although names fall together: after a look at those that it lists
+       tools/respell.py --table       prints each name that turns, and what to
 
 A name turns if a file of specs/ or a lemma file of proofs/ declares it. Types, modules and constructors keep their capitals. Functions of src/, exported
 C names, strings, inputs and outputs keep their names. In a function's own proof what the check made keeps its name. A comment's words turn in code
