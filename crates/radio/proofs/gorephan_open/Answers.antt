@@ -35,7 +35,6 @@ write-n-requires c =
 
 pub pack-requires-2 : goal.pack-requires-2
 pack-requires-2 c =
-    let w = c in
     let o = c.open-o in
     let b = opened_small _ _ _ _ o.ensures in
     let n = written_most _ _ b.len_most _ c.write-n.ensures in

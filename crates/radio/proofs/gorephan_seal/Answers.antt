@@ -17,7 +17,6 @@ returns-then-ctl-gt1 c = search seal_rules
 
 pub seal_number-requires : goal.seal_number-requires
 seal_number-requires c =
-    let s = c in
     let t = c.sixteen.result in
     let sixteen : length t ≡ 16 = search rules in
     sealed_most _ _ _ sixteen c.seal.ensures

@@ -14,7 +14,6 @@ use Rattle.answers.proofs.looking.put_next.Goals as goal
 
 pub loop-i-init : goal.loop-i-init
 loop-i-init c =
-    let begun = c in
     let a = c.args in
     let eight : length a.next ≡ element_places = c.well_formed.0.1.0.1 in
     let many = length-take (min a.elements element_places) a.next in

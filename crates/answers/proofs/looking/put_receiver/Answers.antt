@@ -7,12 +7,6 @@ use Rattle.answers.proofs.looking.put_receiver.Goals as goal
 pub returns : goal.returns
 unfolding receiver_text
 returns c =
-    let last = c in
-    let sending = c in
-    let sessions = c in
-    let replay = c in
-    let cache = c in
-    let next = c in
     put_then _ _ _ _ _ _ _ _ c.put_next-numbers.ensures
     (put_then _ _ _ _ _ _ _ _ c.put_cache-heard.ensures
     (put_then _ _ _ _ _ _ _ _ c.put_replay-entries.ensures

@@ -44,7 +44,6 @@ overflow_cast-len c =
 
 pub loop-at-preserved : goal.loop-at-preserved
 loop-at-preserved c =
-    let s = c in
     let n = c.in-Count.n in
     let r = c.read in
     let f = c.first in

@@ -24,8 +24,6 @@ returns-in_default c =
 pub returns-then-not-fill : goal.returns-then-not-fill
 unfolding giving
 returns-then-not-fill c =
-    let k = c in
-    let n = c in
     let read = c.read_octet in
     let field = c.nth in
     c.unfit-then-not-fill.ensures
@@ -36,8 +34,6 @@ returns-then-not-fill c =
 pub returns : goal.returns
 unfolding giving
 returns c =
-    let k = c in
-    let n = c in
     let read = c.read_octet in
     let field = c.nth in
     c.fit.ensures

@@ -25,7 +25,6 @@ pub returns-then-not-q : goal.returns-then-not-q
 unfolding giving
 returns-then-not-q c =
     let q = c.read_sequences-q in
-    let n = c in
     let first = c.in-Value.first in
     let read = c.read_short in
     let field = c.nth in
@@ -39,7 +38,6 @@ pub returns : goal.returns
 unfolding giving
 returns c =
     let q = c.read_sequences-q in
-    let n = c in
     let first = c.in-Value.first in
     let read = c.read_short in
     let field = c.nth in

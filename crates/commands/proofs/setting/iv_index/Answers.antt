@@ -23,7 +23,6 @@ returns-in_default c =
 pub returns-in_default-read_bit : goal.returns-in_default-read_bit
 unfolding giving
 returns-in_default-read_bit c =
-    let n = c in
     let read = c.read in
     let flag = c.read_bit in
     let second = c.last in
@@ -35,7 +34,6 @@ returns-in_default-read_bit c =
 pub returns : goal.returns
 unfolding giving
 returns c =
-    let n = c in
     let read = c.read in
     let on = c.in-Value-read_bit.flag in
     let flag = c.read_bit in

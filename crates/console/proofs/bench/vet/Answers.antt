@@ -7,14 +7,11 @@ use Rattle.console.proofs.bench.vet.Goals as goal
 
 pub slice_bounds-first-end : goal.slice_bounds-first-end
 slice_bounds-first-end c =
-    let lent = c in
     let left = c.vet-vetted.new.out in
     vetted_long left c.longest-message.result c.within-n.result c.vet-vetted.auto.out (ap length c.longest-message.ensures)
 
 pub returns : goal.returns
 returns c =
-    let vet = c in
-    let lent = c in
     let long = c.vet-vetted.auto.out in
     let a = c.args in record {
       exact = vetted a.d a.ctl a.list.now _ _ c.longest-message.ensures c.within-n.ensures.value _ _ c.vet-vetted.ensures long

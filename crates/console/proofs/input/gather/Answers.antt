@@ -7,14 +7,8 @@ use Rattle.console.proofs.input.gather.Goals as goal
 
 pub returns-then-end-block : goal.returns-then-end-block
 returns-then-end-block c =
-    let put = c in
-    let first = c in
-    let until = c in
     record { further = search rules; gathers = gathers_whole _ _ _ _ _ _ _ _ c.until-end.ensures.value c.first.ensures c.put-more.ensures (omega arith) }
 
 pub returns : goal.returns
 returns c =
-    let put = c in
-    let first = c in
-    let until = c in
     record { further = search rules; gathers = gathers_part _ _ _ _ _ _ _ _ c.until-end.ensures.value c.first.ensures c.put-more.ensures (omega arith) }

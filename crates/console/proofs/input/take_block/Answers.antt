@@ -47,7 +47,6 @@ loop-at-preserved-in_default c =
 
 pub loop-at-preserved : goal.loop-at-preserved
 loop-at-preserved c =
-    let gather = c in
     let loop = c.loop-at in (
       search rules,
       search rules,
@@ -57,7 +56,6 @@ loop-at-preserved c =
 
 pub returns : goal.returns
 returns c =
-    let test = c in
     let loop = c.loop-at in
     let left =
     reader (console loop.desk loop.receiver) (take loop.gathered loop.line) loop.octets (lent loop.written loop.out) in

@@ -7,9 +7,5 @@ use Rattle.console.proofs.receiving.hear_into.Goals as goal
 pub returns : goal.returns
 returns c = record {
   exact = search heard;
-  fits = let message = c in
-      let forward = c in
-      let hear = c in
-      let start = c in
-      heard_fits_into _ _ _ _ _ _ _ c.hear-h.ensures (omega (arith, c.forward-1.given, c.requires.0)) (omega (arith, c.message-1.given, c.requires.1));
+  fits = heard_fits_into _ _ _ _ _ _ _ c.hear-h.ensures (omega (arith, c.forward-1.given, c.requires.0)) (omega (arith, c.message-1.given, c.requires.1));
 }

@@ -6,6 +6,5 @@ use Rattle.console.proofs.receiving.speak_into.Goals as goal
 
 pub returns : goal.returns
 returns c =
-    let send = c in
     let p = c.pdu-1.given in
     record { exact = search spoken; fits = spoken_fits_into _ _ _ _ _ _ c.send-spoken.ensures (omega (arith, p, c.requires)) }

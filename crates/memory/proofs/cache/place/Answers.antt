@@ -7,12 +7,10 @@ use Rattle.memory.proofs.cache.place.Goals as goal
 
 pub returns-then-same : goal.returns-then-same
 returns-then-same c =
-    let t = c in
     seek_here _ _ _ _ c.loop-i.invariant _ c.loop-i-test.true (sym c.same.ensures ∙ c.if-same.true)
 
 pub loop-i-preserved : goal.loop-i-preserved
 loop-i-preserved c =
-    let t = c in
     seek_on _ _ _ _ c.loop-i.invariant _ c.loop-i-test.true (sym c.same.ensures ∙ c.if-same.false)
 
 pub loop-i-init : goal.loop-i-init

@@ -9,4 +9,4 @@ returns-then-held-src c = room_own _ _ _ c.find-there.ensures c.if-held-src.true
 
 pub returns : goal.returns
 unfolding last_free
-returns c = let t = c in room_last _ _ _ c.find-there.ensures c.if-held-src.false
+returns c = room_last _ _ _ c.find-there.ensures c.if-held-src.false

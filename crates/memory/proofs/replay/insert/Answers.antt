@@ -7,34 +7,24 @@ use Rattle.memory.proofs.replay.insert.Goals as goal
 
 pub offset_bounds-after-p : goal.offset_bounds-after-p
 offset_bounds-after-p c =
-    let found = c in
-    let start = c in
     let w = found_within c.args.replay c.args.e.src _ c.find-found.ensures (λ z. c.if-e-eq0.false (sym c.if-held-e.true ∙ z)) in
     omega (arith, w, c.well_formed.0.1.0.1)
 
 pub bounds-after-p : goal.bounds-after-p
 bounds-after-p c =
-    let found = c in
-    let start = c in
     let w = found_within c.args.replay c.args.e.src _ c.find-found.ensures (λ z. c.if-e-eq0.false (sym c.if-held-e.true ∙ z)) in
     omega (arith, w, c.well_formed.0.1.0.1)
 
 pub returns-then-held-e : goal.returns-then-held-e
 returns-then-held-e c =
-    let found = c in
     insert_own _ _ c.if-e-eq0.false _ c.find-found.ensures c.if-held-e.true
 
 pub returns-then-end-eq0 : goal.returns-then-end-eq0
 returns-then-end-eq0 c =
-    let end = c in
-    let other = c in
-    let found = c in
     insert_between _ _ c.if-e-eq0.false _ c.find-found.ensures c.if-held-e.false (last_free_law _ c.if-end-eq0.true) _ c.shift.ensures
 
 pub returns : goal.returns
 returns c =
-    let other = c in
-    let found = c in
     insert_full _ _ c.if-e-eq0.false _ c.find-found.ensures c.if-held-e.false (last_used _ c.if-end-eq0.false)
 
 pub returns-then-e-eq0 : goal.returns-then-e-eq0

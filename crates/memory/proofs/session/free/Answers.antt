@@ -16,7 +16,7 @@ returns-then-s-eq0 c = search (seek_here, eq-eqb, rules)
 
 pub loop-slot-preserved : goal.loop-slot-preserved
 unfolding free_place
-loop-slot-preserved c = let t = c in seek_on _ _ _ _ c.loop-slot.invariant _ c.loop-slot-test.true (ne_eqb _ _ c.if-s-eq0.false)
+loop-slot-preserved c = seek_on _ _ _ _ c.loop-slot.invariant _ c.loop-slot-test.true (ne_eqb _ _ c.if-s-eq0.false)
 
 pub returns : goal.returns
 unfolding free_place

@@ -5,10 +5,10 @@ use Rattle.memory.proofs.SessionLaws.{octets_length}
 use Rattle.memory.proofs.session.octets_end.Goals as goal
 
 pub returns-then-len-lt4 : goal.returns-then-len-lt4
-returns-then-len-lt4 c = let s = c in record { exact = omega (arith, octets_length c.args.transport c.args.len c.well_formed.0.1.0.1); within = omega arith }
+returns-then-len-lt4 c = record { exact = omega (arith, octets_length c.args.transport c.args.len c.well_formed.0.1.0.1); within = omega arith }
 
 pub returns-then-len-gt16 : goal.returns-then-len-gt16
-returns-then-len-gt16 c = let s = c in record { exact = omega (arith, octets_length c.args.transport c.args.len c.well_formed.0.1.0.1); within = omega arith }
+returns-then-len-gt16 c = record { exact = omega (arith, octets_length c.args.transport c.args.len c.well_formed.0.1.0.1); within = omega arith }
 
 pub returns : goal.returns
-returns c = let s = c in record { exact = omega (arith, octets_length c.args.transport c.args.len c.well_formed.0.1.0.1); within = omega arith }
+returns c = record { exact = omega (arith, octets_length c.args.transport c.args.len c.well_formed.0.1.0.1); within = omega arith }

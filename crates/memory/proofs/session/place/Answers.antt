@@ -16,7 +16,7 @@ returns-then-s-key c = search (seek_here, eq-eqb, rules)
 
 pub loop-i-preserved : goal.loop-i-preserved
 unfolding session_place
-loop-i-preserved c = let t = c in seek_on _ _ _ _ c.loop-i.invariant _ c.loop-i-test.true (ne_eqb _ _ c.if-s-key.false)
+loop-i-preserved c = seek_on _ _ _ _ c.loop-i.invariant _ c.loop-i-test.true (ne_eqb _ _ c.if-s-key.false)
 
 pub returns : goal.returns
 unfolding session_place

@@ -16,7 +16,5 @@ slice_bounds-copy-end c =
 pub returns : goal.returns
 unfolding segment_octets
 returns c =
-    let o = c in
-    let a = c in
     octets_put c.args.h.transport c.args.h.len c.args.bytes c.args.at c.well_formed.0.1.0.1 c.requires
     c.octets_end-n.ensures.exact c.octets_end-n.ensures.within c.copy.ensures

@@ -10,5 +10,4 @@ put_octets-after-requires c = rw c.octet_place.ensures (place_most _ _)
 pub returns : goal.returns
 unfolding stored
 returns c =
-    let p = c in
     rw (c.with.ensures, c.len_with.ensures, c.put_octets-after.ensures, c.octet_place.ensures)

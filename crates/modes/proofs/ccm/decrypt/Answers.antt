@@ -19,7 +19,6 @@ counter_mode-requires c =
 
 pub mac_block-mic-requires : goal.mac_block-mic-requires
 mac_block-mic-requires c =
-    let d = c in
     let a = c.args in
     let b = mic_octets_bounds a.size in
     let e = c.mic_octets-t.ensures in
@@ -29,20 +28,14 @@ mac_block-mic-requires c =
 
 pub slice_bounds-mic-end : goal.slice_bounds-mic-end
 slice_bounds-mic-end c =
-    let s = c in
     mic_room _ _ c.args.size _ _ c.mic_octets-t.ensures c.mac_block-mic.ensures
 
 pub slice_bounds-equal-end : goal.slice_bounds-equal-end
 slice_bounds-equal-end c =
-    let b = c in
-    let s = c in
     mic_length _ _ c.args.size _ _ c.mic_octets-t.ensures c.mac_block-mic.ensures
 
 pub returns : goal.returns
 returns c =
-    let b = c in
-    let d = c in
-    let s = c in
     let a = c.args in
     decrypted_is a.ks a.nonce a.size a.additional.now a.sealed.now (length a.clear.now) c.requires.1
     c.mic_octets-t.ensures c.counter_mode.ensures c.mac_block-mic.ensures c.equal.ensures

@@ -11,11 +11,6 @@ use Rattle.modes.proofs.ccm.mac_block.Goals as goal
 pub returns : goal.returns
 unfolding stream
 returns c =
-    let zero-block = c in
-    let whole = c in
-    let head = c in
-    let first = c in
-    let s = c in
     c.xor_at.ensures
     ∙ xored_whole c.chained-x.result c.encrypt-s.result
     ∙ ap₂ (xored 16)

@@ -7,6 +7,5 @@ use Rattle.modes.proofs.ccm.open.Goals as goal
 
 pub returns : goal.returns
 returns c =
-    let called = c in
     let a = c.args in
     c.open_with.ensures ∙ open_no_data a.ks a.nonce a.size [] a.sealed.now a.out.now refl

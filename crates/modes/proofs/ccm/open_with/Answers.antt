@@ -19,20 +19,17 @@ returns-then-additional-gt-LONGEST_DATA c =
 
 pub returns-then-sealed-t : goal.returns-then-sealed-t
 returns-then-sealed-t c =
-    let s = c in
     let a = c.args in
     open_with_none a.ks a.nonce a.size a.additional.now a.sealed.now a.out.now (c.if-additional-gt-LONGEST_DATA.false) c.mic_octets-t.ensures c.if-sealed-t.true
 
 pub returns-then-n-gt-LONGEST : goal.returns-then-n-gt-LONGEST
 returns-then-n-gt-LONGEST c =
-    let s = c in
     let a = c.args in
     open_with_long a.ks a.nonce a.size a.additional.now a.sealed.now a.out.now (c.if-additional-gt-LONGEST_DATA.false) c.mic_octets-t.ensures
     c.if-sealed-t.false c.if-n-gt-LONGEST.true
 
 pub returns-then-out-n : goal.returns-then-out-n
 returns-then-out-n c =
-    let s = c in
     let a = c.args in
     open_with_short a.ks a.nonce a.size a.additional.now a.sealed.now a.out.now (c.if-additional-gt-LONGEST_DATA.false) c.mic_octets-t.ensures
     c.if-sealed-t.false c.if-n-gt-LONGEST.false c.if-out-n.true
@@ -42,41 +39,28 @@ slice_bounds-decrypt-end c = sym (length-take-le _ _ c.if-n-gt-LONGEST.false)
 
 pub decrypt-requires : goal.decrypt-requires
 decrypt-requires c =
-    let s = c in
     let e = c.mic_octets-t.ensures in
     let l = length-take-le (length c.args.sealed.now - c.mic_octets-t.result) (replicate {A = ℕ} longest 0) c.if-n-gt-LONGEST.false in
     ((c.if-additional-gt-LONGEST_DATA.false), omega arith, omega arith)
 
 pub returns-then-not-decrypt : goal.returns-then-not-decrypt
 returns-then-not-decrypt c =
-    let d = c in
-    let l = c in
-    let s = c in
     let a = c.args in
     open_with_forged a.ks a.nonce a.size a.additional.now a.sealed.now a.out.now (c.if-additional-gt-LONGEST_DATA.false) c.mic_octets-t.ensures
     c.if-sealed-t.false c.if-n-gt-LONGEST.false c.if-out-n.false c.decrypt.ensures (not-true _ c.if-not-decrypt.true-raw)
 
 pub slice_bounds-clear-end-2 : goal.slice_bounds-clear-end-2
 slice_bounds-clear-end-2 c =
-    let d = c in
-    let s = c in
     let a = c.args in
     front_room a.ks a.nonce a.size a.additional.now a.sealed.now c.mic_octets-t.ensures c.decrypt.ensures _
 
 pub slice_bounds-copy-end : goal.slice_bounds-copy-end
 slice_bounds-copy-end c =
-    let d = c in
-    let s = c in
     let a = c.args in
     front_length a.ks a.nonce a.size a.additional.now a.sealed.now c.mic_octets-t.ensures c.decrypt.ensures _
 
 pub returns : goal.returns
 returns c =
-    let copy = c in
-    let g = c in
-    let d = c in
-    let l = c in
-    let s = c in
     let a = c.args in
     let et = c.mic_octets-t.ensures in
     let ed = c.decrypt.ensures in

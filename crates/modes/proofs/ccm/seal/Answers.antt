@@ -7,6 +7,5 @@ use Rattle.modes.proofs.ccm.seal.Goals as goal
 
 pub returns : goal.returns
 returns c =
-    let called = c in
     let a = c.args in
     c.seal_with.ensures ∙ seal_no_data a.ks a.nonce a.size [] a.message.now a.out.now refl

@@ -20,20 +20,17 @@ returns-then-n-gt-LONGEST c =
 
 pub overflow_add-n : goal.overflow_add-n
 overflow_add-n c =
-    let s = c in
     let b = mic_octets_bounds c.args.size in
     omega (arith, b.1, c.mic_octets-t.ensures)
 
 pub returns-then-out-n : goal.returns-then-out-n
 returns-then-out-n c =
-    let s = c in
     let a = c.args in
     seal_with_short a.ks a.nonce a.size a.additional.now a.message.now a.out.now c.if-additional-gt-LONGEST_DATA.false c.if-n-gt-LONGEST.false
     (omega (arith, c.mic_octets-t.ensures))
 
 pub mac_block-mic-requires : goal.mac_block-mic-requires
 mac_block-mic-requires c =
-    let s = c in
     let b = mic_octets_bounds c.args.size in
     let e = c.mic_octets-t.ensures in
     (omega arith, omega arith, omega arith, omega arith)
@@ -48,21 +45,14 @@ counter_mode-requires c =
 
 pub slice_bounds-mic-end : goal.slice_bounds-mic-end
 slice_bounds-mic-end c =
-    let b = c in
-    let s = c in
     mic_room _ _ c.args.size _ _ c.mic_octets-t.ensures c.mac_block-mic.ensures
 
 pub slice_bounds-copy-end : goal.slice_bounds-copy-end
 slice_bounds-copy-end c =
-    let b = c in
-    let s = c in
     mic_length _ _ c.args.size _ _ c.mic_octets-t.ensures c.mac_block-mic.ensures
 
 pub returns : goal.returns
 returns c =
-    let copy = c in
-    let e = c in
-    let b = c in
     let a = c.args in
     let et = c.mic_octets-t.ensures in
     let em = c.mac_block-mic.ensures in

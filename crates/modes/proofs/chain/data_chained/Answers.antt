@@ -11,16 +11,12 @@ returns-then-additional-eq0 c = data_none _ _ _ (omega arith)
 
 pub returns-then-additional-le14 : goal.returns-then-additional-le14
 returns-then-additional-le14 c =
-    let e = c in
-    let d = c in
     let a = c.args in
     data_short a.ks a.start a.additional.now c.if-additional-eq0.false _ _ _ c.data_head-b.ensures c.xor_at.ensures c.encrypt-x.ensures
     c.if-additional-le14.true
 
 pub returns : goal.returns
 returns c =
-    let e = c in
-    let d = c in
     let a = c.args in
     data_rest a.ks a.start a.additional.now c.if-additional-eq0.false _ _ _ c.data_head-b.ensures c.xor_at.ensures c.encrypt-x.ensures
     _ _ refl c.chained.ensures

@@ -12,7 +12,4 @@ slice_bounds-chained-end c =
 
 pub returns : goal.returns
 returns c =
-    let last = c in
-    let front = c in
-    let place = c in
     cmac_ends _ _ _ c.last_at-at.ensures c.chained-x.ensures c.last_block-last.ensures c.xor_at.ensures c.encrypt.ensures

@@ -5,12 +5,9 @@ use Rattle.modes.proofs.cmac.last_block.Goals as goal
 
 pub returns-then-message-at : goal.returns-then-message-at
 returns-then-message-at c =
-    let twice = c in
-    let n = c in
     last_part _ _ _ c.requires c.if-message-at.true c.encrypt-l.ensures c.doubled-k1.ensures c.doubled.ensures
     c.xor_at.ensures
 
 pub returns : goal.returns
 returns c =
-    let n = c in
     last_whole _ _ _ c.requires c.if-message-at.false c.encrypt-l.ensures c.doubled-k1.ensures c.xor_at-2.ensures

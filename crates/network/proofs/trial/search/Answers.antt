@@ -16,7 +16,6 @@ loop-i-init c =
 
 pub loop-i-preserved : goal.loop-i-preserved
 loop-i-preserved c =
-    let s = c in
     let a = c.args in
     let h : c.loop-i.i < min a.count network_key_places = omega (arith, leb-false) in
     elim c.if-key-nid.branch [
@@ -29,7 +28,6 @@ loop-i-preserved c =
 
 pub returns-then-i-ge-KEYS : goal.returns-then-i-ge-KEYS
 returns-then-i-ge-KEYS c =
-    let s = c in
     let a = c.args in
     let h : min a.count network_key_places ≤ c.loop-i.i =
     ⊎_elim (λ w. omega arith) (λ w. omega arith) c.then-i-ge-KEYS.either in
@@ -37,8 +35,6 @@ returns-then-i-ge-KEYS c =
 
 pub returns-then-t : goal.returns-then-t
 returns-then-t c =
-    let t = c in
-    let s = c in
     let a = c.args in
     key_opens a.held a.count a.nid a.iv a.pdu.now c.loop-i.invariant.0 (omega (arith, leb-false)) c.if-key-nid.true c.try_key-t.ensures
     c.if-t.true

@@ -13,6 +13,5 @@ returns-then-not-is_valid c =
 pub returns : goal.returns
 unfolding making
 returns c =
-    let e = c in
     let v = c.is_valid in
     simp (← v.ensures, not-false v.result c.if-not-is_valid.false-raw, c.next_of-next.ensures, c.node_of.ensures)

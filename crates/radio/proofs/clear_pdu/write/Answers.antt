@@ -12,9 +12,6 @@ slice_bounds-copy-end c = sym (length-take-le _ _ ((search rules)))
 
 pub returns : goal.returns
 returns c =
-    let p = c in
-    let o = c in
-    let start = c in
     let a = c.args in
     let n : length c.octets_of-clear.result ≡ 25 = search rules in
     clear_written a.first a.h c.requires.0 c.octets_of-clear.ensures n a.out.now c.requires.1 c.copy.ensures

@@ -16,28 +16,20 @@ overflow_mul-i c = let l = c.loop-i.invariant.within in omega arith
 
 pub bounds-cs-i : goal.bounds-cs-i
 bounds-cs-i c =
-    let s = c in
-    let k = c in
     let a = c.args in
     piece_begins a.cs.now a.nid c.piece_count-count.ensures c.loop-i.invariant c.if-count-i.false
 
 pub loop-i-preserved : goal.loop-i-preserved
 loop-i-preserved c =
-    let s = c in
-    let k = c in
     let a = c.args in
     piece_foreign a.cs.now a.nid c.piece_count-count.ensures c.loop-i.invariant c.if-count-i.false c.if-cs-i.false
 
 pub returns-then-count-i : goal.returns-then-count-i
 returns-then-count-i c =
-    let s = c in
-    let k = c in
     let a = c.args in
     all_foreign a.cs.now a.nid c.piece_count-count.ensures c.loop-i.invariant c.if-count-i.true
 
 pub returns-then-cs-i : goal.returns-then-cs-i
 returns-then-cs-i c =
-    let s = c in
-    let k = c in
     let a = c.args in
     piece_fits a.cs.now a.nid c.piece_count-count.ensures c.loop-i.invariant c.if-count-i.false c.if-cs-i.true

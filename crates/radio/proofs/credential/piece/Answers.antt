@@ -5,6 +5,5 @@ use Rattle.radio.proofs.credential.piece.Goals as goal
 
 pub returns : goal.returns
 returns c =
-    let o = c in
     let a = c.args in
     piece_read a.cs.now a.i c.octet.ensures c.sixteen.ensures c.sixteen-2.ensures

@@ -7,5 +7,4 @@ use Rattle.radio.proofs.credential.pieces.Goals as goal
 pub returns : goal.returns
 unfolding pieces
 returns c =
-    let k = c in
     cc (pieces_copied c.args.cs.now c.copy.ensures)

@@ -8,6 +8,5 @@ use Rattle.receiver.proofs.segmented.open.Goals as goal
 
 pub returns : goal.returns
 returns c =
-    let h = c in
     let a = c.args in
     c.open_by.ensures ∙ ap (λ (held : Held). unsecuring held (session_envelope a.s) (message_of a.s) a.message.now) c.held_by.ensures

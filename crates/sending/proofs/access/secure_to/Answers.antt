@@ -10,7 +10,6 @@ use Rattle.sending.proofs.access.secure_to.Goals as goal
 
 pub returns-else-j-lt-LABELS : goal.returns-else-j-lt-LABELS
 returns-else-j-lt-LABELS c =
-    let s = c in
     -- of the node's fields the labels are the twelfth
     let labels = c.well_formed.0.1.1.1.1.1.1.1.1.1.1.1.1.1.0 in
     let long : length c.args.node.labels ≡ label_places = search (length_mapped, labels) in

@@ -14,8 +14,6 @@ loop-i-init c = (search rules, (search rules, (refl, refl)))
 
 pub loop-i-preserved : goal.loop-i-preserved
 loop-i-preserved c =
-    let came = c in
-    let turn = c in
     let l = c.loop-i in
     let pdu = pdu_part c.args.pdus.now l.i in
     let more = row_more _ _ _ _ l.invariant.1.1.1 pdu c.hear-h.ensures c.accept-count.ensures.exact in

@@ -4,6 +4,4 @@ use Rattle.speed.proofs.hearing.setup.Goals as goal
 
 pub returns : goal.returns
 returns c =
-    let k = c in
-    let n = c in
     rw (c.with_application_key-s.ensures, c.key-2.ensures, c.with_network_key-keyed.ensures, c.key.ensures, c.nothing.ensures, c.key-device.ensures)

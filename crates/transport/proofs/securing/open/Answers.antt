@@ -16,15 +16,12 @@ overflow_add-mic_octets c = omega (arith, c.mic_octets.ensures, (mic_octets_boun
 
 pub returns-then-sealed-mic_octets : goal.returns-then-sealed-mic_octets
 returns-then-sealed-mic_octets c =
-    let s = c in
     let a = c.args in
     open_too_short a.held a.e a.sealed.now a.out.now c.if-out-lt-MESSAGE.false
     (omega (arith, c.mic_octets.ensures, c.if-sealed-mic_octets.true))
 
 pub returns-then-e : goal.returns-then-e
 returns-then-e c =
-    let t = c in
-    let s = c in
     let a = c.args in
     open_application a.held a.e a.sealed.now a.out.now c.if-out-lt-MESSAGE.false
     (omega (arith, c.mic_octets.ensures, c.if-sealed-mic_octets.false)) c.if-e.true
@@ -32,8 +29,6 @@ returns-then-e c =
 
 pub returns : goal.returns
 returns c =
-    let t = c in
-    let s = c in
     let a = c.args in
     open_device a.held a.e a.sealed.now a.out.now c.if-out-lt-MESSAGE.false
     (omega (arith, c.mic_octets.ensures, c.if-sealed-mic_octets.false)) c.if-e.false

@@ -5,7 +5,6 @@ use Rattle.transport.proofs.securing.open_by.Goals as goal
 
 pub returns : goal.returns
 returns c =
-    let s = c in
     let a = c.args in
     opened_by_law a.key a.e c.expand.ensures c.message_nonce.ensures c.trans_mic.ensures a.additional.now
     a.sealed.now a.out.now c.open_with.ensures

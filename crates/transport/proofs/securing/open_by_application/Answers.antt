@@ -20,14 +20,12 @@ loop-i-init c =
 
 pub overflow_add-trials : goal.overflow_add-trials
 overflow_add-trials c =
-    let s = c in
     let a = c.args in
     let u = under_on a.held c.loop-i.i a.e a.sealed.now a.out.now c.loop-i.invariant.2 c.open_under-t.ensures in
     omega (arith, leb-false, under_most a.held c.loop-i.i a.e a.sealed.now a.out.now u)
 
 pub loop-i-preserved : goal.loop-i-preserved
 loop-i-preserved c =
-    let s = c in
     let a = c.args in
     let h : c.loop-i.i < min a.held.applications application_key_places = omega (arith, leb-false) in
     let f = c.fits.ensures in
@@ -50,24 +48,18 @@ shape_of-out-then-i-ge-KEYS c = ap length c.loop-i.invariant.2
 
 pub returns-then-i-ge-KEYS : goal.returns-then-i-ge-KEYS
 returns-then-i-ge-KEYS c =
-    let s = c in
     let a = c.args in
     let h : min a.held.applications application_key_places ≤ c.loop-i.i = ⊎_elim (λ w. omega arith) (λ w. omega arith) c.then-i-ge-KEYS.either in
     ap (lent (NotOpened c.loop-i.trials)) c.loop-i.invariant.2 ∙ no_key_opens_law a.held a.e a.sealed.now a.out.now c.loop-i.invariant.0 h
 
 pub shape_of-out-then-t : goal.shape_of-out-then-t
 shape_of-out-then-t c =
-    let o = c in
-    let s = c in
     let a = c.args in
     under_as_long a.held c.loop-i.i a.e a.sealed.now a.out.now
     (under_on a.held c.loop-i.i a.e a.sealed.now a.out.now c.loop-i.invariant.2 c.open_under-t.ensures)
 
 pub returns-then-t : goal.returns-then-t
 returns-then-t c =
-    let o = c in
-    let t = c in
-    let s = c in
     let a = c.args in
     key_opens a.held a.e a.sealed.now a.out.now c.loop-i.invariant.0 (omega (arith, leb-false)) c.fits.ensures c.if-fits.true
     (under_on a.held c.loop-i.i a.e a.sealed.now a.out.now c.loop-i.invariant.2 c.open_under-t.ensures)

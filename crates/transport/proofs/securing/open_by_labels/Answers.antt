@@ -21,7 +21,6 @@ loop-j-init c =
 
 pub loop-j-preserved : goal.loop-j-preserved
 loop-j-preserved c =
-    let s = c in
     let a = c.args in
     let h : c.loop-j.j < min a.held.labelled label_places = omega (arith, leb-false) in
     let key = (application_key_at a.held.appkeys a.i).key in
@@ -47,7 +46,6 @@ shape_of-out-then-j-ge-LABELS c = ap length c.loop-j.invariant.2
 
 pub returns-then-j-ge-LABELS : goal.returns-then-j-ge-LABELS
 returns-then-j-ge-LABELS c =
-    let s = c in
     let a = c.args in
     let h : min a.held.labelled label_places ≤ c.loop-j.j = ⊎_elim (λ w. omega arith) (λ w. omega arith) c.then-j-ge-LABELS.either in
     ap (lent (record { opened = false; trials = c.loop-j.trials; opener = Application a.i })) c.loop-j.invariant.2
@@ -55,8 +53,6 @@ returns-then-j-ge-LABELS c =
 
 pub shape_of-out-then-open_by_label : goal.shape_of-out-then-open_by_label
 shape_of-out-then-open_by_label c =
-    let o = c in
-    let s = c in
     let a = c.args in
     let key = (application_key_at a.held.appkeys a.i).key in
     let label = label_at a.held.labels c.loop-j.j in
@@ -65,9 +61,6 @@ shape_of-out-then-open_by_label c =
 
 pub returns-then-open_by_label : goal.returns-then-open_by_label
 returns-then-open_by_label c =
-    let o = c in
-    let t = c in
-    let s = c in
     let a = c.args in
     let key = (application_key_at a.held.appkeys a.i).key in
     let label = label_at a.held.labels c.loop-j.j in

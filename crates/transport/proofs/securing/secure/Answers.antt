@@ -5,7 +5,6 @@ use Rattle.transport.proofs.securing.secure.Goals as goal
 
 pub returns : goal.returns
 returns c =
-    let s = c in
     let a = c.args in
     secured_by a.key a.e c.expand.ensures c.message_nonce.ensures c.trans_mic.ensures a.additional.now
     a.message.now a.out.now c.seal_with.ensures

@@ -6,18 +6,13 @@ use Rattle.transport.proofs.vetting.join.Goals as goal
 
 pub lay-requires : goal.lay-requires
 lay-requires c =
-    let turn = c in
     let l = c.loop-at in
-    let start = c in
     laid_room c.args.list.now c.args.out.now l.out l.to l.at l.invariant c.requires _ _
     c.loop-at-test.true c.end_of-end.ensures c.behind_front-start.ensures
 
 pub loop-at-preserved : goal.loop-at-preserved
 loop-at-preserved c =
-    let lay = c in
-    let turn = c in
     let l = c.loop-at in
-    let start = c in
     laid_more c.args.list.now c.args.out.now l.out l.to l.at l.invariant c.requires _ _
     c.loop-at-test.true c.end_of-end.ensures c.behind_front-start.ensures _ c.lay.ensures
 
@@ -29,7 +24,6 @@ overflow_add-to c =
 pub returns : goal.returns
 returns c =
     let l = c.loop-at in
-    let start = c in
     laid_all c.args.list.now c.args.out.now l.out l.to l.at l.invariant c.loop-at-test.false
 
 pub loop-at-init : goal.loop-at-init

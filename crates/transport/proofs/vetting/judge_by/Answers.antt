@@ -7,8 +7,6 @@ use Rattle.transport.proofs.vetting.judge_by.Goals as goal
 
 pub returns-then-not-fit : goal.returns-then-not-fit
 returns-then-not-fit c =
-    let fit = c in
-    let turn = c in
     let l = c.loop-at in
     let a = c.args in
     from_fault a.ctl a.s l.k a.list.now l.at c.loop-at-test.true _ c.end_of-end.ensures _ c.fit.ensures c.if-not-fit.true-raw
@@ -16,8 +14,6 @@ returns-then-not-fit c =
 
 pub loop-at-preserved : goal.loop-at-preserved
 loop-at-preserved c =
-    let fit = c in
-    let turn = c in
     let l = c.loop-at in
     let a = c.args in
     let on = from_on a.ctl a.s l.k a.list.now l.at c.loop-at-test.true _ c.end_of-end.ensures _ c.fit.ensures c.if-not-fit.false-raw in

@@ -6,5 +6,4 @@ use Rattle.transport.proofs.vetting.lay.Goals as goal
 
 pub returns : goal.returns
 returns c =
-    let start = c in
     laid_copied c.args.octets.now c.args.out.now c.args.to c.requires _ _ refl c.copy.ensures
