@@ -29,9 +29,9 @@ from refusals import WORDS  # noqa: E402
 from sealed import SETUP  # noqa: E402
 
 CONSOLE = ROOT / "docs" / "CONSOLE.md"
-# Where the refusals have their names and numbers: in the code, or where a definition alone has the number, there.
-IN_CODE, IN_DEFINITION = r"Refusal::(\w+) => (\d+)", r"(?m)^paper \(?(\w+).* = Refusal (\d+)"
-SOURCES = {"crates/receiver/src/answer.rt": IN_CODE, "crates/sensor/src/list.rt": IN_CODE, "crates/transport/specs/Vetting.antt": IN_DEFINITION}
+# Where the refusals have their names and numbers.
+IN_CODE = r"Refusal::(\w+)(?:\(_\))? => (\d+)"
+SOURCES = ["crates/receiver/src/answer.rt", "crates/sensor/src/list.rt", "crates/transport/src/vetting.rt"]
 
 
 class Wrong(Exception):
@@ -126,7 +126,7 @@ def made():
 def faults_of_table():
     """What the table of refusals lacks: a row for each number, with the name that the code has for it; and an example for each."""
     rows = table.refusals(table.PAGE.read_text())
-    names = {int(number): name for source, form in SOURCES.items() for name, number in re.findall(form, (ROOT / source).read_text())}
+    names = {int(number): name for source in SOURCES for name, number in re.findall(IN_CODE, (ROOT / source).read_text())}
     for number in sorted(WORDS | names | rows):
         if number not in MADE:
             yield f"refusal {number} has no example"

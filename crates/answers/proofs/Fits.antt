@@ -8,6 +8,7 @@ use native.Mathlib.Omega.{arith}
 use lib.Dec.{eqb}
 use lib.ListN.{length, take, length-append, length-take, length-drop}
 use lib.Seq.{take_all}
+use Rattle.std.specs.Prelude.{Result, Ok, Err}
 use Rattle.common.proofs.Tests.{by_choice}
 use Rattle.network.specs.Pdu.{pdu_octets}
 use Rattle.memory.specs.declared.cache.Cache.{Cache}
@@ -24,14 +25,13 @@ use Rattle.memory.specs.Replay.{replay_entries}
 use Rattle.memory.specs.Session.{session_slots, is_free}
 use Rattle.transport.specs.declared.securing.Opener.{Opener}
 use Rattle.transport.specs.declared.securing.Opener.TheVariants.{Application, Labelled, Device}
-use Rattle.transport.specs.declared.vetting.Vetted.TheVariants as vetted
+use Rattle.transport.specs.declared.vetting.Refusal.TheVariants as vetted
 use Rattle.transport.specs.Segment.{message_octets}
 use Rattle.node.specs.Addresses.{element_places}
 use Rattle.receiver.specs.declared.answer.Answer.{Answer}
-use Rattle.receiver.specs.declared.answer.Answer.TheVariants.{Refused, Stored, Repeated, Access, Control, Acknowledgement}
+use Rattle.receiver.specs.declared.answer.Answer.TheVariants.{Stored, Repeated, Access, Control, Acknowledgement}
 use Rattle.receiver.specs.Answer.{refusal_number}
-use Rattle.receiver.specs.declared.fresh.Answer.TheVariants as fresh
-use Rattle.receiver.specs.declared.give_up.Answer.TheVariants as up
+use Rattle.receiver.specs.declared.answer.Refusal as receiver
 use Rattle.sending.specs.declared.answer.Answer.TheVariants as sending
 use Rattle.commands.specs.declared.desk.Reply.TheVariants as reply
 use Rattle.text.specs.Octets.{octets}
@@ -100,14 +100,14 @@ acknowledgement_most src bits e t =
     both (named_most "acknowledgement src " 4 src) (both (named_most " bits " 8 bits) (both (effect_most e) (trials_most t)))
 
 -- ---- the answers
-heard_most : (a : Answer) (t : Trials) (message : List ℕ) → length message ≤ message_octets → AtMost 982 (heard_text a t message)
+heard_most : (a : Result Answer receiver.Refusal) (t : Trials) (message : List ℕ) → length message ≤ message_octets → AtMost 982 (heard_text a t message)
 unfolding heard_text
-heard_most (Refused refusal) t message h = wider (both (refusal_most (refusal_number refusal)) (trials_most t)) (omega arith)
-heard_most (Stored src auth bits) t message h = wider (both (label_most "stored") (both (segments_most src auth bits) (trials_most t))) (omega arith)
-heard_most (Repeated src auth bits) t message h = wider (both (label_most "repeat") (both (segments_most src auth bits) (trials_most t))) (omega arith)
-heard_most (Access src dst network opener pair len) t message h = both (access_most src dst network opener) (message_most pair t len message h)
-heard_most (Control src dst network opcode pair len) t message h = wider (both (control_most src dst network opcode) (message_most pair t len message h)) (omega arith)
-heard_most (Acknowledgement src bits e) t message h = wider (acknowledgement_most src bits e t) (omega arith)
+heard_most (Err refusal) t message h = wider (both (refusal_most (refusal_number refusal)) (trials_most t)) (omega arith)
+heard_most (Ok (Stored src auth bits)) t message h = wider (both (label_most "stored") (both (segments_most src auth bits) (trials_most t))) (omega arith)
+heard_most (Ok (Repeated src auth bits)) t message h = wider (both (label_most "repeat") (both (segments_most src auth bits) (trials_most t))) (omega arith)
+heard_most (Ok (Access src dst network opener pair len)) t message h = both (access_most src dst network opener) (message_most pair t len message h)
+heard_most (Ok (Control src dst network opcode pair len)) t message h = wider (both (control_most src dst network opcode) (message_most pair t len message h)) (omega arith)
+heard_most (Ok (Acknowledgement src bits e)) t message h = wider (acknowledgement_most src bits e t) (omega arith)
 
 forward_most : (pdu : List ℕ) → length pdu ≤ message_octets → AtMost 779 (forward_text pdu)
 forward_most [] h = wider (label_most "\n") (omega arith)
@@ -118,27 +118,27 @@ heard_fits a t message pdu h1 h2 = omega (arith, both (heard_most a t message h1
 
 pub spoken_fits : SpokenFits
 unfolding spoken_text
-spoken_fits (sending.Sent len) pdu h = omega (arith, both (label_most "sent ") (both (buffer_most len pdu h) (label_most "\n")))
-spoken_fits (sending.Started len segn) pdu h =
+spoken_fits (Ok (sending.Sent len)) pdu h = omega (arith, both (label_most "sent ") (both (buffer_most len pdu h) (label_most "\n")))
+spoken_fits (Ok (sending.Started len segn)) pdu h =
     omega (arith, both (label_most "started ") (both (buffer_most len pdu h) (both (named_most " segments " 1 (segn + 1)) (label_most "\n"))))
-spoken_fits (sending.Refused refusal) pdu h = omega (arith, refused_most (refusal_number refusal))
+spoken_fits (Err refusal) pdu h = omega (arith, refused_most (refusal_number refusal))
 
 pub given_up_fits : GivenUpFits
 unfolding given_up_text
-given_up_fits up.Done = omega arith
-given_up_fits (up.Refused refusal) = omega (arith, refused_most (refusal_number refusal))
+given_up_fits (Ok _) = omega arith
+given_up_fits (Err refusal) = omega (arith, refused_most (refusal_number refusal))
 
 pub set_up_fits : SetUpFits
 unfolding set_up_text
-set_up_fits fresh.Ready = omega arith
-set_up_fits (fresh.Refused refusal) = omega (arith, refused_most (refusal_number refusal))
+set_up_fits (Ok _) = omega arith
+set_up_fits (Err refusal) = omega (arith, refused_most (refusal_number refusal))
 
 pub vetted_fits : VettedFits
 unfolding vetted_text
-vetted_fits (vetted.Approved len) message h = omega (arith, both (label_most "approved message ") (both (buffer_most len message h) (label_most "\n")))
-vetted_fits vetted.ShortBuffer message h = omega (arith, refused_most 16)
-vetted_fits (vetted.Fault k) message h = omega (arith, both (refusal_most 26) (both (named_most " at " 1 k) (label_most "\n")))
-vetted_fits vetted.Unfinished message h = omega (arith, refused_most 27)
+vetted_fits (Ok len) message h = omega (arith, both (label_most "approved message ") (both (buffer_most len message h) (label_most "\n")))
+vetted_fits (Err vetted.ShortBuffer) message h = omega (arith, refused_most 16)
+vetted_fits (Err (vetted.Fault k)) message h = omega (arith, both (refusal_most 26) (both (named_most " at " 1 k) (label_most "\n")))
+vetted_fits (Err vetted.Unfinished) message h = omega (arith, refused_most 27)
 
 pub noted_fits : NotedFits
 unfolding noted_text

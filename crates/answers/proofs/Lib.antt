@@ -1,6 +1,5 @@
 -- Laws of the definitions in specs/.
-pub mod AnswerLaws
-pub mod LookingLaws
+pub mod PlacedLaws
 pub mod TextLengths
 pub mod Fits
 pub mod ReadingsLaws

@@ -6,7 +6,7 @@
 --   set_up_text a            a setup
 --   vetted_text v message    PDUs that are vetted
 --   noted_text r             a line that needs no receiver
-use Rattle.std.specs.Prelude.{List, [], ◌∷◌, ◌++◌, ℕ, ◌+◌, take}
+use Rattle.std.specs.Prelude.{List, [], ◌∷◌, ◌++◌, Result, Ok, Err, ℕ, ◌+◌, take}
 use Prim.Native.String.{String}
 use Rattle.common.specs.Paper.{number_of}
 use Rattle.memory.specs.declared.outgoing.Effect.{Effect}
@@ -14,19 +14,15 @@ use Rattle.memory.specs.declared.outgoing.Effect.TheVariants as effect
 use Rattle.memory.specs.declared.pair.Pair.{Pair}
 use Rattle.transport.specs.declared.securing.Opener.{Opener}
 use Rattle.transport.specs.declared.securing.Opener.TheVariants.{Application, Labelled, Device}
-use Rattle.transport.specs.declared.vetting.Vetted.{Vetted}
-use Rattle.transport.specs.declared.vetting.Vetted.TheVariants as vetted
+use Rattle.transport.specs.declared.vetting.Refusal as refusal
+use Rattle.transport.specs.declared.vetting.Refusal.TheVariants as vetted
 use Rattle.transport.specs.Vetting as vetting
 use Rattle.receiver.specs.declared.answer.Answer.{Answer}
-use Rattle.receiver.specs.declared.answer.Answer.TheVariants.{Refused, Stored, Repeated, Access, Control, Acknowledgement}
+use Rattle.receiver.specs.declared.answer.Answer.TheVariants.{Stored, Repeated, Access, Control, Acknowledgement}
+use Rattle.receiver.specs.declared.answer.Refusal as receiver
 use Rattle.receiver.specs.Answer.{refusal_number}
-use Rattle.receiver.specs.declared.fresh.Answer.{Answer as SettingUp}
-use Rattle.receiver.specs.declared.fresh.Answer.TheVariants as fresh
-use Rattle.receiver.specs.declared.give_up.Answer.{Answer as GivingUp}
-use Rattle.receiver.specs.declared.give_up.Answer.TheVariants as up
 use Rattle.sending.specs.declared.answer.Answer.{Answer as Sending}
 use Rattle.sending.specs.declared.answer.Answer.TheVariants as sending
-use Rattle.sensor.specs.declared.properties.Answer.TheVariants as naming
 use Rattle.sensor.specs.Properties.{paper}
 use Rattle.commands.specs.declared.desk.Reply.{Reply}
 use Rattle.commands.specs.declared.desk.Reply.TheVariants as reply
@@ -82,13 +78,13 @@ abbrev pub acknowledgement_text : ℕ → ℕ → Effect → Trials → List ℕ
 acknowledgement_text src bits effect t = named "acknowledgement src " 4 src ++ (named " bits " 8 bits ++ (effect_text effect ++ trials_text t))
 
 -- what became of a PDU that was heard; the message stands in the first octets of a buffer
-unfoldable pub heard_text : Answer → Trials → List ℕ → List ℕ
-heard_text (Refused refusal) t message = refusal_text (refusal_number refusal) ++ trials_text t
-heard_text (Stored src auth bits) t message = octets "stored" ++ (segments_text src auth bits ++ trials_text t)
-heard_text (Repeated src auth bits) t message = octets "repeat" ++ (segments_text src auth bits ++ trials_text t)
-heard_text (Access src dst network opener pair len) t message = access_text src dst network opener ++ message_text pair t (take len message)
-heard_text (Control src dst network opcode pair len) t message = control_text src dst network opcode ++ message_text pair t (take len message)
-heard_text (Acknowledgement src bits effect) t message = acknowledgement_text src bits effect t
+unfoldable pub heard_text : Result Answer receiver.Refusal → Trials → List ℕ → List ℕ
+heard_text (Err refusal) t message = refusal_text (refusal_number refusal) ++ trials_text t
+heard_text (Ok (Stored src auth bits)) t message = octets "stored" ++ (segments_text src auth bits ++ trials_text t)
+heard_text (Ok (Repeated src auth bits)) t message = octets "repeat" ++ (segments_text src auth bits ++ trials_text t)
+heard_text (Ok (Access src dst network opener pair len)) t message = access_text src dst network opener ++ message_text pair t (take len message)
+heard_text (Ok (Control src dst network opcode pair len)) t message = control_text src dst network opcode ++ message_text pair t (take len message)
+heard_text (Ok (Acknowledgement src bits effect)) t message = acknowledgement_text src bits effect t
 
 -- what was forwarded, if anything, and the newline
 abbrev pub forward_text : List ℕ → List ℕ
@@ -96,28 +92,28 @@ forward_text [] = octets "\n"
 forward_text (o ∷ pdu) = octets " forward " ++ (hex_text (o ∷ pdu) ++ octets "\n")
 
 -- what a request to send is answered; the PDU stands in the first octets of a buffer
-unfoldable pub spoken_text : Sending → List ℕ → List ℕ
-spoken_text (sending.Sent len) pdu = octets "sent " ++ (hex_text (take len pdu) ++ octets "\n")
-spoken_text (sending.Started len segn) pdu = octets "started " ++ (hex_text (take len pdu) ++ (named " segments " 1 (segn + 1) ++ octets "\n"))
-spoken_text (sending.Refused refusal) pdu = refused_text (refusal_number refusal)
+unfoldable pub spoken_text : Result Sending receiver.Refusal → List ℕ → List ℕ
+spoken_text (Ok (sending.Sent len)) pdu = octets "sent " ++ (hex_text (take len pdu) ++ octets "\n")
+spoken_text (Ok (sending.Started len segn)) pdu = octets "started " ++ (hex_text (take len pdu) ++ (named " segments " 1 (segn + 1) ++ octets "\n"))
+spoken_text (Err refusal) pdu = refused_text (refusal_number refusal)
 
-unfoldable pub given_up_text : GivingUp → List ℕ
-given_up_text up.Done = octets "given up\n"
-given_up_text (up.Refused refusal) = refused_text (refusal_number refusal)
+unfoldable pub given_up_text : Result Unit receiver.Refusal → List ℕ
+given_up_text (Ok _) = octets "given up\n"
+given_up_text (Err refusal) = refused_text (refusal_number refusal)
 
-unfoldable pub set_up_text : SettingUp → List ℕ
-set_up_text fresh.Ready = octets "ready\n"
-set_up_text (fresh.Refused refusal) = refused_text (refusal_number refusal)
+unfoldable pub set_up_text : Result Unit receiver.Refusal → List ℕ
+set_up_text (Ok _) = octets "ready\n"
+set_up_text (Err refusal) = refused_text (refusal_number refusal)
 
 -- PDUs that are vetted; what is approved stands in the first octets of a buffer
-unfoldable pub vetted_text : Vetted → List ℕ → List ℕ
-vetted_text (vetted.Approved len) message = octets "approved message " ++ (hex_text (take len message) ++ octets "\n")
-vetted_text vetted.ShortBuffer message = refused_text (number_of (vetting.paper vetted.ShortBuffer))
-vetted_text (vetted.Fault k) message = refusal_text (number_of (vetting.paper (vetted.Fault k))) ++ (named " at " 1 k ++ octets "\n")
-vetted_text vetted.Unfinished message = refused_text (number_of (vetting.paper vetted.Unfinished))
+unfoldable pub vetted_text : Result ℕ refusal.Refusal → List ℕ → List ℕ
+vetted_text (Ok len) message = octets "approved message " ++ (hex_text (take len message) ++ octets "\n")
+vetted_text (Err vetted.ShortBuffer) message = refused_text (number_of (vetting.paper (Err vetted.ShortBuffer)))
+vetted_text (Err (vetted.Fault k)) message = refusal_text (number_of (vetting.paper (Err (vetted.Fault k)))) ++ (named " at " 1 k ++ octets "\n")
+vetted_text (Err vetted.Unfinished) message = refused_text (number_of (vetting.paper (Err vetted.Unfinished)))
 
 unfoldable pub noted_text : Reply → List ℕ
 noted_text reply.Ok = octets "ok\n"
 noted_text reply.Unread = octets "unread\n"
 noted_text reply.Silence = []
-noted_text reply.Refused = refused_text (paper naming.Refused)
+noted_text reply.Refused = refused_text (paper (Err (record {})))

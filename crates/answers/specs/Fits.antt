@@ -5,15 +5,14 @@
 --   SetUpFits, VettedFits, NotedFits,
 --   ReceiverFits, ReadingsFit             the texts of each kind of line
 -- A number may be of any size. The console lends 384 octets for a message or a PDU, and a receiver's lists are arrays of 16, 32 and 8.
-use Rattle.std.specs.Prelude.{List, ◌++◌, ◌≡◌, ℕ, ◌+◌, ◌≤◌, length, take}
-use Rattle.transport.specs.declared.vetting.Vetted.{Vetted}
+use Rattle.std.specs.Prelude.{List, ◌++◌, Result, ◌≡◌, ℕ, ◌+◌, ◌≤◌, length, take}
+use Rattle.transport.specs.declared.vetting.Refusal.{Refusal}
 use Rattle.transport.specs.Segment.{message_octets}
 use Rattle.memory.specs.Cache.{cache_entries}
 use Rattle.memory.specs.Replay.{replay_entries}
 use Rattle.memory.specs.Session.{session_slots}
 use Rattle.receiver.specs.declared.answer.Answer.{Answer}
-use Rattle.receiver.specs.declared.fresh.Answer.{Answer as SettingUp}
-use Rattle.receiver.specs.declared.give_up.Answer.{Answer as GivingUp}
+use Rattle.receiver.specs.declared.answer.Refusal as receiver
 use Rattle.receiver.specs.declared.state.Receiver.{Receiver}
 use Rattle.sending.specs.declared.answer.Answer.{Answer as Sending}
 use Rattle.sensor.specs.declared.properties.Properties.{Properties}
@@ -35,23 +34,23 @@ FitsWhole = (text out : List ℕ) (at : ℕ) → Fits text → at + 8192 ≤ len
 -- what became of a PDU that was heard, and what was forwarded
 abbrev pub HeardFits : Type 0
 HeardFits =
-    (a : Answer) (t : Trials) (message pdu : List ℕ) → length message ≤ message_octets → length pdu ≤ message_octets → Fits (heard_text a t message ++ forward_text pdu)
+    (a : Result Answer receiver.Refusal) (t : Trials) (message pdu : List ℕ) → length message ≤ message_octets → length pdu ≤ message_octets → Fits (heard_text a t message ++ forward_text pdu)
 
 -- a request to send
 abbrev pub SpokenFits : Type 0
-SpokenFits = (a : Sending) (pdu : List ℕ) → length pdu ≤ message_octets → Fits (spoken_text a pdu)
+SpokenFits = (a : Result Sending receiver.Refusal) (pdu : List ℕ) → length pdu ≤ message_octets → Fits (spoken_text a pdu)
 
 -- a request to give up
 abbrev pub GivenUpFits : Type 0
-GivenUpFits = (a : GivingUp) → Fits (given_up_text a)
+GivenUpFits = (a : Result Unit receiver.Refusal) → Fits (given_up_text a)
 
 -- a setup
 abbrev pub SetUpFits : Type 0
-SetUpFits = (a : SettingUp) → Fits (set_up_text a)
+SetUpFits = (a : Result Unit receiver.Refusal) → Fits (set_up_text a)
 
 -- PDUs that are vetted
 abbrev pub VettedFits : Type 0
-VettedFits = (v : Vetted) (message : List ℕ) → length message ≤ message_octets → Fits (vetted_text v message)
+VettedFits = (v : Result ℕ Refusal) (message : List ℕ) → length message ≤ message_octets → Fits (vetted_text v message)
 
 -- a line that needs no receiver
 abbrev pub NotedFits : Type 0

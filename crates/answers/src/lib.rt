@@ -1,5 +1,5 @@
-// The console's answers, written: each is put behind those before it in a lent buffer.
-#![tactic(auto)]
+// The console's answers: each is written behind those before it.
+#![tactic(auto, using(text::proofs::WriterLaws::writing_rules))]
 
 pub mod answer;
 pub mod looking;

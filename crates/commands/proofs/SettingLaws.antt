@@ -1,43 +1,31 @@
--- The SEQs of a line, read number by number: what is left to read behind those that were read, and how that goes on; what a line gives whose fields
--- were read.
+-- The SEQs of a line, read number by number: what is left to read behind those that were read, and how that goes on.
 -- Assumes nothing.
 use mathlib.Core.Path.{◌≡◌, refl, sym, ap, ap₂, ◌∙◌}
-use mathlib.Core.Bool.{Bool, true, false, ◌&&◌}
-use mathlib.Core.List.{List, [], ◌∷◌, ◌++◌, map, append-nil, append_assoc}
-use Prim.Native.Nat.{ℕ, suc, ◌+◌, ◌-◌, ◌≤◌, ◌<◌, min}
-use native.Mathlib.Nat.{zero-add, add-zero}
+use mathlib.Core.List.{List, [], ◌∷◌, ◌++◌, append-nil, append_assoc}
+use Prim.Native.Nat.{ℕ, ◌+◌, ◌≤◌, ◌<◌, min}
+use native.Mathlib.Numerals.{add-one}
 use native.Mathlib.Omega.{arith}
 use borrow.Author.Tests.{eqb-true, eqb-false, ltb-true, ltb-false}
 use lib.Dec.{eqb, ltb}
-use lib.ListN.{length, get_or, take, drop, set, replicate, length-append, length-drop, length-set, get_or-append, get_or-eq_default}
-use lib.Seq.{get_or-set_same, get_or-set_other, get_or_at, take_all}
-use Rattle.std.specs.Prelude.{if◌then◌else◌}
-use Rattle.common.specs.Lent.{lent}
+use lib.ListN.{length, get_or, drop, set, replicate, length-append, length-set, get_or-append, get_or-eq_default}
+use lib.Seq.{drop-cons, get_or-set_same, get_or-set_other, get_or_at}
+use Rattle.std.specs.Prelude.{Option, Some, None, option_map}
+use Rattle.std.proofs.lemmas.List.{drop_all}
 use Rattle.common.specs.Lists.{padded}
-use Rattle.common.specs.Search.{first}
 use Rattle.common.proofs.Lists.{tab_is, length_tab, get_d_tab}
 use Rattle.common.proofs.Tests.{by_test}
-use Rattle.text.specs.declared.number.Number.{Number}
-use Rattle.text.specs.declared.number.Number.TheVariants.{Value, NotHex}
-use Rattle.text.specs.declared.number.Short.TheVariants as short
-use Rattle.text.specs.Field.{is, behind, fields}
 use Rattle.text.specs.Number.{number_of}
-use Rattle.text.proofs.FieldLaws.{fields_on, fields_past, fields_from_two}
-use Rattle.node.specs.declared.setup.Setup.{Setup}
 use Rattle.node.specs.Addresses.{element_places}
-use Rattle.node.specs.Setup.{counted, with_elements}
+use Rattle.node.specs.Setup.{counted}
+use Rattle.commands.specs.Request.{with_field}
 use Rattle.commands.specs.declared.setting.Sequences.{Sequences}
-use Rattle.commands.specs.Setting.{sixteen_of, is_number, value_of, are_numbers, no_sequences, past_elements, sequences_of, fit, unfit, given_elements}
-
--- one number more, or none
-abbrev with_number : Number → (ℕ → Sequences) → Sequences
-with_number (Value n) f = f n
-with_number NotHex f = no_sequences
+use Rattle.commands.specs.Setting.{one_more, numbers_of, past_elements, sequences, sequences_of}
 
 -- so many numbers were read, and stand in the list: the texts that are left
-unfoldable pub sequences_from : ℕ → List ℕ → List (List ℕ) → Sequences
-sequences_from count next [] = record { fits = true; count = count; next = next }
-sequences_from count next (text ∷ texts) = with_number (number_of text) (λ n. sequences_from (counted element_places count) (set next count n) texts)
+unfoldable pub sequences_from : ℕ → List ℕ → List (List ℕ) → Option Sequences
+sequences_from count next [] = Some (record { count = count; next = next })
+sequences_from count next (text ∷ texts) =
+    with_field (number_of text) None (λ n. sequences_from (counted element_places count) (set next count n) texts)
 
 -- ---- one more, as far as is counted
 counted_past : (k : ℕ) → counted element_places (min k past_elements) ≡ min (k + 1) past_elements
@@ -75,94 +63,47 @@ module _ (l : List ℕ) (n : ℕ) where
 -- ---- the texts that are left, behind the numbers that were read
 abbrev ReadFrom : List (List ℕ) → List ℕ → Type 0
 ReadFrom texts l =
-    sequences_from (min (length l) past_elements) (padded element_places l) texts
-    ≡ (if are_numbers texts then
-    record { fits = true; count = min (length l + length texts) past_elements; next = padded element_places (l ++ map (λ text. value_of (number_of text)) texts) } else
-    no_sequences)
+    sequences_from (min (length l) past_elements) (padded element_places l) texts ≡ option_map (λ m. sequences (l ++ m)) (numbers_of texts)
+
+behind_one : (l : List ℕ) (n : ℕ) (rest : Option (List ℕ)) → option_map (λ m. sequences ((l ++ n ∷ []) ++ m)) rest ≡ option_map (λ m. sequences (l ++ m)) (option_map (λ m. n ∷ m) rest)
+behind_one l n None = refl
+behind_one l n (Some m) = ap (λ k. Some (sequences k)) (append_assoc l (n ∷ []) m)
 
 read_step :
-    (a : Number) (texts : List (List ℕ)) (l : List ℕ) → ((m : List ℕ) → ReadFrom texts m)
-    → with_number a (λ n. sequences_from (counted element_places (min (length l) past_elements)) (set (padded element_places l) (min (length l) past_elements) n) texts)
-    ≡ (if is_number a && are_numbers texts then
-    record { fits = true; count = min (length l + suc (length texts)) past_elements; next = padded element_places (l ++ value_of a ∷ map (λ text. value_of (number_of text)) texts) } else
-    no_sequences)
-read_step NotHex texts l p = refl
-read_step (Value n) texts l p =
-    let rest = map (λ text. value_of (number_of text)) texts in
+    (a : Option ℕ) (texts : List (List ℕ)) (l : List ℕ) → ((m : List ℕ) → ReadFrom texts m)
+    → with_field a None (λ n. sequences_from (counted element_places (min (length l) past_elements)) (set (padded element_places l) (min (length l) past_elements) n) texts)
+    ≡ option_map (λ m. sequences (l ++ m)) (one_more a (numbers_of texts))
+read_step None texts l p = refl
+read_step (Some n) texts l p =
     let long : length (l ++ n ∷ []) ≡ length l + 1 = length-append l (n ∷ []) in
     let one : counted element_places (min (length l) past_elements) ≡ min (length (l ++ n ∷ [])) past_elements = counted_past (length l) ∙ ap (λ (k : ℕ). min k past_elements) (sym long) in
-    let many : length (l ++ n ∷ []) + length texts ≡ length l + suc (length texts) = omega arith in
     ap₂ (λ (k : ℕ) (m : List ℕ). sequences_from k m texts) one (padded_more l n)
     ∙ p (l ++ n ∷ [])
-    ∙ ap₂ (λ (k : ℕ) (m : List ℕ). if are_numbers texts then record { fits = true; count = min k past_elements; next = padded element_places m } else no_sequences) many
-    (append_assoc l (n ∷ []) rest)
+    ∙ behind_one l n (numbers_of texts)
 
 read_from : (texts : List (List ℕ)) (l : List ℕ) → ReadFrom texts l
 unfolding sequences_from
-read_from [] l =
-    ap₂ (λ (k : ℕ) (m : List ℕ). record { fits = true; count = min k past_elements; next = padded element_places m }) (sym (add-zero (length l))) (sym (append-nil l))
+read_from [] l = ap (λ m. Some (sequences m)) (sym (append-nil l))
 read_from (text ∷ texts) l = read_step (number_of text) texts l (read_from texts)
 
 -- at the start none was read
 pub read_start : (texts : List (List ℕ)) → sequences_of texts ≡ sequences_from 0 (replicate element_places 0) texts
 unfolding sequences_of
-read_start texts =
-    sym
-    (read_from texts []
-    ∙ ap
-    (λ (k : ℕ).
-    if are_numbers texts then record { fits = true; count = min k past_elements; next = padded element_places (map (λ text. value_of (number_of text)) texts) } else
-    no_sequences)
-    (zero-add (length texts)))
+read_start texts = sym (read_from texts [])
 
--- ---- the text behind a space at `at`; it is a number, or is none; or the line ends
-module _
-    (line : List ℕ) (at end : ℕ) (h : at < length line) (space : get_or line at 0 ≡ 32) (e : end ≡ (at + 1) + first (is 32) (drop (at + 1) line))
-    (text : List ℕ) (t : text ≡ take (end - (at + 1)) (take (length line - (at + 1)) (drop (at + 1) line))) where
-  pub field_left : drop 1 (fields (drop at line)) ≡ text ∷ drop 1 (fields (drop end line))
-  field_left =
-      fields_on line at end h space e
-      ∙ ap (λ (m : List ℕ). m ∷ drop 1 (fields (drop end line)))
-      (sym
-      (t ∙ ap (take (end - (at + 1))) (take_all (length line - (at + 1)) (drop (at + 1) line) (simp length-drop (omega arith)))))
-
-  module _ (a : Number) (r : a ≡ number_of text) (count : ℕ) (next : List ℕ) where
+-- ---- text number k: it is a number, or is none; or there is no more
+module _ (texts : List (List ℕ)) (k count : ℕ) (next : List ℕ) where
+  module _ (text : List ℕ) (h : (k < length texts) × (text ≡ get_or texts k text)) where
     pub read_on :
-        (n : ℕ) → a ≡ Value n
-        → sequences_from count next (drop 1 (fields (drop at line)))
-        ≡ sequences_from (counted element_places count) (set next count n) (drop 1 (fields (drop end line)))
+        (n : ℕ) → Some n ≡ number_of text
+        → sequences_from count next (drop k texts) ≡ sequences_from (counted element_places count) (set next count n) (drop (k + 1) texts)
     unfolding sequences_from
-    read_on n k = rw (field_left, ← r, k)
+    read_on n r = rw (add-one k, drop-cons texts k text h.0, ← h.1, ← r)
 
-    pub read_wrong : a ≡ NotHex → no_sequences ≡ sequences_from count next (drop 1 (fields (drop at line)))
+    pub read_wrong : None ≡ number_of text → None ≡ sequences_from count next (drop k texts)
     unfolding sequences_from
-    read_wrong k = rw (field_left, ← r, k)
+    read_wrong r = rw (drop-cons texts k text h.0, ← h.1, ← r)
 
-pub read_end :
-    (line : List ℕ) (at count : ℕ) (next : List ℕ) → length line ≤ at
-    → record { fits = true; count = count; next = next } ≡ sequences_from count next (drop 1 (fields (drop at line)))
-unfolding sequences_from
-read_end line at count next h = rw (fields_past line at h)
-
--- ---- what a line gives
--- a field was read as something
-pub field_read : {A : Type 0} (f : List ℕ → A) (text field : List ℕ) (a is : A) → a ≡ f text → text ≡ field → a ≡ is → is ≡ f field
-field_read f text field a is e t k = sym k ∙ e ∙ ap f t
-
--- as a key, or as none
-pub key_read :
-    (b is : Bool) (key text field : List ℕ) → lent b key ≡ sixteen_of text → text ≡ field → b ≡ is → lent is key ≡ sixteen_of field
-key_read b is key text field e t k = field_read sixteen_of text field (lent b key) (lent is key) e t (ap (λ (x : Bool). lent x key) k)
-
--- the SEQs stand in the fields from number 2 on
-pub sequences_of_law :
-    (line rest : List ℕ) (q : Sequences) → rest ≡ behind 1 line → q ≡ sequences_of (drop 1 (fields rest)) → q ≡ sequences_of (drop 2 (fields line))
-sequences_of_law line rest q e k =
-    k ∙ ap (λ (l : List ℕ). sequences_of (drop 1 (fields l))) e ∙ ap sequences_of (sym (fields_from_two line))
-
-module _ (s : Setup) (first : ℕ) (q : Sequences) where
-  pub elements_fit : q.fits ≡ true → fit (with_elements s first q.count q.next) ≡ given_elements s (short.Value first) q
-  elements_fit h = rw h
-
-  pub elements_unfit : q.fits ≡ false → unfit s ≡ given_elements s (short.Value first) q
-  elements_unfit h = rw h
+  pub read_end : length texts ≤ k → Some (record { count = count; next = next }) ≡ sequences_from count next (drop k texts)
+  unfolding sequences_from
+  read_end h = rw (drop_all k texts h)

@@ -3,12 +3,11 @@
 --   at_start              the desk at the start
 --   after_setup d ready   after a `setup`, ready or refused
 --   noting d said text    what a line leaves that needs no receiver, and what it is answered
-use Rattle.std.specs.Prelude.{Bool, false, ◌||◌, List, ℕ, if◌then◌else◌}
-use Rattle.sensor.specs.declared.properties.Answer.{Answer}
-use Rattle.sensor.specs.declared.properties.Answer.TheVariants.{Named, Refused}
-use Rattle.sensor.specs.declared.properties.Naming.{Naming}
+use Rattle.std.specs.Prelude.{Option, Some, None, Result, Ok, Err, Bool, false, ◌||◌, List, ℕ}
+use Rattle.sensor.specs.declared.properties.Refused.{Refused}
 use Rattle.sensor.specs.declared.properties.Properties.{Properties}
 use Rattle.sensor.specs.Properties.{no_properties, naming}
+use Rattle.node.specs.declared.setup.Setup.{Setup}
 use Rattle.node.specs.Setup.{nothing}
 use Rattle.commands.specs.declared.desk.Desk.{Desk}
 use Rattle.commands.specs.declared.desk.Noted.{Noted}
@@ -17,7 +16,6 @@ use Rattle.commands.specs.declared.desk.Reply.{Reply}
 use Rattle.commands.specs.declared.desk.Reply.TheVariants as reply
 use Rattle.commands.specs.declared.line.Line.{Line}
 use Rattle.commands.specs.declared.line.Line.TheVariants as line
-use Rattle.commands.specs.declared.setting.Given.{Given}
 use Rattle.commands.specs.Setting.{giving}
 
 -- no receiver, nothing given, buffers of 1d and 180 octets, in hex, and no property named
@@ -33,10 +31,9 @@ abbrev pub noted : Desk → Reply → Noted
 noted d answer = record { desk = d; reply = answer }
 
 -- a line that leads to `setup`: unread where its fields do not fit
-abbrev pub noting_given : Desk → Given → Noted
-noting_given d g =
-    if g.fits then noted (record { ready = d.ready; given = g.setup; room = d.room; properties = d.properties }) reply.Ok else
-    noted d reply.Unread
+abbrev pub noting_given : Desk → Option Setup → Noted
+noting_given d (Some given) = noted (record { ready = d.ready; given = given; room = d.room; properties = d.properties }) reply.Ok
+noting_given d None = noted d reply.Unread
 
 -- `room FORWARD MESSAGE`: the lengths of the two buffers lent from then on
 abbrev pub noting_room : Desk → Room → Noted
@@ -46,14 +43,10 @@ noting_room d room = noted (record { ready = d.ready; given = d.given; room = ro
 abbrev pub with_properties : Desk → Properties → Desk
 with_properties d properties = record { ready = d.ready; given = d.given; room = d.room; properties = properties }
 
--- what naming a property is answered: where it is refused, the desk is as it was
-abbrev pub noting_named : Desk → Properties → Answer → Noted
-noting_named d properties Named = noted (with_properties d properties) reply.Ok
-noting_named d properties Refused = noted d reply.Refused
-
--- `property P humidity`, `property P temperature`: one property more is named
-abbrev pub noting_property : Desk → Naming → Noted
-noting_property d n = noting_named d n.properties n.answer
+-- `property P humidity`, `property P temperature`: one property more is named; where it is refused, the desk is as it was
+abbrev pub noting_property : Desk → Result Properties Refused → Noted
+noting_property d (Ok after) = noted (with_properties d after) reply.Ok
+noting_property d (Err r) = noted d reply.Refused
 
 -- `properties`: none is named
 abbrev pub forgetting : Desk → Noted

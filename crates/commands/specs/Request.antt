@@ -1,55 +1,58 @@
--- The fields of a line: numbers, and those of a line that sends. Each definition hands what it reads on to f, and is x where it does not fit.
---   up_to most text x f         a number of at most so much
---   with_bit text x f           0 or 1
---   with_ttl text x f           a TTL
---   with_destination text x f   where a message is sent to
---   with_key text x f           the key of an access message
---   with_mic text x f           the size of its MIC
---   with_request line x f       element, destination, TTL and network key
-use Rattle.std.specs.Prelude.{Bool, true, false, List, ℕ, eqb, take, drop, if◌then◌else◌}
+-- The fields of a line: numbers, and those of a line that sends; none where a field does not fit.
+--   with_field o x f     what f makes of what a field says; x where it does not fit
+--   up_to most text      a number of at most so much
+--   ttl_of text          a TTL
+--   destination_of text  where a message is sent to
+--   key_of text          the key of an access message
+--   mic_of text          the size of its MIC
+--   request_of line      element, destination, TTL and network key
+use Rattle.std.specs.Prelude.{Option, Some, None, option_map, Bool, true, false, List, ℕ, eqb, take, drop, if◌then◌else◌}
 use Rattle.common.specs.Lists.{same}
 use Rattle.transport.specs.declared.securing.MessageKey.{MessageKey}
 use Rattle.transport.specs.declared.securing.MessageKey.TheVariants.{Application, Device}
 use Rattle.sending.specs.declared.request.Destination.{Destination}
 use Rattle.sending.specs.declared.request.Destination.TheVariants.{Address, Label}
 use Rattle.sending.specs.declared.request.Request.{Request}
-use Rattle.sending.specs.declared.request.Ttl.{Ttl}
-use Rattle.sending.specs.declared.request.Ttl.TheVariants.{Unnamed, Named}
 use Rattle.text.specs.Field.{field_of}
 use Rattle.text.specs.Number.{number_of, at_most}
 use Rattle.text.specs.Octets.{octets}
 
--- a number of at most so much
-abbrev pub up_to : {A : Type 0} → ℕ → List ℕ → A → (ℕ → A) → A
-up_to most text x f = at_most most f x (number_of text)
+-- what is made of what a field says; x where it does not fit
+abbrev pub with_field : {A B : Type 0} → Option A → B → (A → B) → B
+with_field None x f = x
+with_field (Some a) x f = f a
 
--- 0 or 1: whether it is 1
-unfoldable pub with_bit : {A : Type 0} → List ℕ → A → (Bool → A) → A
-with_bit text x f = up_to 1 text x λ n. f (eqb n 1)
+-- a number of at most so much
+abbrev pub up_to : ℕ → List ℕ → Option ℕ
+up_to most text = at_most most (number_of text)
 
 -- a TTL: a number, or - where it is left unnamed
-unfoldable pub with_ttl : {A : Type 0} → List ℕ → A → (Ttl → A) → A
-with_ttl text x f = if same text (octets "-") then f Unnamed else up_to 0xFF text x λ n. f (Named n)
+unfoldable pub ttl_of : List ℕ → Option (Option ℕ)
+ttl_of text = if same text (octets "-") then Some None else option_map Some (up_to 0xFF text)
 
 -- a destination: an address, or `label:` with a label's number behind it
-unfoldable pub with_destination : {A : Type 0} → List ℕ → A → (Destination → A) → A
-with_destination text x f =
-    if same (take 6 text) (octets "label:") then up_to 0xFF (drop 6 text) x (λ i. f (Label i)) else
-    up_to 0xFFFF text x λ a. f (Address a)
+unfoldable pub destination_of : List ℕ → Option Destination
+destination_of text =
+    if same (take 6 text) (octets "label:") then option_map Label (up_to 0xFF (drop 6 text)) else
+    option_map Address (up_to 0xFFFF text)
 
 -- the key of an access message: an application key's number, or `dev`
-unfoldable pub with_key : {A : Type 0} → List ℕ → A → (MessageKey → A) → A
-with_key text x f = if same text (octets "dev") then f Device else up_to 0xFF text x λ n. f (Application n)
+unfoldable pub key_of : List ℕ → Option MessageKey
+key_of text = if same text (octets "dev") then Some Device else option_map Application (up_to 0xFF text)
 
 -- the size of the MIC, 4 or 8: whether it is 8
-unfoldable pub with_mic : {A : Type 0} → List ℕ → A → (Bool → A) → A
-with_mic text x f = up_to 0xFF text x λ n. if eqb n 4 then f false else if eqb n 8 then f true else x
+unfoldable pub mic_of : List ℕ → Option Bool
+mic_of text =
+    with_field (up_to 0xFF text) None λ n.
+    if eqb n 4 then Some false else
+    if eqb n 8 then Some true else
+    None
 
 -- `E DST TTL K`, from field 1 on
-unfoldable pub with_request : {A : Type 0} → List ℕ → A → (Request → A) → A
-with_request line x f =
-    up_to 0xFF (field_of 1 line) x λ e.
-    with_destination (field_of 2 line) x λ dst.
-    with_ttl (field_of 3 line) x λ ttl.
-    up_to 0xFF (field_of 4 line) x λ k.
-    f (record { element = e; dst = dst; ttl = ttl; network = k })
+unfoldable pub request_of : List ℕ → Option Request
+request_of line =
+    with_field (up_to 0xFF (field_of 1 line)) None λ e.
+    with_field (destination_of (field_of 2 line)) None λ dst.
+    with_field (ttl_of (field_of 3 line)) None λ ttl.
+    with_field (up_to 0xFF (field_of 4 line)) None λ k.
+    Some (record { element = e; dst = dst; ttl = ttl; network = k })

@@ -39,6 +39,7 @@ pub(crate) enum Order {
 }
 
 // The command of a line. Where there is no receiver yet, only the lines that set one up and those that have nothing to do with one are commands.
+#[tactic(auto, unfolding(crate::specs::Command::command_of))]
 pub(crate) fn of(line: &[u8], ready: bool) -> Command
     ensures { result ≡ command_of line.now ready }
 {
@@ -49,7 +50,9 @@ pub(crate) fn of(line: &[u8], ready: bool) -> Command
     setting_up(line, word)
 }
 
+// The words are compared one after another and not by a `match` on octets: each is a clause of its own in the definition, in this order.
 // The words that need a receiver, and all others. A command that has no field besides its word is the whole line.
+#[tactic(auto, unfolding(crate::specs::Command::with_receiver))]
 fn with_receiver(line: &[u8], word: &[u8]) -> Command
     ensures { result ≡ with_receiver line.now word.now }
 {
@@ -72,6 +75,7 @@ fn with_receiver(line: &[u8], word: &[u8]) -> Command
 }
 
 // The words that send, and those that need no receiver.
+#[tactic(auto, unfolding(crate::specs::Command::speaking))]
 fn speaking(line: &[u8], word: &[u8]) -> Command
     ensures { result ≡ speaking line.now word.now }
 {
@@ -91,6 +95,7 @@ fn speaking(line: &[u8], word: &[u8]) -> Command
 }
 
 // The words that lead to a receiver, and those that have nothing to do with one.
+#[tactic(auto, unfolding(crate::specs::Command::setting_up))]
 fn setting_up(line: &[u8], word: &[u8]) -> Command
     ensures { result ≡ setting_up line.now word.now }
 {
@@ -113,6 +118,7 @@ fn setting_up(line: &[u8], word: &[u8]) -> Command
 }
 
 // The words that give a key or a label, and those that have nothing to do with a receiver.
+#[tactic(auto, unfolding(crate::specs::Command::giving_key))]
 fn giving_key(line: &[u8], word: &[u8]) -> Command
     ensures { result ≡ giving_key line.now word.now }
 {
@@ -132,6 +138,7 @@ fn giving_key(line: &[u8], word: &[u8]) -> Command
 }
 
 // The words that have nothing to do with a receiver: those that read what sensors say, and `vet`.
+#[tactic(auto, unfolding(crate::specs::Command::apart))]
 fn apart(line: &[u8], word: &[u8]) -> Command
     ensures { result ≡ apart line.now word.now }
 {

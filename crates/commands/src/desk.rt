@@ -8,7 +8,7 @@ use super::setting;
 use super::setting::Item;
 use node::setup::Setup;
 use sensor::properties;
-use sensor::properties::{Answer, Kind, Properties};
+use sensor::properties::{Kind, Properties};
 
 // The lengths of the buffers lent for a PDU and for a message.
 #[derive(Clone, Copy)]
@@ -20,6 +20,7 @@ pub struct Room {
 #[derive(Clone, Copy)]
 pub struct Desk {
     // Whether a `setup` was ready: before, there is no receiver.
+    // No `Option` of the receiver: a line is read by this word alone, and the desk is copied without it.
     pub ready: bool,
     pub given: Setup,
     pub room: Room,
@@ -64,17 +65,16 @@ pub fn start() -> Desk
 pub fn after_setup(d: Desk, ready: bool) -> Desk
     ensures { result ≡ after_setup d ready }
 {
-    let room = d.room;
-    let properties = d.properties;
     Desk {
         ready: d.ready || ready,
         given: node::setup::nothing(),
-        room,
-        properties,
+        ..d
     }
 }
 
 // Notes a line that needs no receiver; any other is unread, and so are readings and what is vetted, which are answered elsewhere.
+// Each arm is one of the definition.
+#[tactic(auto, unfolding(crate::specs::Desk::noting))]
 pub fn note(d: Desk, said: Line, line: &[u8]) -> Noted
     ensures { result ≡ noting d said line.now }
 {
@@ -82,16 +82,16 @@ pub fn note(d: Desk, said: Line, line: &[u8]) -> Noted
         Line::Give(item) => give(d, item, line),
         Line::Room(room) => make_room(d, room),
         Line::Skipped => skipped(d),
-        Line::Unread => unread(d),
-        Line::SetUp => unread(d),
-        Line::Hear(_) => unread(d),
-        Line::Send(_) => unread(d),
-        Line::GiveUp(_) => unread(d),
-        Line::Show => unread(d),
         Line::Property { property, kind } => name(d, property, kind),
         Line::Forget => forget(d),
-        Line::Readings(_) => unread(d),
-        Line::Vet { .. } => unread(d),
+        Line::Unread
+        | Line::SetUp
+        | Line::Hear(_)
+        | Line::Send(_)
+        | Line::GiveUp(_)
+        | Line::Show
+        | Line::Readings(_)
+        | Line::Vet { .. } => unread(d),
     }
 }
 
@@ -116,19 +116,15 @@ fn unread(d: Desk) -> Noted
 }
 
 // A line that leads to `setup`.
+#[tactic(auto, unfolding(crate::specs::Desk::noting))]
 fn give(d: Desk, item: Item, line: &[u8]) -> Noted
     ensures { result ≡ noting d (Line.Give item) line.now }
 {
-    let before = d.given;
-    let g = setting::give(before, item, line);
-    if !g.fits {
+    let Some(given) = setting::give(d.given, item, line) else {
         return unread(d);
-    }
-    let given = g.setup;
-    let mut desk = d;
-    desk.given = given;
+    };
     Noted {
-        desk,
+        desk: Desk { given, ..d },
         reply: Reply::Ok,
     }
 }
@@ -137,10 +133,8 @@ fn give(d: Desk, item: Item, line: &[u8]) -> Noted
 fn make_room(d: Desk, room: Room) -> Noted
     ensures { result ≡ noting_room d room }
 {
-    let mut desk = d;
-    desk.room = room;
     Noted {
-        desk,
+        desk: Desk { room, ..d },
         reply: Reply::Ok,
     }
 }
@@ -149,20 +143,15 @@ fn make_room(d: Desk, room: Room) -> Noted
 fn name(d: Desk, property: u16, kind: Kind) -> Noted
     ensures { result ≡ noting_property d (naming d.properties property kind) }
 {
-    let before = d.properties;
-    let naming = properties::name(before, property, kind);
-    let answer = naming.answer;
-    match answer {
-        Answer::Named => {
-            let after = naming.properties;
-            let mut desk = d;
-            desk.properties = after;
-            Noted {
-                desk,
-                reply: Reply::Ok,
-            }
-        }
-        Answer::Refused => Noted {
+    match properties::name(d.properties, property, kind) {
+        Ok(after) => Noted {
+            desk: Desk {
+                properties: after,
+                ..d
+            },
+            reply: Reply::Ok,
+        },
+        Err(_) => Noted {
             desk: d,
             reply: Reply::Refused,
         },
@@ -173,10 +162,9 @@ fn name(d: Desk, property: u16, kind: Kind) -> Noted
 fn forget(d: Desk) -> Noted
     ensures { result ≡ forgetting d }
 {
-    let mut desk = d;
-    desk.properties = properties::none();
+    let properties = properties::none();
     Noted {
-        desk,
+        desk: Desk { properties, ..d },
         reply: Reply::Ok,
     }
 }

@@ -1,18 +1,16 @@
 // What a line says, by its command and its fields. The octets of a PDU or a message go to the first octets of a lent buffer.
 ghost use Rattle.std.specs.Prelude.{◌≡◌};
 ghost use Rattle.common.specs.Lent.{lent};
-ghost use Rattle.commands.specs.Line.{room_of, hear_of, access_of, control_of, segment_of, ack_of, drop_of, order_of, property_of, readings_of, vet_of, line_of};
+ghost use Rattle.commands.specs.Line.{room_of, hear_of, access_of, control_of, segment_of, ack_of, drop_of, order_of, property_of, readings_of, vet_of, said_by, line_of};
 
 use super::command::{Command, Order};
 use super::desk::Room;
 use super::listing::list;
-use super::naming::{KindField, kind_of};
-use super::requesting::{Asked, KeyField, MicField, key_of, mic_of, request_of};
+use super::naming::kind_of;
+use super::requesting::{key_of, mic_of, request_of};
 use super::setting::Item;
 use sending::request::Request;
 use sensor::properties::Kind;
-use text::hex::Octets;
-use text::number::{Bit, Number, Octet, Short};
 use text::{field, hex, number};
 use transport::securing::MessageKey;
 
@@ -76,10 +74,11 @@ pub enum GivingUp {
 }
 
 // Reads a line. Where there is no receiver yet, no line fits that needs one. Over 4,095 octets are too long.
+#[tactic(auto, using(crate::proofs::LineRules::line_rules))]
 pub fn read(line: &[u8], ready: bool, octets: &mut [u8]) -> Line
     ensures { lent result octets.new ≡ line_of line.now ready octets.old }
 {
-    if line.len() == 0 {
+    if line.is_empty() {
         return Line::Skipped;
     }
     if line[0] == b'#' {
@@ -88,20 +87,31 @@ pub fn read(line: &[u8], ready: bool, octets: &mut [u8]) -> Line
     if 4095 < line.len() {
         return Line::Unread;
     }
-    match super::command::of(line, ready) {
+    let command = super::command::of(line, ready);
+    read_command(command, line, octets).unwrap_or(Line::Unread)
+}
+
+// A line of a command: none where it does not fit its form. Each arm is one of the definition.
+#[tactic(auto, unfolding(crate::specs::Line::said_by))]
+fn read_command(command: Command, line: &[u8], octets: &mut [u8]) -> Option<Line>
+    ensures { lent result octets.new ≡ said_by command line.now octets.old }
+{
+    match command {
         Command::Order(order) => read_order(order, line, octets),
-        Command::Give(item) => Line::Give(item),
-        Command::SetUp => Line::SetUp,
+        Command::Give(item) => Some(Line::Give(item)),
+        Command::SetUp => Some(Line::SetUp),
         Command::Property => property(line),
-        Command::Forget => Line::Forget,
+        Command::Forget => Some(Line::Forget),
         Command::Readings => readings(line, octets),
         Command::Vet => vet(line, octets),
-        Command::Unknown => Line::Unread,
+        Command::Unknown => None,
     }
 }
 
 // A line for the receiver.
-fn read_order(order: Order, line: &[u8], octets: &mut [u8]) -> Line
+// Arms that only hand on: the definition names each of them too.
+#[tactic(auto, unfolding(crate::specs::Line::order_of))]
+fn read_order(order: Order, line: &[u8], octets: &mut [u8]) -> Option<Line>
     ensures { lent result octets.new ≡ order_of order line.now octets.old }
 {
     match order {
@@ -110,154 +120,126 @@ fn read_order(order: Order, line: &[u8], octets: &mut [u8]) -> Line
         Order::Control => control(line, octets),
         Order::Segment => segment(line),
         Order::Ack => acknowledgement(line),
-        Order::Stop => Line::GiveUp(GivingUp::Message),
+        Order::Stop => Some(Line::GiveUp(GivingUp::Message)),
         Order::Drop => session(line),
         Order::Room => room(line),
-        Order::Show => Line::Show,
+        Order::Show => Some(Line::Show),
     }
 }
 
-// `hear PDU`.
-fn hear(line: &[u8], octets: &mut [u8]) -> Line
+// `hear PDU`. `readings` reads alike, and `segment` as `drop`; each is the definition of its own line, and a function of both would be no shorter.
+#[tactic(auto, unfolding(crate::specs::Line::hear_of))]
+fn hear(line: &[u8], octets: &mut [u8]) -> Option<Line>
     ensures { lent result octets.new ≡ hear_of line.now octets.old }
 {
-    match hex::read(field::last(line, 1), octets) {
-        Octets::Count(len) => Line::Hear(len),
-        Octets::NotHex => Line::Unread,
-    }
+    let len = hex::read(field::last(line, 1), octets)?;
+    Some(Line::Hear(len))
 }
 
 // `access E DST TTL K J MIC BYTES`: element E sends under network key K and application key J, or `dev`.
-fn access(line: &[u8], octets: &mut [u8]) -> Line
+#[tactic(auto, unfolding(crate::specs::Line::access_of))]
+fn access(line: &[u8], octets: &mut [u8]) -> Option<Line>
     ensures { lent result octets.new ≡ access_of line.now octets.old }
 {
-    let Asked::For(request) = request_of(line) else {
-        return Line::Unread;
-    };
-    let KeyField::Fits(key) = key_of(field::nth(line, 5)) else {
-        return Line::Unread;
-    };
-    let MicField::Fits(szmic) = mic_of(field::nth(line, 6)) else {
-        return Line::Unread;
-    };
-    let Octets::Count(len) = hex::read(field::last(line, 7), octets) else {
-        return Line::Unread;
-    };
-    Line::Send(Sending::Access {
+    let request = request_of(line)?;
+    let key = key_of(field::nth(line, 5))?;
+    let szmic = mic_of(field::nth(line, 6))?;
+    let len = hex::read(field::last(line, 7), octets)?;
+    Some(Line::Send(Sending::Access {
         request,
         key,
         szmic,
         len,
-    })
+    }))
 }
 
 // `control E DST TTL K O BYTES`: element E sends with opcode O.
-fn control(line: &[u8], octets: &mut [u8]) -> Line
+#[tactic(auto, unfolding(crate::specs::Line::control_of))]
+fn control(line: &[u8], octets: &mut [u8]) -> Option<Line>
     ensures { lent result octets.new ≡ control_of line.now octets.old }
 {
-    let Asked::For(request) = request_of(line) else {
-        return Line::Unread;
-    };
-    let Octet::Value(opcode) = number::read_octet(field::nth(line, 5)) else {
-        return Line::Unread;
-    };
-    let Octets::Count(len) = hex::read(field::last(line, 6), octets) else {
-        return Line::Unread;
-    };
-    Line::Send(Sending::Control {
+    let request = request_of(line)?;
+    let opcode = number::read_octet(field::nth(line, 5))?;
+    let len = hex::read(field::last(line, 6), octets)?;
+    Some(Line::Send(Sending::Control {
         request,
         opcode,
         len,
-    })
+    }))
 }
 
 // `segment N`.
-fn segment(line: &[u8]) -> Line
+#[tactic(auto, unfolding(crate::specs::Line::segment_of))]
+fn segment(line: &[u8]) -> Option<Line>
     ensures { result ≡ segment_of line.now }
 {
-    match number::read_octet(field::last(line, 1)) {
-        Octet::Value(n) => Line::Send(Sending::Segment(n)),
-        Octet::Unfit => Line::Unread,
-    }
+    let n = number::read_octet(field::last(line, 1))?;
+    Some(Line::Send(Sending::Segment(n)))
 }
 
 // `ack K S`: acknowledges source S over network key K.
-fn acknowledgement(line: &[u8]) -> Line
+#[tactic(auto, unfolding(crate::specs::Line::ack_of))]
+fn acknowledgement(line: &[u8]) -> Option<Line>
     ensures { result ≡ ack_of line.now }
 {
-    let Octet::Value(network) = number::read_octet(field::nth(line, 1)) else {
-        return Line::Unread;
-    };
-    let Short::Value(src) = number::read_short(field::last(line, 2)) else {
-        return Line::Unread;
-    };
-    Line::Send(Sending::Acknowledgement {
+    let network = number::read_octet(field::nth(line, 1))?;
+    let src = number::read_short(field::last(line, 2))?;
+    Some(Line::Send(Sending::Acknowledgement {
         network: network as usize,
         src,
-    })
+    }))
 }
 
 // `drop S`: gives up the session of source S.
-fn session(line: &[u8]) -> Line
+#[tactic(auto, unfolding(crate::specs::Line::drop_of))]
+fn session(line: &[u8]) -> Option<Line>
     ensures { result ≡ drop_of line.now }
 {
-    match number::read_short(field::last(line, 1)) {
-        Short::Value(src) => Line::GiveUp(GivingUp::Session(src)),
-        Short::Unfit => Line::Unread,
-    }
+    let src = number::read_short(field::last(line, 1))?;
+    Some(Line::GiveUp(GivingUp::Session(src)))
 }
 
 // `room FORWARD MESSAGE`: the lengths of the two buffers lent from then on, each at most 384.
-fn room(line: &[u8]) -> Line
+#[tactic(auto, unfolding(crate::specs::Line::room_of))]
+fn room(line: &[u8]) -> Option<Line>
     ensures { result ≡ room_of line.now }
 {
-    let Number::Value(forward) = number::read_up_to(384, field::nth(line, 1)) else {
-        return Line::Unread;
-    };
-    let Number::Value(message) = number::read_up_to(384, field::last(line, 2)) else {
-        return Line::Unread;
-    };
-    Line::Room(Room {
+    let forward = number::read_up_to(384, field::nth(line, 1))?;
+    let message = number::read_up_to(384, field::last(line, 2))?;
+    Some(Line::Room(Room {
         forward: forward as usize,
         message: message as usize,
-    })
+    }))
 }
 
 // `property P humidity` or `property P temperature`.
-fn property(line: &[u8]) -> Line
+#[tactic(auto, unfolding(crate::specs::Line::property_of))]
+fn property(line: &[u8]) -> Option<Line>
     ensures { result ≡ property_of line.now }
 {
-    let Short::Value(property) = number::read_short(field::nth(line, 1)) else {
-        return Line::Unread;
-    };
-    let KindField::Fits(kind) = kind_of(field::last(line, 2)) else {
-        return Line::Unread;
-    };
-    Line::Property { property, kind }
+    let property = number::read_short(field::nth(line, 1))?;
+    let kind = kind_of(field::last(line, 2))?;
+    Some(Line::Property { property, kind })
 }
 
 // `readings MESSAGE`.
-fn readings(line: &[u8], octets: &mut [u8]) -> Line
+#[tactic(auto, unfolding(crate::specs::Line::readings_of))]
+fn readings(line: &[u8], octets: &mut [u8]) -> Option<Line>
     ensures { lent result octets.new ≡ readings_of line.now octets.old }
 {
-    match hex::read(field::last(line, 1), octets) {
-        Octets::Count(len) => Line::Readings(len),
-        Octets::NotHex => Line::Unread,
-    }
+    let len = hex::read(field::last(line, 1), octets)?;
+    Some(Line::Readings(len))
 }
 
 // `vet CTL PDU ..`: no PDU or more, each behind its length in the buffer. A line never lists more octets than it has characters.
-fn vet(line: &[u8], octets: &mut [u8]) -> Line
+#[tactic(auto, using(crate::proofs::ListingLaws::vet_rules), unfolding(crate::specs::Line::vet_of))]
+fn vet(line: &[u8], octets: &mut [u8]) -> Option<Line>
     ensures { lent result octets.new ≡ vet_of line.now octets.old }
 {
-    let Bit::Value(ctl) = number::read_bit(field::nth(line, 1)) else {
-        return Line::Unread;
-    };
+    let ctl = number::read_bit(field::nth(line, 1))?;
     if octets.len() < line.len() {
-        return Line::Unread;
+        return None;
     }
-    match list(field::last(line, 1), octets) {
-        Octets::Count(len) => Line::Vet { ctl, len },
-        Octets::NotHex => Line::Unread,
-    }
+    let len = list(field::last(line, 1), octets)?;
+    Some(Line::Vet { ctl, len })
 }

@@ -5,27 +5,20 @@ ghost use Rattle.text.specs.Field.{fields};
 ghost use Rattle.commands.specs.Listing.{listing};
 
 use text::hex;
-use text::hex::Octets;
 
-// Lists the PDUs of a line, one behind each space, in the first octets of out: each behind one octet with its length. NotHex where a field is no PDU,
+// Lists the PDUs of a line, one behind each space, in the first octets of out: each behind one octet with its length. None where a field is no PDU,
 // or one of more than 255 octets.
-pub(crate) fn list(line: &[u8], out: &mut [u8]) -> Octets
+pub(crate) fn list(line: &[u8], out: &mut [u8]) -> Option<usize>
     requires { length line.now ≤ length out.old }
     ensures { lent result out.new ≡ listing (drop 1 (fields line.now)) out.old }
 {
     let mut to: usize = 0;
-    let mut at = text::until(line, 0, b' ');
-    while at < line.len() {
-        let start = at + 1;
-        let end = text::until(line, start, b' ');
+    for digits in line.split(|&c| c == b' ').skip(1) {
         let mut pdu = [0u8; 255];
-        let Octets::Count(n) = hex::read(text::first(&line[start..], end - start), &mut pdu) else {
-            return Octets::NotHex;
-        };
+        let n = hex::read(digits, &mut pdu)?;
         let len = n as u8;
         let from = text::put(&[len], out, to);
         to = text::put(text::first(&pdu, n), out, from);
-        at = end;
     }
-    Octets::Count(to)
+    Some(to)
 }

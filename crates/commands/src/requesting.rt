@@ -1,76 +1,44 @@
 // What a line asks to be sent: element, destination, TTL, network key, and for an access message its key and the size of its MIC.
 ghost use Rattle.std.specs.Prelude.{◌≡◌};
-ghost use Rattle.commands.specs.Request.{with_ttl, with_destination, with_key, with_mic, with_request};
+ghost use Rattle.commands.specs.Request.{ttl_of, destination_of, key_of, mic_of, request_of};
 
-use sending::request::{Destination, Request, Ttl};
-use text::number::{Octet, Short};
+use sending::request::{Destination, Request};
 use text::{field, number};
 use transport::securing::MessageKey;
 
-// A TTL field: - is one left unnamed.
-#[derive(Clone, Copy)]
-enum TtlField {
-    Fits(Ttl),
-    Unfit,
-}
-
-fn ttl_of(text: &[u8]) -> TtlField
-    ensures { result ≡ with_ttl text.now TtlField.Unfit TtlField.Fits }
+// What a TTL field says: - is one left unnamed.
+#[tactic(auto, unfolding(crate::specs::Request::ttl_of))]
+fn ttl_of(text: &[u8]) -> Option<Option<u8>>
+    ensures { result ≡ ttl_of text.now }
 {
     if common::equal(text, b"-") {
-        return TtlField::Fits(Ttl::Unnamed);
+        return Some(None);
     }
-    match number::read_octet(text) {
-        Octet::Value(n) => TtlField::Fits(Ttl::Named(n)),
-        Octet::Unfit => TtlField::Unfit,
-    }
+    Some(Some(number::read_octet(text)?))
 }
 
-// A field that names a destination: an address, or `label:` with a label's number behind it.
-#[derive(Clone, Copy)]
-enum DestinationField {
-    Fits(Destination),
-    Unfit,
-}
-
-fn destination_of(dst: &[u8]) -> DestinationField
-    ensures { result ≡ with_destination dst.now DestinationField.Unfit DestinationField.Fits }
+// Which destination a field names: an address, or `label:` with a label's number behind it.
+#[tactic(auto, unfolding(crate::specs::Request::destination_of))]
+fn destination_of(dst: &[u8]) -> Option<Destination>
+    ensures { result ≡ destination_of dst.now }
 {
     if common::equal(text::first(dst, 6), b"label:") {
-        return match number::read_octet(&dst[6..]) {
-            Octet::Value(n) => DestinationField::Fits(Destination::Label(n as usize)),
-            Octet::Unfit => DestinationField::Unfit,
-        };
+        let label = number::read_octet(&dst[6..])?;
+        return Some(Destination::Label(label as usize));
     }
-    match number::read_short(dst) {
-        Short::Value(address) => DestinationField::Fits(Destination::Address(address)),
-        Short::Unfit => DestinationField::Unfit,
-    }
+    Some(Destination::Address(number::read_short(dst)?))
 }
 
-// Fields 1 to 4 of a line, `E DST TTL K`.
-#[derive(Clone, Copy)]
-pub(crate) enum Asked {
-    For(Request),
-    Unfit,
-}
-
-pub(crate) fn request_of(line: &[u8]) -> Asked
-    ensures { result ≡ with_request line.now Asked.Unfit Asked.For }
+// What fields 1 to 4 of a line ask, `E DST TTL K`.
+#[tactic(auto, unfolding(crate::specs::Request::request_of))]
+pub(crate) fn request_of(line: &[u8]) -> Option<Request>
+    ensures { result ≡ request_of line.now }
 {
-    let Octet::Value(element) = number::read_octet(field::nth(line, 1)) else {
-        return Asked::Unfit;
-    };
-    let DestinationField::Fits(dst) = destination_of(field::nth(line, 2)) else {
-        return Asked::Unfit;
-    };
-    let TtlField::Fits(ttl) = ttl_of(field::nth(line, 3)) else {
-        return Asked::Unfit;
-    };
-    let Octet::Value(network) = number::read_octet(field::nth(line, 4)) else {
-        return Asked::Unfit;
-    };
-    Asked::For(Request {
+    let element = number::read_octet(field::nth(line, 1))?;
+    let dst = destination_of(field::nth(line, 2))?;
+    let ttl = ttl_of(field::nth(line, 3))?;
+    let network = number::read_octet(field::nth(line, 4))?;
+    Some(Request {
         element: element as usize,
         dst,
         ttl,
@@ -78,46 +46,26 @@ pub(crate) fn request_of(line: &[u8]) -> Asked
     })
 }
 
-// A field that names the key of an access message: an application key's number, or `dev`.
-#[derive(Clone, Copy)]
-pub(crate) enum KeyField {
-    Fits(MessageKey),
-    Unfit,
-}
-
-pub(crate) fn key_of(text: &[u8]) -> KeyField
-    ensures { result ≡ with_key text.now KeyField.Unfit KeyField.Fits }
+// Which key of an access message a field names: an application key's number, or `dev`.
+#[tactic(auto, unfolding(crate::specs::Request::key_of))]
+pub(crate) fn key_of(text: &[u8]) -> Option<MessageKey>
+    ensures { result ≡ key_of text.now }
 {
     if common::equal(text, b"dev") {
-        return KeyField::Fits(MessageKey::Device);
+        return Some(MessageKey::Device);
     }
-    match number::read_octet(text) {
-        Octet::Value(n) => KeyField::Fits(MessageKey::Application(n as usize)),
-        Octet::Unfit => KeyField::Unfit,
-    }
+    let key = number::read_octet(text)?;
+    Some(MessageKey::Application(key as usize))
 }
 
-// A field that says how many octets the MIC has.
-#[derive(Clone, Copy)]
-pub(crate) enum MicField {
-    // Whether it has 8, and not 4.
-    Fits(bool),
-    Unfit,
-}
-
-pub(crate) fn mic_of(text: &[u8]) -> MicField
-    ensures { result ≡ with_mic text.now MicField.Unfit MicField.Fits }
+// Whether the MIC has 8 octets, and not 4.
+#[tactic(auto, unfolding(crate::specs::Request::mic_of))]
+pub(crate) fn mic_of(text: &[u8]) -> Option<bool>
+    ensures { result ≡ mic_of text.now }
 {
-    match number::read_octet(text) {
-        Octet::Value(n) => {
-            if n == 4 {
-                return MicField::Fits(false);
-            }
-            if n == 8 {
-                return MicField::Fits(true);
-            }
-            MicField::Unfit
-        }
-        Octet::Unfit => MicField::Unfit,
+    match number::read_octet(text)? {
+        4 => Some(false),
+        8 => Some(true),
+        _ => None,
     }
 }

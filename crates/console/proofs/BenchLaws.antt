@@ -8,11 +8,13 @@ use native.Mathlib.Omega.{arith}
 use lib.ListN.{length, replicate, take, drop, length-append, length-take, length-drop}
 use lib.Seq.{take_at}
 use Rattle.common.specs.Lent.{lent}
-use Rattle.transport.specs.declared.vetting.Vetted.{Vetted}
+use Rattle.std.specs.Prelude.{Result}
+use Rattle.transport.specs.declared.vetting.Refusal.{Refusal}
 use Rattle.transport.specs.Segment.{message_octets}
 use Rattle.transport.specs.Vetting.{vetting}
 use Rattle.commands.specs.declared.desk.Desk.{Desk}
-use Rattle.text.specs.Written.{putting}
+use Rattle.text.specs.declared.writer.Writer.{Writer}
+use Rattle.text.specs.Writer.{writing}
 use Rattle.answers.specs.Answer.{vetted_text}
 use Rattle.answers.specs.Fits.{Fits}
 use Rattle.answers.proofs.Fits.{vetted_fits}
@@ -29,18 +31,17 @@ vetted_long y z n e f = simp (length-append, length-drop) (omega (arith, length-
 -- of z as much is lent as `room` said, and y is what vetting left of that
 module _
     (d : Desk) (ctl : Bool) (list z : List ℕ) (n : ℕ) (h : z ≡ replicate message_octets 0) (l : n ≡ min d.room.message (length z))
-    (v : Vetted) (y : List ℕ) (e : lent v y ≡ vetting ctl list (take n z)) (long : length y ≡ length (take n z)) where
+    (v : Result ℕ Refusal) (y : List ℕ) (e : lent v y ≡ vetting ctl list (take n z)) (long : length y ≡ length (take n z)) where
   vetted_is : vetting ctl list (lent_of d.room.message) ≡ lent v y
   vetted_is = sym (e ∙ ap (vetting ctl list) (lent_is d.room.message n z h l))
 
   pub vetted :
-      (s : List ℕ) → s ≡ take n (y ++ drop n z) → (out : List ℕ) (at k : ℕ) (o : List ℕ) → lent k o ≡ putting (vetted_text v s) out at
-      → put d k o ≡ answer_put (vets d ctl list) out at
+      (s : List ℕ) → s ≡ take n (y ++ drop n z) → (w w' : Writer) → w' ≡ writing (vetted_text v s) w → put d w' ≡ answer_put (vets d ctl list) w
   unfolding vets
-  vetted s es out at k o f =
+  vetted s es w w' f =
       let n-long : length y ≡ n = omega (arith, length-take n z) in
       let is : s ≡ y = es ∙ take_at y (drop n z) n n-long in
-      rw vetted_is (put_answer out at k o d _ (rw is at f))
+      rw vetted_is (put_answer w w' d _ (rw is at f))
 
   pub vetted_short : Fits (vets d ctl list).text
   unfolding vets

@@ -4,10 +4,9 @@
 --   sets_up c                     `setup`
 --   stepping c said line octets   what a line leaves, by what it says; octets are those that it says
 --   answering c line octets       what a whole line leaves; octets is the buffer for those that it says
-use Rattle.std.specs.Prelude.{true, false, List, ℕ, take}
+use Rattle.std.specs.Prelude.{Result, Ok, Err, true, false, List, ℕ, take}
 use Rattle.node.specs.Setup.{nothing}
-use Rattle.receiver.specs.declared.fresh.Answer.{Answer}
-use Rattle.receiver.specs.declared.fresh.Answer.TheVariants.{Ready, Refused}
+use Rattle.receiver.specs.declared.answer.Refusal.{Refusal}
 use Rattle.receiver.specs.declared.state.Receiver.{Receiver}
 use Rattle.receiver.specs.Fresh.{setting_up}
 use Rattle.commands.specs.declared.desk.Desk.{Desk}
@@ -46,9 +45,9 @@ abbrev pub beside_desk : Desk → Answered Receiver → Answered Console
 beside_desk d a = answered (console d a.after) a.text
 
 -- a receiver that is ready takes the place of the one that was there; a refused one does not
-unfoldable pub set_up_as : Answer → Console → Receiver → Console
-set_up_as Ready c made = console (after_setup c.desk true) made
-set_up_as (Refused refusal) c made = console (after_setup c.desk false) c.receiver
+unfoldable pub set_up_as : Result Unit Refusal → Console → Receiver → Console
+set_up_as (Ok _) c made = console (after_setup c.desk true) made
+set_up_as (Err refusal) c made = console (after_setup c.desk false) c.receiver
 
 -- `setup`: a receiver is made of what was given
 unfoldable pub sets_up : Console → Answered Console

@@ -8,6 +8,7 @@ use commands::desk::Desk;
 use commands::line::Line;
 use receiver::state::Receiver;
 use std::io::{Read, Stdin};
+use text::writer::Writer;
 
 // The answer to one line is shorter than this: where less room is left, the answers so far are written.
 const ROOM: usize = 8192;
@@ -23,10 +24,11 @@ pub(crate) struct Left {
 }
 
 // Writes the answers so far where little room is left, and says how far the answers in the buffer go then.
+#[tactic(auto, unfolding(crate::specs::Input::freed))]
 fn flushed(out: &[u8], at: usize) -> usize
     ensures { result ≡ freed (length out.now) at }
 {
-    if out.len() < ROOM || out.len() - ROOM < at {
+    if out.len().saturating_sub(at) < ROOM {
         io::write_all(1, text::first(out, at));
         return 0;
     }
@@ -74,6 +76,7 @@ fn take_block(l: Left, block: &[u8], line: &mut [u8], octets: &mut [u8], out: &m
     let mut gathered = l.gathered;
     let mut written: usize = 0;
     let mut at: usize = 0;
+    // Not by `split_inclusive`: the last piece may lack its newline, and `gather` tells that while it looks for the piece's end.
     while at < block.len() {
         let piece = gather(block, at, line, gathered);
         at = piece.at;
@@ -81,14 +84,19 @@ fn take_block(l: Left, block: &[u8], line: &mut [u8], octets: &mut [u8], out: &m
         if piece.whole {
             let whole = text::first(line, gathered);
             let said = commands::line::read(whole, desk.ready, octets);
+            // A writer for each line, since the buffer is begun again where little room is left.
             written = flushed(out, written);
             gathered = 0;
             if let Line::Hear(len) = said {
                 let pdu = text::first(octets, len);
-                receiver = super::receiving::hear(receiver, desk.room, pdu, out, &mut written);
+                let mut w = Writer::new(out, written);
+                receiver = super::receiving::hear(receiver, desk.room, pdu, &mut w);
+                written = w.text().len();
             } else {
                 let c = Console { desk, receiver };
-                let next = super::step::step(c, said, whole, octets, out, &mut written);
+                let mut w = Writer::new(out, written);
+                let next = super::step::step(c, said, whole, octets, &mut w);
+                written = w.text().len();
                 desk = next.desk;
                 receiver = next.receiver;
             }
@@ -105,14 +113,11 @@ fn take_block(l: Left, block: &[u8], line: &mut [u8], octets: &mut [u8], out: &m
 
 // Reads what has come of standard input, and says how many octets; none at its end, and where the read fails.
 fn read_block(input: &mut Stdin, block: &mut [u8]) -> usize {
-    match input.read(block) {
-        Ok(n) => n,
-        Err(_) => 0,
-    }
+    input.read(block).unwrap_or(0)
 }
 
-// Takes blocks until the input ends. A newline more ends the last line, where it lacks its own. A proved loop has to end, so it counts its turns
-// down, from a number that no run uses up.
+// Takes blocks until the input ends. A newline more ends the last line, where it lacks its own. A proved loop has to end, so its turns are counted,
+// up to a number that no run reaches.
 pub(crate) fn take_all(
     input: &mut Stdin,
     block: &mut [u8],
@@ -122,22 +127,19 @@ pub(crate) fn take_all(
 )
     requires { 8192 ≤ length out.old }
 {
-    let c = super::step::start();
-    let desk = c.desk;
-    let receiver = c.receiver;
+    let start = super::step::start();
     let mut left = Left {
-        desk,
-        receiver,
+        desk: start.desk,
+        receiver: start.receiver,
         gathered: 0,
         written: 0,
     };
-    let mut turns = u64::MAX;
-    let mut n = read_block(input, block);
-    while 0 < n && 0 < turns {
-        let next = take_block(left, text::first(block, n), line, octets, out);
-        left = next;
-        turns -= 1;
-        n = read_block(input, block);
+    for _ in 0..u64::MAX {
+        let n = read_block(input, block);
+        if n == 0 {
+            break;
+        }
+        left = take_block(left, text::first(block, n), line, octets, out);
     }
     take_block(left, b"\n", line, octets, out);
 }

@@ -1,4 +1,4 @@
-// What a line asks of the receiver is done, and its answer is put behind the others in `out`; `at` says how far they go.
+// What a line asks of the receiver is done, and its answer is written behind the others.
 ghost use Rattle.std.specs.Prelude.{◌≡◌, ◌≤◌, length};
 ghost use Rattle.common.specs.Lent.{lent};
 ghost use Rattle.transport.specs.Segment.{message_octets};
@@ -13,17 +13,19 @@ use commands::line::{GivingUp, Sending};
 use receiver::give_up::GivenUp;
 use receiver::state::Receiver;
 use sending::answer::Spoken;
+use text::writer::Writer;
 
 // Hears a PDU. Of the buffers as much is lent as `room` said.
-pub(crate) fn hear(r: Receiver, room: Room, pdu: &[u8], out: &mut [u8], at: &mut usize) -> Receiver
-    ensures exact { put result at.new out.new ≡ answer_put (hears r room pdu.now) out.old at.old }
+#[tactic(auto, using(crate::proofs::ReceivingLaws::lent_is), unfolding(crate::specs::Receiving::hears))]
+pub(crate) fn hear(r: Receiver, room: Room, pdu: &[u8], w: &mut Writer) -> Receiver
+    ensures exact { put result w.new ≡ answer_put (hears r room pdu.now) w.old }
     ensures fits { Fits (hears r room pdu.now).text }
 {
     let mut forward = super::lent::longest();
     let mut message = super::lent::longest();
     let n = text::within(room.forward, &forward);
     let m = text::within(room.message, &message);
-    hear_into(r, pdu, &mut forward[..n], &mut message[..m], out, at)
+    hear_into(r, pdu, &mut forward[..n], &mut message[..m], w)
 }
 
 fn hear_into(
@@ -31,59 +33,45 @@ fn hear_into(
     pdu: &[u8],
     forward: &mut [u8],
     message: &mut [u8],
-    out: &mut [u8],
-    at: &mut usize,
+    w: &mut Writer,
 ) -> Receiver
     requires { (length forward.old ≤ message_octets) × (length message.old ≤ message_octets) }
-    ensures exact { put result at.new out.new ≡ answer_put (hears_into r pdu.now forward.old message.old) out.old at.old }
+    ensures exact { put result w.new ≡ answer_put (hears_into r pdu.now forward.old message.old) w.old }
     ensures fits { Fits (hears_into r pdu.now forward.old message.old).text }
 {
     let h = receiver::hear::hear(r, pdu, forward, message);
-    let answer = h.answer;
     let trials = Trials {
         network: h.network,
         application: h.application,
     };
-    let heard = answer::put_heard(answer, trials, message, out, *at);
-    *at = answer::put_forward(text::first(forward, h.forwarded), out, heard);
+    answer::put_heard(h.answer, trials, message, w);
+    answer::put_forward(text::first(forward, h.forwarded), w);
     h.receiver
 }
 
 // Sends. Of the buffer for a PDU as much is lent as `room` said.
-pub(crate) fn speak(
-    r: Receiver,
-    room: Room,
-    s: Sending,
-    octets: &[u8],
-    out: &mut [u8],
-    at: &mut usize,
-) -> Receiver
-    ensures exact { put result at.new out.new ≡ answer_put (speaks r room s octets.now) out.old at.old }
+#[tactic(auto, using(crate::proofs::ReceivingLaws::lent_is), unfolding(crate::specs::Receiving::speaks))]
+pub(crate) fn speak(r: Receiver, room: Room, s: Sending, octets: &[u8], w: &mut Writer) -> Receiver
+    ensures exact { put result w.new ≡ answer_put (speaks r room s octets.now) w.old }
     ensures fits { Fits (speaks r room s octets.now).text }
 {
     let mut pdu = super::lent::longest();
     let n = text::within(room.forward, &pdu);
-    speak_into(r, s, octets, &mut pdu[..n], out, at)
+    speak_into(r, s, octets, &mut pdu[..n], w)
 }
 
-fn speak_into(
-    r: Receiver,
-    s: Sending,
-    octets: &[u8],
-    pdu: &mut [u8],
-    out: &mut [u8],
-    at: &mut usize,
-) -> Receiver
+#[tactic(auto, using(answers::proofs::Fits::spoken_fits), unfolding(crate::specs::Receiving::speaks_into))]
+fn speak_into(r: Receiver, s: Sending, octets: &[u8], pdu: &mut [u8], w: &mut Writer) -> Receiver
     requires { length pdu.old ≤ message_octets }
-    ensures exact { put result at.new out.new ≡ answer_put (speaks_into r s octets.now pdu.old) out.old at.old }
+    ensures exact { put result w.new ≡ answer_put (speaks_into r s octets.now pdu.old) w.old }
     ensures fits { Fits (speaks_into r s octets.now pdu.old).text }
 {
     let spoken = send(r, s, octets, pdu);
-    let answer = spoken.answer;
-    *at = answer::put_spoken(answer, pdu, out, *at);
+    answer::put_spoken(spoken.answer, pdu, w);
     spoken.receiver
 }
 
+#[tactic(auto, unfolding(crate::specs::Receiving::sent))]
 fn send(r: Receiver, s: Sending, octets: &[u8], pdu: &mut [u8]) -> Spoken
     ensures { lent result pdu.new ≡ sent r s octets.now pdu.old }
 {
@@ -107,15 +95,16 @@ fn send(r: Receiver, s: Sending, octets: &[u8], pdu: &mut [u8]) -> Spoken
 }
 
 // Gives up.
-pub(crate) fn quit(r: Receiver, what: GivingUp, out: &mut [u8], at: &mut usize) -> Receiver
-    ensures { put result at.new out.new ≡ answer_put (gives_up r what) out.old at.old }
+#[tactic(auto, unfolding(crate::specs::Receiving::gives_up))]
+pub(crate) fn quit(r: Receiver, what: GivingUp, w: &mut Writer) -> Receiver
+    ensures { put result w.new ≡ answer_put (gives_up r what) w.old }
 {
     let g = give_up(r, what);
-    let answer = g.answer;
-    *at = answer::put_given_up(answer, out, *at);
+    answer::put_given_up(g.answer, w);
     g.receiver
 }
 
+#[tactic(auto, unfolding(crate::specs::Receiving::given_up))]
 fn give_up(r: Receiver, what: GivingUp) -> GivenUp
     ensures { result ≡ given_up r what }
 {
@@ -126,10 +115,11 @@ fn give_up(r: Receiver, what: GivingUp) -> GivenUp
 }
 
 // Shows what the receiver holds.
-pub(crate) fn show(r: Receiver, out: &mut [u8], at: &mut usize) -> Receiver
-    ensures exact { put result at.new out.new ≡ answer_put (shows r) out.old at.old }
+#[tactic(auto, using(common::proofs::Lists::length_mapped, answers::proofs::Fits::receiver_fits), unfolding(crate::specs::Receiving::shows))]
+pub(crate) fn show(r: Receiver, w: &mut Writer) -> Receiver
+    ensures exact { put result w.new ≡ answer_put (shows r) w.old }
     ensures fits { Fits (shows r).text }
 {
-    *at = answers::looking::put_receiver(r, out, *at);
+    answers::looking::put_receiver(r, w);
     r
 }

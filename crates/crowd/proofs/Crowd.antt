@@ -9,6 +9,7 @@ use native.Mathlib.Omega.{arith}
 use borrow.Author.Tests.{eqb-true, leb-true}
 use lib.Dec.{eqb, leb}
 use lib.ListN.{length, replicate}
+use Rattle.std.specs.Prelude.{Ok, is_some, Err}
 use Rattle.common.specs.Bits.{has_bit, with_bit, all_bits}
 use Rattle.common.specs.Search.{first, picked}
 use Rattle.common.specs.Trials.{tries_from}
@@ -17,7 +18,7 @@ use Rattle.common.proofs.Tests.{and_first, and_second}
 use Rattle.modes.specs.Ccm.{mic_octets}
 use Rattle.keys.specs.declared.NetworkKeys.{NetworkKeys}
 use Rattle.keys.specs.Derivation.{k2}
-use Rattle.network.specs.declared.opening.Answer.TheVariants.{WrongLength, NoCandidate, NotAuthentic}
+use Rattle.network.specs.declared.opening.Refusal.TheVariants.{WrongLength, NoCandidate, NotAuthentic}
 use Rattle.network.specs.Address.{kind_of, is_unicast, is_reserved}
 use Rattle.network.specs.Candidates.{key_at, candidates, opens, searched}
 use Rattle.network.specs.IvIndex.{iv_index_heard}
@@ -33,7 +34,6 @@ use Rattle.transport.proofs.SecureOpen.{secured_length}
 use Rattle.node.specs.Addresses.{is_local, listens, answers_to, for_node}
 use Rattle.node.specs.Setup.{bound_within, keys_valid, next_within, elements_valid, groups_valid, index_valid, valid, material_at, bound_key_at, group_at, node_of, making}
 use Rattle.node.specs.declared.addresses.Node.{Node}
-use Rattle.receiver.specs.declared.fresh.Answer.TheVariants.{Ready}
 use Rattle.receiver.specs.Fresh.{setting_up}
 use Rattle.crowd.specs.Crowd.{second_key, hall, box_ttl, crowd, lasts, too_short, other_nid, forged, sent, descending, others, alternating, rush, CrowdMet}
 use Rattle.demands.specs.Instance.{network_key, arrival, order}
@@ -45,7 +45,7 @@ use Rattle.demands.proofs.InOrder.{◌then◌, each_table, each_below}
 use Rattle.demands.proofs.SpeechCut.{cut_is, last_low}
 use Rattle.demands.proofs.OpenerLaws.{plain_read, plain_label}
 
-ready : (setting_up hall).answer ≡ Ready
+ready : (setting_up hall).answer ≡ Ok tt
 unfolding setting_up making valid keys_valid bound_within elements_valid next_within groups_valid index_valid first kind_of
 ready = refl
 
@@ -233,10 +233,10 @@ by_first k i seq h n t = tested_arrives k i seq h t (λ j b. absurd (omega arith
 
 -- ---- the two under the second, which the first is tried on and does not open
 unopened :
-    (j : ℕ) (keys : NetworkKeys) (pdu : List ℕ) → key_at node.materials j ≡ keys → (tried keys j 0x12345678 pdu).ok ≡ false
+    (j : ℕ) (keys : NetworkKeys) (pdu : List ℕ) → key_at node.materials j ≡ keys → is_some (tried keys j 0x12345678 pdu) ≡ false
     → opens node.materials 0x12345678 pdu j ≡ false
 unfolding opens
-unopened j keys pdu e t = ap (λ (k : NetworkKeys). (tried k j 0x12345678 pdu).ok) e ∙ t
+unopened j keys pdu e t = ap (λ (k : NetworkKeys). is_some (tried k j 0x12345678 pdu)) e ∙ t
 
 sent_0 : segment_pdu node (speech_at crowd 6) 0 0x000700 box_ttl ≡ pdu0
 unfolding header_of segment_of last_of last_segment octets_of segment_front segment_number control_octet octets
@@ -258,7 +258,7 @@ own_1 zero h = rw sent_1 (unopened 0 first_keys pdu1 first_key tried_1)
 own_1 (suc j) h = absurd (omega arith)
 
 -- ---- PDUs that no key opens
-answers_short : (opening node.materials node.networks node.iv too_short).answer ≡ WrongLength
+answers_short : (opening node.materials node.networks node.iv too_short).opened ≡ Err WrongLength
 unfolding opening
 answers_short = refl
 
@@ -266,7 +266,7 @@ no_candidate : candidates node.materials node.networks 0x69 ≡ []
 unfolding candidates picked
 no_candidate = rw (holds.two_networks, first_key, second_key_law) refl
 
-answers_nid : (opening node.materials node.networks node.iv other_nid).answer ≡ NoCandidate
+answers_nid : (opening node.materials node.networks node.iv other_nid).opened ≡ Err NoCandidate
 unfolding opening
 answers_nid = rw no_candidate refl
 
@@ -280,7 +280,7 @@ unopened_0 = unopened 0 first_keys forged first_key forged_first
 unopened_1 : opens node.materials 0x12345678 forged 1 ≡ false
 unopened_1 = unopened 1 second_keys forged second_key_law forged_second
 
-answers_forged : (opening node.materials node.networks node.iv forged).answer ≡ NotAuthentic
+answers_forged : (opening node.materials node.networks node.iv forged).opened ≡ Err NotAuthentic
 unfolding opening under judged searched tries_from iv_index_heard
 answers_forged = rw (holds.index, two_candidates, unopened_0, unopened_1) refl
 

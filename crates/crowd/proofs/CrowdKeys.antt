@@ -8,6 +8,7 @@ use native.Mathlib.Omega.{arith}
 use lib.Bits.{bit_xor}
 use lib.Dec.{ltb}
 use lib.ListN.{length, get_or, take, drop}
+use Rattle.std.specs.Prelude.{is_some}
 use Rattle.common.specs.Lists.{padded, xored, same}
 use Rattle.common.proofs.Lists.{tab_ext}
 use Rattle.common.proofs.Tests.{by_test}
@@ -215,20 +216,20 @@ sealed_1 = pdu_by_law second_keys header1 (drop 7 pdu1) (take 6 (drop 1 pdu1)) (
 unauthentic :
     (keys : NetworkKeys) (place : ℕ) (pdu clear : List ℕ) → front_of keys 0x12345678 pdu ≡ clear
     → length (front (key_schedule keys.encryption) (nonce_of 0x12345678 clear) (net_mic (ctl_of clear)) (drop 7 pdu)) ≤ 16 → verdict_by keys clear pdu ≡ false
-    → (tried keys place 0x12345678 pdu).ok ≡ false
+    → is_some (tried keys place 0x12345678 pdu) ≡ false
 unfolding tried body_tried
 unauthentic keys place pdu clear e h v =
     let d = decrypted_short (key_schedule keys.encryption) (nonce_of 0x12345678 clear) (net_mic (ctl_of clear)) (drop 7 pdu) h ∙ v in
     rw e (by_test (ctl_of clear && ltb (length pdu) 18) (λ t. rw t refl) (λ t. rw (t, d) refl))
 
-pub tried_0 : (tried first_keys 0 0x12345678 pdu0).ok ≡ false
+pub tried_0 : is_some (tried first_keys 0 0x12345678 pdu0) ≡ false
 tried_0 = unauthentic first_keys 0 pdu0 clear0 fronts.clear_0 (omega arith) bodies.false_0
 
-pub tried_1 : (tried first_keys 0 0x12345678 pdu1).ok ≡ false
+pub tried_1 : is_some (tried first_keys 0 0x12345678 pdu1) ≡ false
 tried_1 = unauthentic first_keys 0 pdu1 clear1 fronts.clear_1 (omega arith) bodies.false_1
 
-pub forged_first : (tried first_keys 0 0x12345678 forged).ok ≡ false
+pub forged_first : is_some (tried first_keys 0 0x12345678 forged) ≡ false
 forged_first = unauthentic first_keys 0 forged clear1 fronts.clear_first (omega arith) bodies.false_first
 
-pub forged_second : (tried second_keys 1 0x12345678 forged).ok ≡ false
+pub forged_second : is_some (tried second_keys 1 0x12345678 forged) ≡ false
 forged_second = unauthentic second_keys 1 forged clear_forged fronts.clear_second (omega arith) bodies.false_second

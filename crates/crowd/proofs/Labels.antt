@@ -8,6 +8,7 @@ use native.Mathlib.Omega.{arith}
 use borrow.Author.Tests.{eq-eqb, lt-ltb}
 use lib.Dec.{eqb, ltb}
 use lib.ListN.{length, replicate}
+use Rattle.std.specs.Prelude.{Ok}
 use Rattle.common.specs.Lent.{Lent}
 use Rattle.common.specs.Lists.{xored, same, joined}
 use Rattle.common.specs.Search.{first, picked}
@@ -38,7 +39,6 @@ use Rattle.node.specs.declared.addresses.Node.{Node}
 use Rattle.node.specs.Addresses.{is_local, holds_label, for_node, held_by, listens}
 use Rattle.node.specs.Setup.{bound_within, keys_valid, next_within, elements_valid, groups_valid, index_valid, valid, network_key_at, material_at, bound_key_at, group_at, label_uuid_at, next_at}
 use Rattle.node.specs.Setup.{node_of, next_of, making}
-use Rattle.receiver.specs.declared.fresh.Answer.TheVariants.{Ready}
 use Rattle.receiver.specs.Fresh.{setting_up}
 use Rattle.receiver.proofs.Good.{good_fresh}
 use Rattle.sending.specs.Access.{is_whole, size_allowed, access_allowed}
@@ -81,11 +81,11 @@ unfolding label_address label_hash
 second_address = rw (salt_vtad, hashes.second_hash) refl
 
 -- ---- the two nodes
-mast_ready : (setting_up mast).answer ≡ Ready
+mast_ready : (setting_up mast).answer ≡ Ok tt
 unfolding setting_up making valid keys_valid bound_within elements_valid next_within groups_valid index_valid first kind_of
 mast_ready = refl
 
-shelter_ready : (setting_up shelter).answer ≡ Ready
+shelter_ready : (setting_up shelter).answer ≡ Ok tt
 unfolding setting_up making valid keys_valid bound_within elements_valid next_within groups_valid index_valid first kind_of
 shelter_ready = refl
 

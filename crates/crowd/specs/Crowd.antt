@@ -131,7 +131,7 @@ rush = arrival (Ask 0 0x0002) ∷ alternating descending others
 
 -- the number of the refusal of a PDU
 abbrev pub refusal_of : Node → List ℕ → ℕ
-refusal_of node pdu = number_of (opened.paper (opening node.materials node.networks node.iv pdu).answer)
+refusal_of node pdu = number_of (opened.paper (opening node.materials node.networks node.iv pdu).opened)
 
 -- ---- the premises
 pub record CrowdMet : Type 0 where

@@ -3,7 +3,7 @@
 --   mast          the sender's setup: it holds the label
 --   shelter       the receiver's: it holds another of the same address before it
 --   LabelsMet     the premises hold, the two labels have one address, and the second pair opens the message
-use Rattle.std.specs.Prelude.{false, List, [], ◌∷◌, ◌≡◌, ℕ}
+use Rattle.std.specs.Prelude.{None, false, List, [], ◌∷◌, ◌≡◌, ℕ}
 use Rattle.common.specs.Lists.{same}
 use Rattle.keys.specs.Derivation.{label_address}
 use Rattle.transport.specs.declared.securing.MessageKey.TheVariants.{Application}
@@ -12,7 +12,6 @@ use Rattle.node.specs.declared.setup.Setup.{Setup}
 use Rattle.node.specs.Setup.{with_label}
 use Rattle.sending.specs.declared.request.Destination.TheVariants.{Label}
 use Rattle.sending.specs.declared.request.Request.{Request}
-use Rattle.sending.specs.declared.request.Ttl.TheVariants.{Unnamed}
 use Rattle.demands.specs.Instance.{shed, bench, short, lent_pdu, hearing}
 use Rattle.demands.specs.Interleaved.{start, node_of}
 use Rattle.demands.specs.ReadBack.{said_by, Made, Telling}
@@ -34,7 +33,7 @@ shelter = with_label (with_label shed first_label) second_label
 
 -- to the sender's first label; eight octets go in one PDU
 abbrev pub to_label : Request
-to_label = record { element = 0; dst = Label 0; ttl = Unnamed; network = 0 }
+to_label = record { element = 0; dst = Label 0; ttl = None; network = 0 }
 
 abbrev pub said : Speech
 said = said_by (start mast) to_label short

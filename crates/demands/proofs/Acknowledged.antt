@@ -8,17 +8,17 @@ use mathlib.Core.Path.{◌≡◌, refl, sym, ap, ◌∙◌, subst}
 use Prim.Native.Nat.{ℕ, ◌+◌, ◌%◌, ◌^◌, ◌<◌}
 use native.Mathlib.Nat.{lt_of_lt_of_le}
 use native.Mathlib.Omega.{arith}
-use borrow.Author.Tests.{eq-eqb, eqb-true, eqb-false}
+use borrow.Author.Tests.{eq-eqb, eqb-true, ne_eqb}
 use lib.Bits.{bit_or}
 use lib.Dec.{eqb}
 use lib.ListN.{length}
 use lib.Pow.{pow_mono}
-use Rattle.std.specs.Prelude.{if◌then◌else◌}
+use Rattle.std.specs.Prelude.{Ok, if◌then◌else◌}
 use Rattle.common.specs.Bits.{all_bits}
+use Rattle.std.specs.Prelude.{Ok, Err}
 use Rattle.common.specs.Lent.{Lent, lent}
 use Rattle.common.proofs.Tests.{by_test}
 use Rattle.network.specs.declared.header.Header.{Header}
-use Rattle.network.specs.declared.opening.Answer.TheVariants.{Opened}
 use Rattle.network.specs.declared.opening.Opening.{Opening}
 use Rattle.network.specs.Candidates.{key_at, candidates, opens}
 use Rattle.network.specs.Opening.{opening}
@@ -32,7 +32,7 @@ use Rattle.memory.specs.declared.outgoing.Effect.TheVariants.{Nothing, Marked, C
 use Rattle.memory.specs.declared.outgoing.Outgoing.{Outgoing}
 use Rattle.memory.specs.declared.pair.Pair.{Pair}
 use Rattle.memory.specs.Outgoing.{no_outgoing, fits_outgoing, heard_with, with_heard, effected, acknowledging}
-use Rattle.memory.proofs.OutgoingLaws.{fits_by_source, heard_all_law, heard_again, heard_some, heard_within}
+use Rattle.memory.proofs.OutgoingLaws.{heard_within}
 use Rattle.node.specs.declared.addresses.Node.{Node}
 use Rattle.node.specs.Addresses.{for_node}
 use Rattle.node.specs.Made.{WellMade}
@@ -47,10 +47,10 @@ use Rattle.receiver.proofs.Good.{good_fresh}
 use Rattle.receiver.proofs.Laws.Form.{taken_acknowledgement}
 use Rattle.receiver.proofs.Laws.Heard.{caching, Leaves, heard_new}
 use Rattle.sending.specs.declared.acknowledge.Chosen.{Chosen}
-use Rattle.sending.specs.Segment.{element_of}
+use Rattle.sending.specs.Segment.{element_at}
 use Rattle.sending.specs.Transmission.{sending_iv, address_of}
 use Rattle.sending.proofs.Laws.Stamped.{sending_near}
-use Rattle.demands.specs.Acknowledged.{Speaker, opens_to, Hears, Marks, AcknowledgementRead}
+use Rattle.demands.specs.Acknowledged.{Speaker, OpensTo, Hears, Marks, AcknowledgementRead}
 use Rattle.demands.specs.Call.{Hear, Heard, step}
 use Rattle.demands.specs.Interleaved.{Ask, Arrival, node_of, speech_at, come, Arrives, behind}
 use Rattle.demands.specs.Speech.{Speech, last_of}
@@ -74,17 +74,16 @@ module _ (out : Outgoing) (h : Header) (zero bits : ℕ) (fits : fits_outgoing o
   heard_is = sym (heard_within out bits low within)
 
   all_heard : heard ≡ all_bits out.terms.segn → effect ≡ effected Completed no_outgoing
-  all_heard e = sym (heard_all_law out h false zero bits (sym fits) refl some heard_is refl e refl)
+  unfolding acknowledging
+  all_heard e = rw (fits, ne_eqb bits 0 some, ← heard_is, eq-eqb heard (all_bits out.terms.segn) e) refl
 
   some_heard :
       (heard ≡ all_bits out.terms.segn → ⊥)
       → effect ≡ effected (if eqb heard out.heard then Nothing else Marked) (with_heard out heard)
+  unfolding acknowledging
   some_heard n =
-      by_test (eqb heard out.heard)
-      (λ t.
-      let e = eqb-true heard out.heard t in
-      rw (t, e) (sym (heard_again out h false zero bits (sym fits) refl some heard_is refl n e)))
-      (λ t. rw t (sym (heard_some out h false zero bits (sym fits) refl some heard_is refl n (eqb-false heard out.heard t))))
+      rw (fits, ne_eqb bits 0 some, ← heard_is, ne_eqb heard (all_bits out.terms.segn) n)
+      (by_test (eqb heard out.heard) (λ t. let e = eqb-true heard out.heard t in rw (t, e) refl) (λ t. rw t refl))
 
 module _ (r : Receiver) (made : WellMade r.node) (element net src : ℕ) (s : Speech) (bits : ℕ) (buf : List ℕ) (there : net < r.node.networks)
     (address : address_of r.node element ≡ s.dst) (from : src ≡ s.src) (unicast : is_unicast s.src ≡ true) (some : bits ≡ 0 → ⊥)
@@ -108,16 +107,22 @@ module _ (r : Receiver) (made : WellMade r.node) (element net src : ℕ) (s : Sp
 
   -- the message that is kept is the one acknowledged
   fits : fits_outgoing speaker.out head false zero ≡ true
+  unfolding fits_outgoing
   fits =
       let kept : speaker.out.src ≡ 0 → ⊥ = λ z. unicast_some s.src unicast (sym sp.src_kept ∙ z) in
       let its-zero : zero ≡ speaker.out.auth.seq % 8192 = ap (λ (p : Pair). p.seq % 8192) (sym sp.auth_kept) in
-      sym (fits_by_source speaker.out head false zero kept (from ∙ sym sp.src_kept) its-zero refl)
-      ∙ eq-eqb head.src speaker.out.terms.dst (address ∙ sym sp.dst_kept)
+      rw (
+        ne_eqb speaker.out.src 0 kept,
+        eq-eqb head.dst speaker.out.src (from ∙ sym sp.src_kept),
+        eq-eqb zero (speaker.out.auth.seq % 8192) its-zero,
+        eq-eqb head.src speaker.out.terms.dst (address ∙ sym sp.dst_kept),
+      )
+      refl
 
   -- its key is the first that opens it
   module _ (can : sealable (key_at r.node.materials net) head ≡ true)
       (first : (j : ℕ) → j < net → (key_at r.node.materials j).nid ≡ (key_at r.node.materials net).nid → opens r.node.materials (sending_iv r.node) sent j ≡ false) where
-    opens_so : opening speaker.node.materials speaker.node.networks speaker.node.iv sent ≡ record { answer = Opened; trials = place; header = head }
+    opens_so : opening speaker.node.materials speaker.node.networks speaker.node.iv sent ≡ record { trials = place; opened = Ok head }
     opens_so =
         let most = made.networks_most in
         let unicast-most = (unicast_bounds s.src unicast).1 in
@@ -126,8 +131,8 @@ module _ (r : Receiver) (made : WellMade r.node) (element net src : ℕ) (s : Sp
         (open_seal r.node.materials r.node.networks r.node.iv head can formed-so
         (record { held = omega arith; near = sending_near r.node made; none_before = first }))
 
-    pub head_is : opens_to speaker sent ≡ head
-    head_is = ap (λ (x : Opening). x.header) opens_so
+    pub head_is : OpensTo speaker sent head
+    head_is = ap (λ (x : Opening). x.opened) opens_so
 
   module _ (can : sealable (key_at r.node.materials net) head ≡ true) (hears : Hears speaker r.node net sent fwd msg) where
     abbrev marked : memory.Acknowledged
@@ -135,7 +140,7 @@ module _ (r : Receiver) (made : WellMade r.node) (element net src : ℕ) (s : Sp
 
     abbrev taken : Lent Taken
     taken =
-        lent (record { answer = Acknowledgement head.src bits marked.effect; trials = 0; receiver = with_outgoing (admitted (caching speaker head) head) marked.out }) msg
+        lent (record { answer = Ok (Acknowledgement head.src bits marked.effect); trials = 0; receiver = with_outgoing (admitted (caching speaker head) head) marked.out }) msg
 
     leaves : Leaves speaker sent fwd msg place taken
     leaves =
@@ -145,9 +150,9 @@ module _ (r : Receiver) (made : WellMade r.node) (element net src : ℕ) (s : Sp
         record {
           opened = record { wide = hears.room_forward; big = hears.room_message; opens = opens_so can hears.own_key_first };
           other = rw address sp.other_node;
-          new = rw opened at hears.new;
+          new = hears.new head opened;
         } in
-        let admits = rw opened at hears.admits in
+        let admits = hears.admits head opened in
         let here : for_node speaker.node src ≡ true = rw from (local_for speaker.node s.src unicast sp.its_element) in
         heard_new passes here taken
         (taken_acknowledgement (caching speaker head) head msg false zero bits (ack.form_is r element net src c buf low) admits)
@@ -158,10 +163,10 @@ module _ (r : Receiver) (made : WellMade r.node) (element net src : ℕ) (s : Sp
         let its-last = sp.segn_kept in
         let there : bits < 2 ^ (speaker.out.terms.segn + 1) = rw its-last within in
         let o = step speaker (Hear sent fwd msg) in
-        let says : (e : Effect) (kept : Outgoing) → marked ≡ effected e kept → (o.answer ≡ Heard (Acknowledgement s.dst bits e)) × (o.receiver.out ≡ kept) =
+        let says : (e : Effect) (kept : Outgoing) → marked ≡ effected e kept → (o.answer ≡ Heard (Ok (Acknowledgement s.dst bits e))) × (o.receiver.out ≡ kept) =
         λ e kept q. (
           ap Heard
-              (l.answers ∙ ap (λ (n : ℕ). Acknowledgement n bits marked.effect) address ∙ ap (λ (x : memory.Acknowledged). Acknowledgement s.dst bits x.effect) q),
+              (l.answers ∙ ap (λ (n : ℕ). Ok (Acknowledgement n bits marked.effect)) address ∙ ap (λ (x : memory.Acknowledged). Ok (Acknowledgement s.dst bits x.effect)) q),
           ap (λ (x : Receiver). x.out) l.left_is ∙ ap (λ (x : memory.Acknowledged). x.out) q,
         ) in
         record {
@@ -176,7 +181,7 @@ acknowledgement_read setup speeches before net src k buf msg later c f m speaker
     let s = speech_at speeches k in
     let r = behind setup speeches before in
     let bits = come k before in
-    let element = element_of node s.dst in
+    let element = element_at node s.dst in
     let chosen : Chosen = record { auth = s.auth; dst = s.dst; bits = bits } in
     let a : Arrival = record { event = Ask net src; forward = buf; message = msg } in
     let sc = seen_before setup speeches before a later c in

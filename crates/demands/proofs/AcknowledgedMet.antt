@@ -6,6 +6,7 @@ use mathlib.Core.Path.{◌≡◌, refl, sym, ap, ◌∙◌, subst}
 use Prim.Native.Nat.{ℕ, ◌+◌, ◌^◌, ◌≤◌, ◌<◌}
 use native.Mathlib.Omega.{arith}
 use lib.ListN.{get_or, replicate}
+use Rattle.std.specs.Prelude.{Ok}
 use Rattle.common.specs.Bits.{has_bit, with_bit}
 use Rattle.common.specs.Search.{first}
 use Rattle.network.specs.declared.header.Header.{Header}
@@ -23,7 +24,6 @@ use Rattle.node.specs.declared.addresses.Node.{Node}
 use Rattle.node.specs.Addresses.{is_local}
 use Rattle.node.specs.Made.{WellMade}
 use Rattle.node.specs.Setup.{bound_within, keys_valid, next_within, elements_valid, groups_valid, index_valid, valid, network_key_at, material_at, bound_key_at, next_at, node_of, next_of, making}
-use Rattle.receiver.specs.declared.fresh.Answer.TheVariants.{Ready}
 use Rattle.receiver.specs.declared.state.Receiver.{Receiver}
 use Rattle.receiver.specs.Fresh.{setting_up}
 use Rattle.receiver.specs.Whole.{admission}
@@ -34,9 +34,9 @@ use Rattle.sending.specs.declared.acknowledge.Chosen.{Chosen}
 use Rattle.sending.specs.Access.{is_whole, size_allowed, access_allowed}
 use Rattle.sending.specs.Acknowledge.{acknowledging}
 use Rattle.sending.specs.Request.{request_allowed}
-use Rattle.sending.specs.Segment.{element_of}
+use Rattle.sending.specs.Segment.{element_at}
 use Rattle.sending.specs.Transmission.{sending_iv, address_of, next_seq}
-use Rattle.demands.specs.Acknowledged.{Speaker, opens_to, Hears}
+use Rattle.demands.specs.Acknowledged.{Speaker, OpensTo, Hears}
 use Rattle.demands.specs.Call.{SendAccess, step, after}
 use Rattle.demands.specs.GoesOut.{accepted, pdu_count}
 use Rattle.demands.specs.Instance.{shed, humidity, boxes, arrival, so_far, behind_it, to_shed, box, speaking, acknowledgement, AcknowledgementMet}
@@ -63,7 +63,7 @@ words = Access (Application 0) false (replicate 20 0x5a)
 abbrev buf : List ℕ
 buf = replicate pdu_octets 0
 
-box_ready : (setting_up box).answer ≡ Ready
+box_ready : (setting_up box).answer ≡ Ok tt
 unfolding setting_up making valid keys_valid bound_within elements_valid next_within groups_valid index_valid first kind_of
 box_ready = refl
 
@@ -162,15 +162,15 @@ next_behind q (a ∷ l) e = next_behind (step q (call_of node boxes a)).receiver
 next_is : r.next ≡ (start shed).next
 next_is = next_behind (start shed) so_far (refl, (refl, (refl, (refl, tt {0}))))
 
-element_is : element_of node 0x0001 ≡ 0
-unfolding setting_up making valid keys_valid bound_within elements_valid next_within groups_valid index_valid first kind_of node_of element_of is_local
+element_is : element_at node 0x0001 ≡ 0
+unfolding setting_up making valid keys_valid bound_within elements_valid next_within groups_valid index_valid first kind_of node_of
 element_is = refl
 
 first_number : get_or (start shed).next 0 0 ≤ 0xFFFFFF
 unfolding setting_up making valid keys_valid bound_within elements_valid next_within groups_valid index_valid first kind_of next_of next_at
 first_number = omega arith
 
-number_left : next_seq r (element_of node 0x0001) ≤ 0xFFFFFF
+number_left : next_seq r (element_at node 0x0001) ≤ 0xFFFFFF
 number_left = rw (element_is, next_is) first_number
 
 made : acknowledgement.made ≡ true
@@ -178,7 +178,7 @@ made = (acknowledges shed boxes so_far 0 0x0002 buf (replicate message_octets 0)
 
 -- ---- the box hears it
 abbrev element : ℕ
-element = element_of node 0x0001
+element = element_at node 0x0001
 
 abbrev c : Chosen
 c = record { auth = humidity.auth; dst = 0x0001; bits = come 0 so_far }
@@ -201,7 +201,7 @@ it_made = asked_made node well boxes scene_met.0.speakable scene_met.0.spent so_
 from_shed : address_of r.node element ≡ 0x0001
 from_shed = address_of_law node well boxes scene_met.0.speakable scene_met.0.spent so_far r seen_so 0 0x0002 buf (omega arith) 0 asked
 
-opens_to_law : opens_to speaking sent ≡ head
+opens_to_law : OpensTo speaking sent head
 opens_to_law =
     let same = same_scene seen_so in
     let w = scene_met.0.speakable 0 (omega arith) in
@@ -212,15 +212,18 @@ opens_to_law =
     head_is r seen_so.good.node_made element 0 0x0002 humidity (come 0 so_far) buf there from_shed refl w.from_unicast asked.some_come last within speaking buf message
     (subst (λ (n : Node). Speaker speaking n humidity) (sym same) speaks) it_made.can (λ j h. absurd (omega arith))
 
+opened_as : (h : Header) → OpensTo speaking sent h → h ≡ head
+opened_as h o = cc (o, opens_to_law)
+
 hears : Hears speaking node 0 sent buf message
 hears =
     let some : head.src ≡ 0 → ⊥ = λ z. let one = sym from_shed ∙ z in omega arith in
     record {
       own_key_first = λ j h. absurd (omega arith);
       new =
-          ap (λ (h : Header). seen speaking.cache h) opens_to_law ∙ ap (λ (k : Cache). seen k head) stays.cache_stays ∙ fresh_unseen box head some;
+          λ h o. ap (λ (x : Header). seen speaking.cache x) (opened_as h o) ∙ ap (λ (k : Cache). seen k head) stays.cache_stays ∙ fresh_unseen box head some;
       admits =
-          ap (λ (h : Header). admission speaking.replay h) opens_to_law ∙ ap (λ (l : List Entry). admission l head) stays.replay_stays ∙ fresh_admits box head;
+          λ h o. ap (λ (x : Header). admission speaking.replay x) (opened_as h o) ∙ ap (λ (l : List Entry). admission l head) stays.replay_stays ∙ fresh_admits box head;
       room_forward = omega arith;
       room_message = omega arith;
     }

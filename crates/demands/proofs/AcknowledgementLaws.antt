@@ -10,6 +10,7 @@ use mathlib.Core.Path.{◌≡◌, refl, sym, ap, ◌∙◌, subst}
 use Prim.Native.Nat.{ℕ, ◌%◌, ◌^◌, ◌≤◌, ◌<◌}
 use native.Mathlib.Omega.{arith}
 use lib.ListN.{length, take, drop, replicate}
+use Rattle.std.specs.Prelude.{Result, Some}
 use Rattle.common.specs.Lent.{Lent}
 use Rattle.common.specs.Lists.{padded}
 use Rattle.keys.proofs.Widths.{nid_low}
@@ -28,6 +29,7 @@ use Rattle.transport.specs.ReadsBack.{Carries}
 use Rattle.transport.specs.Segment.{acknowledgement_octets}
 use Rattle.transport.proofs.ReadsBack.{acknowledgement_reads_back}
 use Rattle.node.specs.Made.{WellMade}
+use Rattle.receiver.specs.declared.answer.Refusal.{Refusal}
 use Rattle.receiver.specs.declared.state.Receiver.{Receiver}
 use Rattle.sending.specs.declared.acknowledge.Chosen.{Chosen}
 use Rattle.sending.specs.declared.answer.Answer as said_answer
@@ -114,7 +116,7 @@ module _ (r : Receiver) (element net src : ℕ) (c : Chosen) (buf : List ℕ) wh
         can =
             subst (λ (z : Header). sealable (key_at keys net) z ≡ true) header_is (subst (λ (k : ℕ). sealable (key_at keys k) y ≡ true) key_is x.transmitted_is.can);
         pdu_is =
-            ap (λ (a : said_answer.Answer). take (length_by a) b) x.says ∙ x.transmitted_is.pdu ∙ ap (λ (k : ℕ). pdu_of (key_at keys k) y) key_is
+            ap (λ (a : Result said_answer.Answer Refusal). take (length_by a) b) x.says ∙ x.transmitted_is.pdu ∙ ap (λ (k : ℕ). pdu_of (key_at keys k) y) key_is
             ∙ ap (pdu_of (key_at keys net)) header_is;
       }
 
@@ -125,5 +127,5 @@ module _ (r : Receiver) (element net src : ℕ) (c : Chosen) (buf : List ℕ) wh
   carries : Carries h true seven_octets
   carries = record { behind = drop (length seven_octets) (replicate 16 0); ctl_is = refl; begins = sym (onto_zeros 16 seven_octets short) }
 
-  pub form_is : c.bits < 2 ^ 32 → form_of h ≡ form.Acknowledgement false seq_zero c.bits
+  pub form_is : c.bits < 2 ^ 32 → form_of h ≡ Some (form.Acknowledgement false seq_zero c.bits)
   form_is low = acknowledgement_reads_back h false seq_zero c.bits carries seven (omega arith) low

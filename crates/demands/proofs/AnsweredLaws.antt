@@ -10,7 +10,7 @@ use mathlib.Core.Path.{◌≡◌, refl, sym, ap, ◌∙◌}
 use Prim.Native.Nat.{ℕ}
 use lib.Dec.{eqb}
 use lib.Seq.{take-append_seam}
-use Rattle.std.specs.Prelude.{if◌then◌else◌}
+use Rattle.std.specs.Prelude.{Err, Ok, if◌then◌else◌}
 use Rattle.common.specs.Bits.{has_bit, with_bit, all_bits}
 use Rattle.common.specs.Lists.{onto}
 use Rattle.common.proofs.Tests.{by_test}
@@ -22,7 +22,7 @@ use Rattle.demands.specs.Interleaved.{is_last_missing, handed_as, handed, is_sto
 use Rattle.demands.specs.Speech.{Words, Access, Control, Speech, last_of, hand_up_as, hand_up, network_place, application_place}
 
 -- what is handed up is no other answer, and its octets are read back
-handed_up_law : (node : Node) (s : Speech) (ws : Words) (msg : List ℕ) → handed_as (Heard (hand_up_as node s ws).answer) (onto (hand_up_as node s ws).octets msg) ≡ hand_up_as node s ws ∷ []
+handed_up_law : (node : Node) (s : Speech) (ws : Words) (msg : List ℕ) → handed_as (Heard (Ok (hand_up_as node s ws).answer)) (onto (hand_up_as node s ws).octets msg) ≡ hand_up_as node s ws ∷ []
 handed_up_law node s (Access key szmic payload) msg =
     ap (λ (l : List ℕ). record { answer = (hand_up_as node s (Access key szmic payload)).answer; octets = l } ∷ []) (take-append_seam payload _)
 handed_up_law node s (Control code parameters) msg =
@@ -49,7 +49,7 @@ module _ (node : Node) (s : Speech) (bits i : ℕ) (msg : List ℕ) where
     Counts application = o.tried ≡ record { network = network_place node s; application = application }
 
     pub had_come :
-        has_bit bits i ≡ true → (o.answer ≡ Heard (answer.Repeated s.src s.auth bits)) ⊎ (o.answer ≡ Heard (answer.Refused refusal.Cached))
+        has_bit bits i ≡ true → (o.answer ≡ Heard (Ok (answer.Repeated s.src s.auth bits))) ⊎ (o.answer ≡ Heard (Err refusal.Cached))
         → o.message ≡ msg → Counts 0 → Says o
     had_come b a m c =
         let no = not_missing bits i (last_of node s) b in
@@ -63,7 +63,7 @@ module _ (node : Node) (s : Speech) (bits i : ℕ) (msg : List ℕ) where
 
     module _ (fresh : has_bit bits i ≡ false) where
       pub is_stored_law :
-          eqb (with_bit bits i) (all_bits (last_of node s)) ≡ false → o.answer ≡ Heard (answer.Stored s.src s.auth (with_bit bits i)) → o.message ≡ msg → Counts 0
+          eqb (with_bit bits i) (all_bits (last_of node s)) ≡ false → o.answer ≡ Heard (Ok (answer.Stored s.src s.auth (with_bit bits i))) → o.message ≡ msg → Counts 0
           → Says o
       is_stored_law f a m c =
           let no = last_missing bits i (last_of node s) fresh false f in
@@ -76,7 +76,7 @@ module _ (node : Node) (s : Speech) (bits i : ℕ) (msg : List ℕ) where
           }
 
       pub is_up :
-          eqb (with_bit bits i) (all_bits (last_of node s)) ≡ true → o.answer ≡ Heard (hand_up node s).answer → o.message ≡ onto (hand_up node s).octets msg
+          eqb (with_bit bits i) (all_bits (last_of node s)) ≡ true → o.answer ≡ Heard (Ok (hand_up node s).answer) → o.message ≡ onto (hand_up node s).octets msg
           → Counts (application_place node s s.words) → Says o
       is_up f a m c =
           let yes = last_missing bits i (last_of node s) fresh true f in
@@ -112,7 +112,7 @@ module _ (node : Node) (s : Speech) (bits i : ℕ) (msg : List ℕ) where
         (λ f.
         let yes = last_missing bits i (last_of node s) b true f in
         let m : o.message ≡ onto (hand_up node s).octets msg = x.message_is ∙ rw yes refl in
-        rw yes (as_told (x.completes yes) ∙ ap (handed_as (Heard (hand_up node s).answer)) m ∙ handed_up_law node s s.words msg))
+        rw yes (as_told (x.completes yes) ∙ ap (handed_as (Heard (Ok (hand_up node s).answer))) m ∙ handed_up_law node s s.words msg))
         (λ f. let no = last_missing bits i (last_of node s) b false f in rw no (as_told (x.stored b f))))
 
     pub answered_stores : has_bit bits i ≡ false → eqb (with_bit bits i) (all_bits (last_of node s)) ≡ false → is_stored o.answer ≡ true

@@ -252,8 +252,8 @@ module _ (node : Node) (speeches : List Speech) (spent : Spent) where
     pub event_next : (e : Event) → Comes node speeches spent e → Next r filled e (call_as node speeches e fwd msg)
     event_next (Segment k i seq ttl) c = segment_next k i seq ttl c
     event_next (Foreign pdu) c =
-        let none : no_key_opens (opening r.node.materials r.node.networks r.node.iv pdu).answer ≡ true = rw (same_scene sc) c in
-        let x = heard_closed r fwd msg pdu wide big (unopened (opening r.node.materials r.node.networks r.node.iv pdu).answer none) in
+        let none : no_key_opens (opening r.node.materials r.node.networks r.node.iv pdu).opened ≡ true = rw (same_scene sc) c in
+        let x = heard_closed r fwd msg pdu wide big (unopened (opening r.node.materials r.node.networks r.node.iv pdu).opened none) in
         record {
           answers = subst (λ (z : Node). ForeignAnswered z r pdu fwd msg (step r (Hear pdu fwd msg))) (same_scene sc) (x.0, x.1, ap left_heard x.2);
           scenery = rw (unopened_leaves r pdu fwd msg none).receiver_stays sc;

@@ -6,7 +6,7 @@
 --   asked_made       the PDU that it makes
 --   asked_sent       it goes out where a SEQ is left
 --   asked_refuses    where it is for no speech it is refused
-use mathlib.Core.Bool.{true, false}
+use mathlib.Core.Bool.{true, false, false≢true}
 use mathlib.Core.List.{List}
 use mathlib.Core.Logic.{⊎_elim}
 use mathlib.Core.Path.{◌≡◌, refl, sym, ap, ◌∙◌, subst}
@@ -15,10 +15,11 @@ use native.Mathlib.Omega.{arith}
 use borrow.Author.Tests.{eqb-true, eqb-false, ltb-true, ltb-false}
 use lib.Dec.{eqb, ltb}
 use lib.ListN.{length}
+use Rattle.std.specs.Prelude.{Some}
 use Rattle.common.specs.Bits.{all_bits}
 use Rattle.common.specs.Lent.{Lent, lent}
 use Rattle.common.proofs.Tests.{by_test}
-use Rattle.network.specs.Address.{is_unicast}
+use Rattle.network.specs.Address.{is_unicast, kind_of}
 use Rattle.network.specs.Pdu.{pdu_octets}
 use Rattle.network.proofs.AddressLaws.{unicast_some}
 use Rattle.memory.specs.declared.replay.Entry.{Entry}
@@ -30,16 +31,17 @@ use Rattle.memory.proofs.ReplayMap.{listed_or_none}
 use Rattle.memory.proofs.SessionSlots.{session_key_law}
 use Rattle.node.specs.declared.addresses.Node.{Node}
 use Rattle.node.specs.Made.{WellMade}
-use Rattle.node.proofs.Addressed.{local_of}
+use Rattle.node.specs.Addresses.{for_node}
+use Rattle.node.proofs.Addressed.{for_allowed, local_of}
 use Rattle.receiver.specs.declared.answer.Refusal.TheVariants as refusal
 use Rattle.receiver.specs.declared.state.Receiver.{Receiver}
 use Rattle.sending.specs.declared.acknowledge.Chosen.{Chosen}
 use Rattle.sending.specs.declared.answer.Spoken.{Spoken}
-use Rattle.sending.specs.Acknowledge.{no_choice, chosen, saying_acknowledgement, acknowledging}
+use Rattle.sending.specs.Acknowledge.{chosen, saying_acknowledgement, acknowledging}
 use Rattle.sending.specs.Answer.{refused_at}
-use Rattle.sending.specs.Segment.{element_of}
+use Rattle.sending.specs.Segment.{element_at}
 use Rattle.sending.specs.Transmission.{address_of, next_seq}
-use Rattle.sending.proofs.Laws.Calls.{acknowledgement_said, acknowledgement_sent, acknowledgement_no_key, acknowledgement_not_unicast, chosen_zero, chosen_session, chosen_last}
+use Rattle.sending.proofs.Laws.Calls.{acknowledgement_said, acknowledgement_sent, acknowledgement_no_key, acknowledgement_not_unicast, acknowledgement_none, chosen_zero, chosen_session, chosen_last, chosen_none}
 use Rattle.sending.proofs.Laws.Stamped.{address_back, element_low}
 use Rattle.sending.proofs.Laws.Transmitted.{saying}
 use Rattle.demands.specs.Call.{made_by}
@@ -50,17 +52,20 @@ use Rattle.demands.proofs.SceneLaws.{speaker_of, speaker_key, Scenery, same_scen
 use Rattle.demands.proofs.SpeechSession.{session_of}
 use Rattle.demands.proofs.StageLaws.{none_all, entry_of, key_of, Stage, Silent, Gathers, Done}
 
--- address 0 is not unicast
-zero_other : is_unicast 0 ≡ false
-zero_other = by_test (is_unicast 0) (λ t. absurd (unicast_some 0 t refl)) (λ t. t)
+-- an address that is for a node is not 0
+sent_some : (node : Node) (made : WellMade node) (dst : ℕ) → for_node node dst ≡ true → dst ≡ 0 → ⊥
+unfolding kind_of
+sent_some node made dst here e = false≢true (rw e at (for_allowed node made dst false (λ c. absurd (false≢true c)) here))
 
 -- ---- by its stage
 module _ (node : Node) (s : Speech) (replay : List Entry) (sessions : List Session) (bits : ℕ) where
   -- some of it has come: it is chosen, with what has come
-  chosen_is : (s.src ≡ 0 → ⊥) → (bits ≡ 0 → ⊥) → Stage node s replay sessions bits → chosen replay sessions s.src ≡ record { auth = s.auth; dst = s.dst; bits = bits }
-  chosen_is spoken some (Silent b p u n) = absurd (some b)
-  chosen_is spoken some (Gathers len bytes z m p h k e) = chosen_session replay sessions s.src spoken (session_of node s bits len bytes) p h
-  chosen_is spoken some (Done b p e) = chosen_last replay sessions s.src spoken (entry_of node s) p e ∙ rw b refl
+  chosen_is :
+      (s.src ≡ 0 → ⊥) → (s.dst ≡ 0 → ⊥) → (bits ≡ 0 → ⊥) → Stage node s replay sessions bits
+      → chosen replay sessions s.src ≡ Some (record { auth = s.auth; dst = s.dst; bits = bits })
+  chosen_is spoken sent some (Silent b p u n) = absurd (some b)
+  chosen_is spoken sent some (Gathers len bytes z m p h k e) = chosen_session replay sessions s.src spoken (session_of node s bits len bytes) p h
+  chosen_is spoken sent some (Done b p e) = chosen_last replay sessions s.src spoken (entry_of node s) p e sent ∙ rw b refl
 
   -- its session is open: some of it has come
   open_some : session_place sessions (key_of s) < session_slots → Stage node s replay sessions bits → bits ≡ 0 → ⊥
@@ -83,51 +88,52 @@ module _ (node : Node) (made : WellMade node) (speeches : List Speech) (speak : 
   abbrev of_speech : ℕ → Chosen
   of_speech k = record { auth = (speech_at speeches k).auth; dst = (speech_at speeches k).dst; bits = come k before }
 
-  chosen_of : (k : ℕ) → k < length speeches → src ≡ speaker_of speeches k → (come k before ≡ 0 → ⊥) → chosen r.replay r.sessions src ≡ of_speech k
+  chosen_of : (k : ℕ) → k < length speeches → src ≡ speaker_of speeches k → (come k before ≡ 0 → ⊥) → chosen r.replay r.sessions src ≡ Some (of_speech k)
   chosen_of k hk e some =
       let spoken = unicast_some (speaker_of speeches k) (speak k hk).from_unicast in
-      rw e (chosen_is node (speech_at speeches k) r.replay r.sessions (come k before) spoken some (sc.stages k hk))
+      let sent = sent_some node made (speech_at speeches k).dst (speak k hk).for_here in
+      rw e (chosen_is node (speech_at speeches k) r.replay r.sessions (come k before) spoken sent some (sc.stages k hk))
 
   -- ---- it is for speech k
   pub asked_names :
       (k : ℕ) → AskedOf node speeches before net src k
-      → acknowledging r net src buf ≡ saying_acknowledgement r (element_of node (speech_at speeches k).dst) net src (of_speech k) buf
+      → acknowledging r net src buf ≡ saying_acknowledgement r (element_at node (speech_at speeches k).dst) net src (of_speech k) buf
   asked_names k f =
       let s = speech_at speeches k in
       let c = chosen_of k f.one_of f.its_source f.some_come in
       let w = speak k f.one_of in
-      let n = element_low node made s.dst (local_of node made s.dst f.to_unicast_law w.for_here) in
+      let n = local_of node made s.dst f.to_unicast_law w.for_here in
       let most = made.networks_most in
       let there = f.key_there in
       let same = same_scene sc in
       acknowledgement_sent r buf wide net src (of_speech k) c (rw same (omega arith)) f.to_unicast_law (rw same n) ∙ rw same refl
 
   -- its element has the DST
-  pub address_of_law : (k : ℕ) → AskedOf node speeches before net src k → address_of r.node (element_of node (speech_at speeches k).dst) ≡ (speech_at speeches k).dst
+  pub address_of_law : (k : ℕ) → AskedOf node speeches before net src k → address_of r.node (element_at node (speech_at speeches k).dst) ≡ (speech_at speeches k).dst
   address_of_law k f =
       let dst = (speech_at speeches k).dst in
       rw (same_scene sc) (address_back node made dst (local_of node made dst f.to_unicast_law (speak k f.one_of).for_here))
 
   asked_said :
       (k : ℕ) → AskedOf node speeches before net src k
-      → (let element = element_of node (speech_at speeches k).dst in
+      → (let element = element_at node (speech_at speeches k).dst in
       acknowledging r net src buf ≡ saying r element (unstamped r element net src (of_speech k) buf) buf)
-  asked_said k f = asked_names k f ∙ acknowledgement_said r (element_of node (speech_at speeches k).dst) net src (of_speech k) buf
+  asked_said k f = asked_names k f ∙ acknowledgement_said r (element_at node (speech_at speeches k).dst) net src (of_speech k) buf
 
   -- the PDU that it makes
   pub asked_made :
       (k : ℕ) → AskedOf node speeches before net src k → made_by (acknowledging r net src buf).answer.answer ≡ true
-      → Made r (element_of node (speech_at speeches k).dst) net src (of_speech k) buf (acknowledging r net src buf)
+      → Made r (element_at node (speech_at speeches k).dst) net src (of_speech k) buf (acknowledging r net src buf)
   asked_made k f =
-      let element = element_of node (speech_at speeches k).dst in
+      let element = element_at node (speech_at speeches k).dst in
       subst (λ (s : Lent Spoken). made_by s.answer.answer ≡ true → Made r element net src (of_speech k) buf s) (sym (asked_said k f))
       (made_by_law r element net src (of_speech k) buf)
 
   pub asked_sent :
-      (k : ℕ) → AskedOf node speeches before net src k → next_seq r (element_of node (speech_at speeches k).dst) ≤ 0xFFFFFF
+      (k : ℕ) → AskedOf node speeches before net src k → next_seq r (element_at node (speech_at speeches k).dst) ≤ 0xFFFFFF
       → made_by (acknowledging r net src buf).answer.answer ≡ true
   asked_sent k f left =
-      let element = element_of node (speech_at speeches k).dst in
+      let element = element_at node (speech_at speeches k).dst in
       let there : net < r.node.networks = rw (same_scene sc) f.key_there in
       let from : is_unicast (address_of r.node element) ≡ true = rw (address_of_law k f) f.to_unicast_law in
       let to : is_unicast src ≡ true = rw f.its_source (speak k f.one_of).from_unicast in
@@ -170,9 +176,7 @@ module _ (node : Node) (made : WellMade node) (speeches : List Speech) (speak : 
       -- no session, no message handed up
       refused_unknown : session_slots ≤ own → (look_up r.replay src).last.dst ≡ 0 → Refused
       refused_unknown out e =
-          let last = (look_up r.replay src).last in
-          acknowledgement_not_unicast r buf wide net src (record { auth = last.auth; dst = last.dst; bits = all_bits last.segn })
-          (chosen_last r.replay r.sessions src z (look_up r.replay src) out refl) (ap is_unicast e ∙ zero_other)
+          acknowledgement_none r buf wide net src (chosen_none r.replay r.sessions src z (look_up r.replay src) out refl e)
 
       refused_closed : session_slots ≤ own → Refused
       refused_closed out =
@@ -190,7 +194,7 @@ module _ (node : Node) (made : WellMade node) (speeches : List Speech) (speak : 
     pub asked_refuses : Refused
     asked_refuses =
         by_test (eqb src 0)
-        (λ t. let e = eqb-true src 0 t in acknowledgement_not_unicast r buf wide net src no_choice (rw e (chosen_zero r.replay r.sessions)) zero_other)
+        (λ t. let e = eqb-true src 0 t in acknowledgement_none r buf wide net src (rw e (chosen_zero r.replay r.sessions)))
         (λ t.
         let z = eqb-false src 0 t in
         by_test (ltb (own z) session_slots) (λ u. refused_open z (ltb-true (own z) session_slots u)) (λ u. refused_closed z (ltb-false (own z) session_slots u)))

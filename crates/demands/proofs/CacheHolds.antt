@@ -11,6 +11,7 @@ use Prim.Native.Nat.{ℕ}
 use native.Mathlib.Omega.{arith}
 use borrow.Author.Tests.{ne_eqb, leb-true, leb-false, le-leb, lt-leb}
 use lib.Dec.{eqb, leb}
+use Rattle.std.specs.Prelude.{Result, Err, Ok}
 use Rattle.common.proofs.Tests.{by_test, and_first, and_second}
 use Rattle.network.specs.declared.header.Header.{Header}
 use Rattle.network.proofs.AddressLaws.{unicast_some}
@@ -23,9 +24,8 @@ use Rattle.memory.proofs.CacheLaws.{seen_place}
 use Rattle.node.specs.declared.setup.Setup.{Setup}
 use Rattle.node.specs.Addresses.{is_local}
 use Rattle.receiver.specs.declared.answer.Answer as heard_answer
-use Rattle.receiver.specs.declared.answer.Answer.TheVariants.{Refused, Stored, Repeated, Access, Control, Acknowledgement}
+use Rattle.receiver.specs.declared.answer.Answer.TheVariants.{Stored, Repeated, Access, Control, Acknowledgement}
 use Rattle.receiver.specs.declared.answer.Refusal.{Refusal}
-use Rattle.receiver.specs.declared.fresh.Answer.TheVariants.{Ready}
 use Rattle.receiver.specs.declared.give_up.GivenUp.{GivenUp}
 use Rattle.receiver.specs.declared.state.Receiver.{Receiver}
 use Rattle.receiver.specs.Answer.{refusal_number}
@@ -36,7 +36,7 @@ use Rattle.receiver.proofs.AnswerLaws.{number_some}
 use Rattle.receiver.proofs.Opened.{opens_clear}
 use Rattle.receiver.proofs.Laws.Fresh.{fresh_is}
 use Rattle.receiver.proofs.Laws.GiveUp.{by_giving_up}
-use Rattle.receiver.proofs.Laws.Heard.{early, late, opening_of, heard_own, heard_again}
+use Rattle.receiver.proofs.Laws.Heard.{early, late, heard_own, heard_again}
 use Rattle.receiver.proofs.Laws.Refusal.{heard_either, heard_entered}
 use Rattle.demands.specs.Answers.{number_of}
 use Rattle.demands.specs.CacheHolds.{stopped, entered_by, entered_in, entered, CacheHolds, CachedExactly, FreshUnderIndex}
@@ -66,13 +66,13 @@ late_passes n e =
     rw (ne_eqb m 16 (λ s. omega arith), ne_eqb m 22 (λ s. omega arith), le-leb 1 m (omega arith)) (lt-leb m _ (omega arith))
 
 -- what is entered is refused behind the cache, or not at all
-entered_passes : (a : heard_answer.Answer) → ((n : Refusal) → a ≡ Refused n → late n ≡ true) → stopped (number_of (Heard a)) ≡ false
-entered_passes (Refused n) f = late_passes n (f n refl)
-entered_passes (Stored src auth bits) f = refl
-entered_passes (Repeated src auth bits) f = refl
-entered_passes (Access src dst net key pair len) f = refl
-entered_passes (Control src dst net opcode pair len) f = refl
-entered_passes (Acknowledgement src bits effect) f = refl
+entered_passes : (a : Result heard_answer.Answer Refusal) → ((n : Refusal) → a ≡ Err n → late n ≡ true) → stopped (number_of (Heard a)) ≡ false
+entered_passes (Err n) f = late_passes n (f n refl)
+entered_passes (Ok (Stored src auth bits)) f = refl
+entered_passes (Ok (Repeated src auth bits)) f = refl
+entered_passes (Ok (Access src dst net key pair len)) f = refl
+entered_passes (Ok (Control src dst net opcode pair len)) f = refl
+entered_passes (Ok (Acknowledgement src bits effect)) f = refl
 
 -- ---- one call
 pub opens_sourced : {r : Receiver} {pdu fwd msg : List ℕ} {trials : ℕ} {h : Header} → Opens r pdu fwd msg trials h → h.src ≡ 0 → ⊥
@@ -85,14 +85,13 @@ record Writes (r : Receiver) (c : Call) : Type 0 where
 
 hear_writes : (r : Receiver) (pdu fwd msg : List ℕ) → Writes r (Hear pdu fwd msg)
 hear_writes r pdu fwd msg =
-    let h = (opening_of r pdu).header in
     ⊎_elim
     (λ y.
     let stops = early_stops y.0 y.1.is_early in
     record { cache_is = rw (y.1.leaves, stops) refl; sourced = rw (y.1.leaves, stops) (tt {0}) })
     (λ x.
-    let passes = entered_passes (hear.hearing r pdu fwd msg).heard.answer (λ n e. (x.1.refused_late n e).is_late) in
-    record { cache_is = rw passes x.1.cache_is; sourced = rw passes (opens_sourced x.0.opened, tt {0}) })
+    let passes = entered_passes (hear.hearing r pdu fwd msg).heard.answer (λ n e. (x.2.refused_late n e).is_late) in
+    record { cache_is = rw (passes, x.1.opened.opens) x.2.cache_is; sourced = rw (passes, x.1.opened.opens) (opens_sourced x.1.opened, tt {0}) })
     (heard_either r pdu fwd msg)
 
 writes : (r : Receiver) (c : Call) → Writes r c
@@ -126,7 +125,7 @@ cache_holds s l e =
     ap held (after_writes (start s) l ∙ ap (λ (r : Receiver). further r.cache all) (fresh_is s)) ∙ holds_last all (sourced_in (start s) l)
 
 -- ---- a PDU that opens
-module _ (s : Setup) (l : List Call) (e : (setting_up s).answer ≡ Ready) (pdu fwd msg : List ℕ) (trials : ℕ) (h : Header) where
+module _ (s : Setup) (l : List Call) (e : (setting_up s).answer ≡ Ok tt) (pdu fwd msg : List ℕ) (trials : ℕ) (h : Header) where
   abbrev r : Receiver
   r = after (start s) l
 

@@ -13,22 +13,22 @@ use Prim.Native.Nat.{ℕ, ◌<◌}
 use native.Mathlib.Omega.{arith}
 use borrow.Author.Tests.{ne_eqb, leb-true, leb-false, le-leb, lt-leb}
 use lib.Dec.{eqb, leb}
+use Rattle.std.specs.Prelude.{Result, Ok, Err}
 use Rattle.common.specs.Lent.{Lent, lent}
 use Rattle.common.specs.Paper as given
 use Rattle.common.proofs.Tests.{by_test, and_first, and_second}
 use Rattle.network.specs.declared.header.Header.{Header}
 use Rattle.memory.specs.declared.outgoing.Outgoing.{Outgoing}
 use Rattle.receiver.specs.declared.answer.Answer as heard_answer
-use Rattle.receiver.specs.declared.answer.Answer.TheVariants.{Refused, Stored, Repeated, Access, Control, Acknowledgement}
+use Rattle.receiver.specs.declared.answer.Answer.TheVariants.{Stored, Repeated, Access, Control, Acknowledgement}
 use Rattle.receiver.specs.declared.answer.Refusal.{Refusal}
 use Rattle.receiver.specs.declared.answer.Refusal.TheVariants as refusal
-use Rattle.receiver.specs.declared.give_up.Answer.TheVariants as give_up
 use Rattle.receiver.specs.declared.give_up.GivenUp.{GivenUp}
 use Rattle.receiver.specs.declared.state.Receiver.{Receiver}
 use Rattle.receiver.specs.Answer.{refusal_number, paper}
 use Rattle.receiver.specs.Hearing as hear
 use Rattle.receiver.proofs.Laws.GiveUp.{by_giving_up}
-use Rattle.receiver.proofs.Laws.Heard.{Refuses, opening_of}
+use Rattle.receiver.proofs.Laws.Heard.{Refuses, PassesSo}
 use Rattle.receiver.proofs.Laws.Refusal.{Late, heard_refused}
 use Rattle.sending.specs.declared.answer.Spoken.{Spoken}
 use Rattle.sending.specs.Answer.{refused_at}
@@ -76,13 +76,13 @@ late_changes n l =
 
 -- ---- hearing
 -- which refusal an answer is
-refused_as : (a : heard_answer.Answer) → is_refused (Heard a) ≡ true → (n : Refusal) × (a ≡ Refused n)
-refused_as (Refused n) t = (n, refl)
-refused_as (Stored src auth bits) t = absurd (false≢true t)
-refused_as (Repeated src auth bits) t = absurd (false≢true t)
-refused_as (Access src dst net key pair len) t = absurd (false≢true t)
-refused_as (Control src dst net opcode pair len) t = absurd (false≢true t)
-refused_as (Acknowledgement src bits effect) t = absurd (false≢true t)
+refused_as : (a : Result heard_answer.Answer Refusal) → is_refused (Heard a) ≡ true → (n : Refusal) × (a ≡ Err n)
+refused_as (Err n) t = (n, refl)
+refused_as (Ok (Stored src auth bits)) t = absurd (false≢true t)
+refused_as (Ok (Repeated src auth bits)) t = absurd (false≢true t)
+refused_as (Ok (Access src dst net key pair len)) t = absurd (false≢true t)
+refused_as (Ok (Control src dst net opcode pair len)) t = absurd (false≢true t)
+refused_as (Ok (Acknowledgement src bits effect)) t = absurd (false≢true t)
 
 module _ (r : Receiver) (pdu fwd msg : List ℕ) where
   abbrev o : hear.Outcome
@@ -93,7 +93,7 @@ module _ (r : Receiver) (pdu fwd msg : List ℕ) where
       subst (λ (z : hear.Outcome). Untouched r fwd msg (left_heard z)) (sym y.leaves)
       (record { receiver_stays = refl; pdu_stays = refl; message_stays = refl; none_made = refl; no_octets = refl })
 
-  pub refused_kind : is_refused (Heard o.heard.answer) ≡ true → (n : Refusal) × (o.heard.answer ≡ Refused n) × (Refuses r fwd msg n o ⊎ Late r fwd msg (opening_of r pdu).header n o)
+  pub refused_kind : is_refused (Heard o.heard.answer) ≡ true → (n : Refusal) × (o.heard.answer ≡ Err n) × (Refuses r fwd msg n o ⊎ ((h : Header) × PassesSo r fwd msg pdu h × Late r fwd msg h n o))
   refused_kind t = let a = refused_as o.heard.answer t in (a.0, a.1, heard_refused r pdu fwd msg a.0 a.1)
 
   heard_ends : Ends r of_hearing fwd msg (left_heard o)
@@ -104,15 +104,15 @@ module _ (r : Receiver) (pdu fwd msg : List ℕ) where
             by_test (leb 1 n)
             (λ t.
             let k = refused_kind t in
-            rw k.1 (⊎_elim (λ y. early_heard (refusal_number k.0) y.is_early) (λ l. late_heard (refusal_number k.0) l.is_late) k.2))
+            rw k.1 (⊎_elim (λ y. early_heard (refusal_number k.0) y.is_early) (λ l. late_heard (refusal_number k.0) l.2.is_late) k.2))
             (λ t.
             let none : n < 1 = leb-false 1 n t in
             let zero : n ≡ 0 = omega arith in
             rw zero refl);
         everything = λ t.
             let k = refused_kind (and_first (leb 1 n) _ t) in
-            ⊎_elim (λ y. untouched k.0 o y) (λ l. absurd (false≢true (sym (late_changes (refusal_number k.0) l.is_late) ∙ rw k.1 at t))) k.2;
-        message_stays = λ t. let k = refused_kind t in ⊎_elim (λ y. (untouched k.0 o y).message_stays) (λ l. l.message_stays) k.2;
+            ⊎_elim (λ y. untouched k.0 o y) (λ l. absurd (false≢true (sym (late_changes (refusal_number k.0) l.2.is_late) ∙ rw k.1 at t))) k.2;
+        message_stays = λ t. let k = refused_kind t in ⊎_elim (λ y. (untouched k.0 o y).message_stays) (λ l. l.2.message_stays) k.2;
       }
 
 -- ---- sending
@@ -141,7 +141,7 @@ module _ (r : Receiver) where
   abbrev EndedEnds : GivenUp → Type 0
   EndedEnds g = Ends r of_asking [] [] (left_ended g)
 
-  not_there : EndedEnds (record { answer = give_up.Refused refusal.OutsideRules; receiver = r })
+  not_there : EndedEnds (record { answer = Err refusal.OutsideRules; receiver = r })
   not_there =
       record {
         answers = refl;
@@ -149,7 +149,7 @@ module _ (r : Receiver) where
         message_stays = λ _. refl;
       }
 
-  given_up_law : (q : Receiver) → EndedEnds (record { answer = give_up.Done; receiver = q })
+  given_up_law : (q : Receiver) → EndedEnds (record { answer = Ok tt; receiver = q })
   given_up_law q = record { answers = refl; everything = λ t. absurd (false≢true t); message_stays = λ _. refl }
 
 -- ---- the calls
@@ -161,5 +161,5 @@ ends r (SendAccess q key szmic payload buf) =
 ends r (SendControl q opcode parameters buf) =
     walk_control r buf (SaidEnds r buf) (refused r buf) q opcode parameters (λ _ _. said r buf q.element _) (λ _ _. started r buf q.element _)
 ends r (SendSegment n buf) = walk_segment r buf (SaidEnds r buf) (refused r buf) n (λ _ _. said r buf _ (segment_header r.out n))
-ends r (Acknowledge net src buf) = walk_acknowledge r buf (SaidEnds r buf) (refused r buf) net src (λ _ _. said r buf _ _)
+ends r (Acknowledge net src buf) = walk_acknowledge r buf (SaidEnds r buf) (refused r buf) net src (λ _ _ _ _. said r buf _ _)
 ends r Stop = by_stopping (EndedEnds r) r (not_there r) (given_up_law r _)

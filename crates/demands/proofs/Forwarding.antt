@@ -8,10 +8,11 @@ use mathlib.Core.Path.{sym, ap, ◌∙◌, subst}
 use Prim.Native.Nat.{ℕ, ◌<◌, min}
 use native.Mathlib.Omega.{arith}
 use lib.ListN.{get_or}
+use Rattle.std.specs.Prelude.{Result}
 use Rattle.common.specs.Lent.{Lent, lent}
 use Rattle.common.proofs.Tests.{by_test}
 use Rattle.keys.proofs.Octets.{octets_encryption, octets_privacy}
-use Rattle.network.specs.declared.sealing.Answer.{Answer}
+use Rattle.network.specs.declared.sealing.Refusal.{Refusal}
 use Rattle.network.specs.Candidates.{network_key_places, key_at}
 use Rattle.network.specs.Resealed.{OctetKey}
 use Rattle.network.specs.Sealing.{sealed_length, forwards}
@@ -37,5 +38,5 @@ forwards_exactly r pdu fwd msg trials h g p passes =
     by_test (forwards node.relay (is_local node h.dst) h)
     (λ t. rw t
     (heard_forwarded passes t
-    ∙ ap (λ (f : Lent Answer). lent (sealed_length f.answer) f.buffer) again))
+    ∙ ap (λ (f : Lent (Result ℕ Refusal)). lent (sealed_length f.answer) f.buffer) again))
     (λ t. rw t (heard_kept passes t))

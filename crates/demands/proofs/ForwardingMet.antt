@@ -8,13 +8,13 @@ use mathlib.Core.Path.{◌≡◌, refl, sym, ap, ◌∙◌}
 use Prim.Native.Nat.{ℕ, ◌+◌, ◌≤◌}
 use native.Mathlib.Omega.{arith}
 use lib.ListN.{length, replicate}
+use Rattle.std.specs.Prelude.{Ok}
 use Rattle.common.specs.Lent.{lent}
 use Rattle.common.specs.Search.{first, picked}
 use Rattle.common.proofs.Octets.{octets_tested}
 use Rattle.keys.specs.declared.NetworkKeys.{NetworkKeys}
 use Rattle.keys.proofs.Widths.{nid_low}
 use Rattle.network.specs.declared.header.Header.{Header}
-use Rattle.network.specs.declared.opening.Answer.TheVariants.{Opened}
 use Rattle.network.specs.Address.{kind_of, is_reserved, destination_kind, is_unicast}
 use Rattle.network.specs.Candidates.{key_at, candidates}
 use Rattle.network.specs.Opening.{opening}
@@ -66,13 +66,13 @@ module _ (src iv dst : ℕ) (from : is_unicast src ≡ true) (near : (iv ≡ 0x1
       let allowed = addresses_allowed_law true src dst from may in
       sealable_where key (passing_from src iv dst) nid_fits (omega arith) (omega arith) allowed (omega arith) (omega arith)
 
-  opens : opening node.materials node.networks node.iv (pdu_from src iv dst) ≡ record { answer = Opened; trials = 1; header = passing_from src iv dst }
+  opens : opening node.materials node.networks node.iv (pdu_from src iv dst) ≡ record { trials = 1; opened = Ok (passing_from src iv dst) }
   opens =
       let n = holds.one_network in
       let i = holds.index in
       open_seal node.materials node.networks node.iv (passing_from src iv dst) can (record { dst_fits = omega arith; zeros_behind = refl })
       (record { held = omega arith; near = ⊎_elim (λ e. inl (e ∙ sym i)) (λ e. inr (e ∙ sym i)) near; none_before = λ j h. absurd (omega arith) })
-      ∙ ap (λ (t : ℕ). record { answer = Opened; trials = t; header = passing_from src iv dst }) one_trial
+      ∙ ap (λ (t : ℕ). record { trials = t; opened = Ok (passing_from src iv dst) }) one_trial
 
   -- the shed's node hears it, whatever else the receiver holds
   opens_in : (r : Receiver) → r.node ≡ node → Opens r (pdu_from src iv dst) (replicate pdu_octets 0) (replicate message_octets 0) 1 (passing_from src iv dst)

@@ -12,6 +12,7 @@ use native.Mathlib.Omega.{arith}
 use borrow.Author.Tests.{leb-true}
 use lib.Dec.{leb}
 use lib.ListN.{length}
+use Rattle.std.specs.Prelude.{Result}
 use Rattle.common.specs.Bits.{has_bit}
 use Rattle.common.specs.Lent.{Lent}
 use Rattle.common.specs.Lists.{tab_from}
@@ -30,6 +31,7 @@ use Rattle.transport.proofs.SecureOpen.{secured_length}
 use Rattle.memory.specs.declared.outgoing.Outgoing.{Outgoing}
 use Rattle.node.specs.declared.addresses.Node.{Node}
 use Rattle.node.specs.Made.{WellMade}
+use Rattle.receiver.specs.declared.answer.Refusal.{Refusal}
 use Rattle.receiver.specs.declared.state.Receiver.{Receiver}
 use Rattle.receiver.specs.Good.{Good}
 use Rattle.sending.specs.declared.answer.Answer as said_answer
@@ -272,7 +274,7 @@ last_answered sender q words buf good sent w =
 whole_way :
     (sender : Receiver) (q : Request) (words : Words) (buf : List ℕ) → goes_whole words ≡ true → Way sender q words (sending_as sender q words buf)
     → seg_n_as (left_said (sending_as sender q words buf)).answer ≡ 0
-whole_way sender q words buf w (Whole a v g) = ap (λ (x : said_answer.Answer). seg_n_as (Said x)) g.says
+whole_way sender q words buf w (Whole a v g) = ap (λ (x : Result said_answer.Answer Refusal). seg_n_as (Said x)) g.says
 whole_way sender q words buf w (Begun a v g) = absurd (true≢false (sym w ∙ v))
 
 pub whole_answered :

@@ -11,7 +11,7 @@ use Prim.Native.Nat.{ℕ, zero, suc, ◌+◌, ◌≤◌, ◌<◌}
 use native.Mathlib.Omega.{arith}
 use lib.Dec.{eqb}
 use lib.ListN.{length, replicate}
-use Rattle.std.specs.Prelude.{if◌then◌else◌}
+use Rattle.std.specs.Prelude.{Ok, if◌then◌else◌}
 use Rattle.common.specs.Bits.{has_bit, with_bit}
 use Rattle.common.specs.Search.{first}
 use Rattle.network.specs.Address.{kind_of, is_unicast, is_reserved}
@@ -24,7 +24,6 @@ use Rattle.transport.proofs.SecureOpen.{secured_length}
 use Rattle.node.specs.Addresses.{is_local, answers_to, for_node}
 use Rattle.node.specs.Setup.{bound_within, keys_valid, next_within, elements_valid, groups_valid, index_valid, valid, bound_key_at, node_of, making}
 use Rattle.node.specs.declared.addresses.Node.{Node}
-use Rattle.receiver.specs.declared.fresh.Answer.TheVariants.{Ready}
 use Rattle.receiver.specs.Fresh.{setting_up}
 use Rattle.demands.specs.Instance.{shed, humidity, temperature, boxes, arrival, order, traffic, SceneMet}
 use Rattle.demands.specs.Interleaved as scene
@@ -34,7 +33,7 @@ use Rattle.demands.specs.Speech.{Access, key_of, envelope_of, octets_of, last_of
 use Rattle.demands.proofs.SpeechCut.{cut_is}
 use Rattle.demands.proofs.OpenerLaws.{plain_read, plain_label}
 
-pub ready : (setting_up shed).answer ≡ Ready
+pub ready : (setting_up shed).answer ≡ Ok tt
 unfolding setting_up making valid keys_valid bound_within elements_valid next_within groups_valid index_valid first kind_of
 ready = refl
 
@@ -158,7 +157,7 @@ arrives : (e : Event) → Comes node boxes spent e → Arrives node boxes spent 
 arrives e c = record { comes = c; room_forward = omega arith; room_message = omega arith }
 
 -- one octet is no PDU
-pub short_foreign : no_key_opens (opening node.materials node.networks node.iv (0x68 ∷ [])).answer ≡ true
+pub short_foreign : no_key_opens (opening node.materials node.networks node.iv (0x68 ∷ [])).opened ≡ true
 unfolding opening
 short_foreign = refl
 

@@ -101,7 +101,7 @@ module _ (r : Receiver) (P : Receiver → Type 0) where
           sendable = control_sendable r q opcode parameters a i;
         }))
     walk_said (SendSegment n buf) e = walk_segment r buf LeftBy (λ _ _. w.stays) n (λ _ _. said buf _ _)
-    walk_said (Acknowledge net src buf) e = walk_acknowledge r buf LeftBy (λ _ _. w.stays) net src (λ _ _. said buf _ _)
+    walk_said (Acknowledge net src buf) e = walk_acknowledge r buf LeftBy (λ _ _. w.stays) net src (λ _ _ _ _. said buf _ _)
     walk_said Stop e = by_stopping (λ (g : GivenUp). P g.receiver) r w.stays w.ends
 
   pub walk_step : Ways r P → (c : Call) → P (step r c).receiver

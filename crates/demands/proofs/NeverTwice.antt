@@ -10,11 +10,11 @@ use mathlib.Core.Path.{◌≡◌, refl, sym, ap, ◌∙◌, subst}
 use Prim.Native.Nat.{ℕ, ◌+◌, ◌≤◌, ◌<◌}
 use native.Mathlib.Omega.{arith}
 use lib.ListN.{length, get_or}
+use Rattle.std.specs.Prelude.{Option, Result, Ok}
 use Rattle.common.specs.Lent.{Lent, lent}
 use Rattle.common.specs.Lists.{onto}
 use Rattle.common.proofs.Tests.{by_choice}
 use Rattle.network.specs.declared.header.Header.{Header}
-use Rattle.network.specs.declared.sealing.Answer.TheVariants.{Sealed}
 use Rattle.network.specs.Candidates.{key_at}
 use Rattle.network.specs.Sealing.{sealing}
 use Rattle.transport.specs.declared.securing.Envelope.{Envelope}
@@ -34,10 +34,11 @@ use Rattle.sending.specs.declared.answer.Answer.{Answer}
 use Rattle.sending.specs.declared.answer.Spoken.{Spoken}
 use Rattle.sending.specs.declared.request.Request.{Request}
 use Rattle.sending.specs.Access.{keyed, access_allowed, envelope_of}
-use Rattle.sending.specs.Acknowledge.{chosen}
+use Rattle.sending.specs.declared.acknowledge.Chosen.{Chosen}
+use Rattle.sending.specs.Acknowledge.{chosen, acknowledgement_header}
 use Rattle.sending.specs.Answer.{refused_at}
 use Rattle.sending.specs.Control as control
-use Rattle.sending.specs.Segment.{segment_header, starting, element_of}
+use Rattle.sending.specs.Segment.{segment_header, starting, element_at}
 use Rattle.sending.specs.Stop.{stopping}
 use Rattle.sending.specs.Transmission.{sending_iv, address_of, next_seq, stamped}
 use Rattle.sending.proofs.Laws.Allowed.{Asked, access_allows, control_allows}
@@ -46,7 +47,7 @@ use Rattle.sending.proofs.Laws.Shapes.{whole_access_law, whole_control_law, segm
 use Rattle.sending.proofs.Laws.Stamped.{stamps}
 use Rattle.sending.proofs.Laws.Transmitted.{checked, used, used_own, used_rises, saying, pdu_by, Sends, sealing_is, by_saying, by_starting, by_stopping}
 use Rattle.demands.specs.Call.{Call, Hear, GiveUp, SendAccess, SendControl, SendSegment, Acknowledge, Stop, lent_for, Outcome, length_by, left_said, step}
-use Rattle.demands.specs.NeverTwice.{Use, speaker, index_sent, addressee, uses, Carried, AllAbove, Rising, NoneEqual, Distinct, Rise, NeverTwice}
+use Rattle.demands.specs.NeverTwice.{spoken_to, Use, speaker, index_sent, addressee, uses, Carried, AllAbove, Rising, NoneEqual, Distinct, Rise, NeverTwice}
 use Rattle.demands.proofs.Invariant.{good_step}
 use Rattle.sending.specs.Request.{dst_of, additional_for}
 
@@ -59,7 +60,7 @@ module _ (r : Receiver) (element iv to : ℕ) (buf : List ℕ) where
     pub to_whom : header.dst ≡ to
     pub under_index : header.iv ≡ iv
     pub with_next_law : header.seq ≡ next_seq r element
-    pub made_of : sealing (key_at r.node.materials header.key) header buf ≡ lent (Sealed o.octets) o.pdu
+    pub made_of : sealing (key_at r.node.materials header.key) header buf ≡ lent (Ok o.octets) o.pdu
     pub raised : element < length r.next → next_seq o.receiver element ≡ next_seq r element + 1
 
   pub record Speaks (o : Outcome) : Type 0 where
@@ -83,7 +84,7 @@ module _ (r : Receiver) (element iv to : ℕ) (buf : List ℕ) where
   refused n _ = silent (left_said (lent (refused_at r n) buf)) refl refl
 
   -- the PDU of this header was sent, and q is left
-  module _ (low : element < element_places) (h : Header) {g : Header} (shape : stamped r element h ≡ g) (i : g.iv ≡ iv) (d : g.dst ≡ to) (c : Sends r element h buf) (a : Answer)
+  module _ (low : element < element_places) (h : Header) {g : Header} (shape : stamped r element h ≡ g) (i : g.iv ≡ iv) (d : g.dst ≡ to) (c : Sends r element h buf) (a : Result Answer Refusal)
       (q : Receiver) (next : q.next ≡ (used r element).next) (long : length_by a ≡ length (pdu_by r element h)) where
     takes_sent : Takes (left_said (lent (record { answer = a; receiver = q }) (onto (pdu_by r element h) buf)))
     takes_sent =
@@ -146,14 +147,20 @@ speaks r (SendControl q opcode parameters buf) =
     (λ a _. said r e iv to buf (low a) _ (whole_control_law r e iv q to opcode parameters) refl refl)
     (λ a _. started r e iv to buf (low a) _ (ap (λ (p : Pair). p.iv) kept.auth_is) (ap (λ (t : Terms). t.dst) kept.terms_is))
 speaks r (SendSegment n buf) =
-    let e = element_of r.node r.out.src in
+    let e = element_at r.node r.out.src in
     let iv = r.out.auth.iv in
     let to = r.out.terms.dst in
     walk_segment r buf (Speaking r e iv to buf) (refused r e iv to buf) n (λ low _. said r e iv to buf low _ (segment_out r e r.out n) refl refl)
 speaks r (Acknowledge net src buf) =
-    let e = element_of r.node (chosen r.replay r.sessions src).dst in
+    let asked = chosen r.replay r.sessions src in
+    let e = element_at r.node (spoken_to asked) in
     let iv = sending_iv r.node in
-    walk_acknowledge r buf (Speaking r e iv src buf) (refused r e iv src buf) net src (λ _ low. said r e iv src buf low _ (acknowledgement_out r e iv net src _) refl refl)
+    walk_acknowledge r buf (Speaking r e iv src buf) (refused r e iv src buf) net src
+    (λ c chose _ low.
+    let by : ℕ = element_at r.node c.dst in
+    let x = saying r by (acknowledgement_header iv net src c) buf in
+    subst (λ (o : Option Chosen). Speaking r (element_at r.node (spoken_to o)) iv src buf x) (sym chose)
+    (said r by iv src buf low _ (acknowledgement_out r by iv net src c) refl refl))
 speaks r Stop = silent r 0 0 0 [] _ refl (stopped_next r)
 
 -- no next SEQ falls

@@ -7,9 +7,9 @@ use Rattle.memory.specs.declared.replay.Entry.{Entry}
 use Rattle.memory.specs.Walked.{walked}
 use Rattle.memory.proofs.Alike.{Both, begins, agrees, same_entries}
 use Rattle.node.specs.declared.setup.Setup.{Setup}
+use Rattle.receiver.proofs.Laws.Fresh.{fresh_is}
 use Rattle.receiver.specs.declared.give_up.GivenUp.{GivenUp}
 use Rattle.receiver.specs.declared.state.Receiver.{Receiver}
-use Rattle.receiver.specs.Fresh.{setting_up}
 use Rattle.receiver.specs.Hearing as hear
 use Rattle.receiver.specs.State.{with_replay}
 use Rattle.receiver.proofs.Laws.Agree.{bare_heard, bare_given_up, agree_hearing, agree_giving_up}
@@ -67,8 +67,7 @@ near_after x y near (c ∷ l) = near_after (step_by walked x c).receiver (step y
 
 -- ---- from setup on
 near_start : (s : Setup) → Near (start s) (start s)
-unfolding setting_up
-near_start s = record { same = refl; lists = begins }
+near_start s = record { same = refl; lists = rw (fresh_is s) begins }
 
 pub old_answers : OldAnswers
 old_answers s l = agree_run (start s) (start s) (near_start s) l

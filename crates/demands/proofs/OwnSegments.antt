@@ -4,9 +4,9 @@ use mathlib.Core.Bool.{true, false, true≢false}
 use mathlib.Core.List.{List, [], ◌∷◌}
 use mathlib.Core.Path.{◌≡◌, refl, sym, ap, ◌∙◌, subst}
 use Prim.Native.Nat.{ℕ, suc, ◌%◌}
+use Rattle.std.specs.Prelude.{Ok}
 use Rattle.common.specs.Lent.{lent}
 use Rattle.common.specs.Lists.{tab, onto}
-use Rattle.transport.specs.declared.vetting.Vetted.TheVariants.{Approved}
 use Rattle.transport.specs.Listed.{written}
 use Rattle.transport.specs.Segment.{full_octets, segment_at}
 use Rattle.transport.specs.VettedExactly.{Are}
@@ -14,8 +14,8 @@ use Rattle.transport.proofs.ListedLaws.{list_reads_back}
 use Rattle.transport.proofs.VettedExactly.{approves_exactly}
 use Rattle.memory.specs.declared.outgoing.Outgoing.{Outgoing}
 use Rattle.memory.specs.Outgoing.{no_outgoing, with_heard}
+use Rattle.receiver.proofs.Laws.Fresh.{fresh_is}
 use Rattle.receiver.specs.declared.state.Receiver.{Receiver}
-use Rattle.receiver.specs.Fresh.{setting_up}
 use Rattle.receiver.specs.Good.{Good}
 use Rattle.receiver.proofs.Laws.Outgoing.{outgoing_heard}
 use Rattle.sending.specs.declared.request.Request.{Request}
@@ -56,8 +56,7 @@ sendable_run r [] g = g
 sendable_run r (c ∷ l) g = sendable_run (step r c).receiver l (sendable_step r c g)
 
 pub sendable_after : SendableAfter
-unfolding setting_up
-sendable_after s l e = sendable_run (start s) l none_sendable
+sendable_after s l e = sendable_run (start s) l (rw (fresh_is s) none_sendable)
 
 -- ---- a sendable message's segments are approved
 segments_are : (o : Outgoing) → Sendable o → Are o.terms.ctl (kept_octets o) (segments_kept o)
@@ -78,7 +77,7 @@ own_approved s l buf e h z =
     let x = sendable_after s l e z in
     (approves_exactly o.terms.ctl (written (segments_kept o)) buf (kept_octets o) h).1
     (subst (Are o.terms.ctl (kept_octets o)) (sym (list_reads_back (segments_kept o))) (segments_are o x))
-    ∙ ap (λ (n : ℕ). lent (Approved n) (onto (kept_octets o) buf)) x.len_is
+    ∙ ap (λ (n : ℕ). lent (Ok n) (onto (kept_octets o) buf)) x.len_is
 
 -- ---- what is kept is what was said
 module _ (sender : Receiver) (good : Good sender) (q : Request) (words : Words) (buf : List ℕ) (l : List Call) (w : goes_whole words ≡ false) where

@@ -26,7 +26,7 @@ use Rattle.network.specs.Pdu.{pdu_octets}
 use Rattle.network.specs.Sealing.{sealable}
 use Rattle.memory.specs.declared.outgoing.Outgoing.{Outgoing}
 use Rattle.node.specs.declared.addresses.Node.{Node}
-use Rattle.node.specs.Addresses.{element_places}
+use Rattle.node.specs.Addresses.{element_places, is_local}
 use Rattle.node.specs.Index.{SameFixed}
 use Rattle.node.specs.Made.{WellMade}
 use Rattle.receiver.specs.declared.state.Receiver.{Receiver}
@@ -34,11 +34,11 @@ use Rattle.receiver.specs.Good.{Good}
 use Rattle.sending.specs.declared.answer.Spoken.{Spoken}
 use Rattle.sending.specs.declared.request.Request.{Request}
 use Rattle.sending.specs.Request.{ttl_of}
-use Rattle.sending.specs.Segment.{segment_header, element_of, segment_allowed, sending_segment}
+use Rattle.sending.specs.Segment.{segment_header, element_at, segment_allowed, sending_segment}
 use Rattle.sending.specs.Transmission.{address_of, next_seq, stamped}
 use Rattle.sending.proofs.Laws.Allowed.{SegmentAllows, segment_allows, segment_allowed_law}
 use Rattle.sending.proofs.Laws.Calls.{walk_segment, segment_sent}
-use Rattle.sending.proofs.Laws.Stamped.{element_back, address_fixed, element_fixed}
+use Rattle.sending.proofs.Laws.Stamped.{address_local, element_back, address_fixed, local_fixed, element_fixed}
 use Rattle.sending.proofs.Laws.Transmitted.{Sends, used_own, saying, saying_is}
 use Rattle.demands.specs.Call.{Call, Hear, GiveUp, SendAccess, SendControl, SendSegment, Acknowledge, Stop, made_by, step, run, after}
 use Rattle.demands.specs.GoesOut.{StaysKept}
@@ -169,9 +169,12 @@ module _ (sender : Receiver) (own : WellMade sender.node) (node : Node) (shared 
     first_same : r.out.auth.seq ≡ s.auth.seq
     first_same = ap (λ (x : Outgoing). x.auth.seq) same ∙ rw kept.auth_is refl
 
-    speaks : element_of r.node r.out.src ≡ element
+    speaks : element_at r.node r.out.src ≡ element
     speaks =
-        element_fixed r.node sender.node h.fixed_is r.out.src ∙ ap (element_of sender.node) source_same ∙ element_back sender.node own element there
+        element_fixed r.node sender.node h.fixed_is r.out.src ∙ ap (element_at sender.node) source_same ∙ element_back sender.node own element there
+
+    local_here : is_local r.node r.out.src ≡ true
+    local_here = local_fixed r.node sender.node h.fixed_is r.out.src ∙ ap (is_local sender.node) source_same ∙ address_local sender.node own element there
 
     record SendsOne (x : Lent Spoken) : Type 0 where
       said : SaidBy r element (segment_header o n) x
@@ -282,7 +285,7 @@ module _ (sender : Receiver) (own : WellMade sender.node) (node : Node) (shared 
     pub segment_goes : (step r (SendSegment n buf)).made ≡ true
     segment_goes =
         let t = there in
-        rw (segment_sent r buf wide n element (speaks r k n buf z h) (omega arith) allowed_here, header_same o r.out n (h.still z))
+        rw (segment_sent r buf wide n element (local_here r k n buf z h) (speaks r k n buf z h) allowed_here, header_same o r.out n (h.still z))
         (ap (λ (x : Lent Spoken). made_by x.answer.answer) (saying_is r element (segment_header o n) buf goes))
 
   -- ---- in order

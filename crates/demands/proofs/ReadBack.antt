@@ -10,6 +10,7 @@ use Prim.Native.Nat.{ℕ, ◌+◌, ◌≤◌}
 use native.Mathlib.Omega.{arith}
 use borrow.Author.Tests.{leb-true}
 use lib.ListN.{length}
+use Rattle.std.specs.Prelude.{Result, Ok}
 use Rattle.common.specs.Lent.{Lent}
 use Rattle.keys.specs.declared.NetworkKeys.{NetworkKeys}
 use Rattle.network.specs.declared.header.Header.{Header}
@@ -20,7 +21,7 @@ use Rattle.transport.specs.Segment.{access_octet, control_octet}
 use Rattle.transport.proofs.SecureOpen.{secured_length}
 use Rattle.node.specs.declared.addresses.Node.{Node}
 use Rattle.node.specs.declared.setup.Setup.{Setup}
-use Rattle.receiver.specs.declared.fresh.Answer.TheVariants.{Ready}
+use Rattle.receiver.specs.declared.answer.Refusal.{Refusal}
 use Rattle.receiver.specs.declared.state.Receiver.{Receiver}
 use Rattle.receiver.specs.Fresh.{setting_up}
 use Rattle.receiver.proofs.Good.{good_fresh}
@@ -99,14 +100,14 @@ module _ (sender : Receiver) (setup : Setup) (q : Request) (words : Words) (buf 
 
     read_segments : ReadAs (left_said said)
     read_segments =
-        let these : made_as (left_said said) ≡ ps = ap (λ (x : said_answer.Answer). first ∷ pieces_as (Said x) said.answer.receiver l) g.says in
+        let these : made_as (left_said said) ≡ ps = ap (λ (x : Result said_answer.Answer Refusal). first ∷ pieces_as (Said x) said.answer.receiver l) g.says in
         let last = last_begun sender b.good node b.shared q words a buf g in
         subst (λ (x : List Piece). Read x (seg_n_as (left_said said).answer)) (sym these) (subst (Read ps) (sym last) read_these)
 
   -- ---- whole
   module _ (a : accepted sender q words ≡ true) (g : SaidBy sender q.element (header_as sender q words) said) (ctl : Bool) (octet : ℕ) (body : List ℕ)
       (short : length (octet ∷ body) ≤ 16) (shape : stamped sender q.element (header_as sender q words) ≡ whole_header s ctl ttl (octet ∷ body))
-      (hands_up : (ready : (setting_up setup).answer ≡ Ready) (t : ℕ) (fwd msg : List ℕ)
+      (hands_up : (ready : (setting_up setup).answer ≡ Ok tt) (t : ℕ) (fwd msg : List ℕ)
       → (let h = whole_header s ctl t (octet ∷ body) in Reaches setup s h fwd msg → Heard setup ready s t fwd msg h)) where
     abbrev h : Header
     h = whole_header s ctl ttl (octet ∷ body)
@@ -144,8 +145,8 @@ module _ (sender : Receiver) (setup : Setup) (q : Request) (words : Words) (buf 
 
     read_one : ReadAs (left_said said)
     read_one =
-        let these : made_as (left_said said) ≡ first ∷ [] = ap (λ (x : said_answer.Answer). first ∷ pieces_as (Said x) said.answer.receiver l) g.says in
-        let none : seg_n_as (left_said said).answer ≡ 0 = ap (λ (x : said_answer.Answer). seg_n_as (Said x)) g.says in
+        let these : made_as (left_said said) ≡ first ∷ [] = ap (λ (x : Result said_answer.Answer Refusal). first ∷ pieces_as (Said x) said.answer.receiver l) g.says in
+        let none : seg_n_as (left_said said).answer ≡ 0 = ap (λ (x : Result said_answer.Answer Refusal). seg_n_as (Said x)) g.says in
         subst (λ (x : List Piece). Read x (seg_n_as (left_said said).answer)) (sym these) (subst (Read (first ∷ [])) (sym none) read_these_whole)
 
 -- ---- by the words

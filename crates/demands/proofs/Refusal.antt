@@ -3,15 +3,17 @@
 -- cache. Assumes nothing.
 use mathlib.Core.Bool.{true, ◌&&◌, ◌||◌, false≢true}
 use mathlib.Core.Logic.{⊎_elim}
-use mathlib.Core.Path.{◌≡◌}
+use mathlib.Core.Path.{◌≡◌, ap}
 use Prim.Native.Nat.{ℕ}
 use native.Mathlib.Omega.{arith}
 use borrow.Author.Tests.{eqb-true, leb-true, le-leb}
 use lib.Dec.{eqb, leb}
+use Rattle.std.specs.Prelude.{Result, Ok}
 use Rattle.common.specs.Paper.{number_of}
 use Rattle.common.proofs.Tests.{by_test, and_first, and_second}
-use Rattle.network.specs.declared.opening.Answer as opening_answer
-use Rattle.network.specs.declared.opening.Answer.TheVariants as network
+use Rattle.network.specs.declared.header.Header.{Header}
+use Rattle.network.specs.declared.opening.Opening.{Opening}
+use Rattle.network.specs.declared.opening.Refusal as network_refusal
 use Rattle.network.specs.Opening.{opening}
 use Rattle.receiver.specs.Answer.{refusal_number, paper}
 use Rattle.receiver.specs.Hearing.{hearing}
@@ -44,13 +46,13 @@ late_leaves r pdu fwd msg l =
     let least = leb-true 6 n (and_first (leb 6 n) (leb n 13) l) in
     let k = refused_kind r pdu fwd msg (le-leb 1 n (omega arith)) in
     ⊎_elim (λ y. absurd (early_late (refusal_number k.0) y.is_early (rw k.1 at l)))
-    (λ x. record { receiver_left = rw k.1 x.left_is; forwarded_as = x.forwarded_as }) k.2
+    (λ x. (x.0, ap (λ (o : Opening). o.opened) x.1.opened.opens, record { receiver_left = rw k.1 x.2.left_is; forwarded_as = x.2.forwarded_as })) k.2
 
 -- ---- a PDU that no key opens
-pub unopened : (a : opening_answer.Answer) → no_key_opens a ≡ true → a ≡ network.Opened → ⊥
-unopened a t e = false≢true (rw e at t)
+pub unopened : (a : Result Header network_refusal.Refusal) → no_key_opens a ≡ true → (h : Header) → a ≡ Ok h → ⊥
+unopened a t h e = false≢true (rw e at t)
 
 pub unopened_leaves : UnopenedLeaves
 unopened_leaves r pdu fwd msg t =
-    let y = heard_unopened r fwd msg pdu (unopened (opening r.node.materials r.node.networks r.node.iv pdu).answer t) in
+    let y = heard_unopened r fwd msg pdu (unopened (opening r.node.materials r.node.networks r.node.iv pdu).opened t) in
     untouched r pdu fwd msg y.0 _ y.1

@@ -7,7 +7,6 @@ use mathlib.Core.Path.{◌≡◌, refl, ap}
 use Prim.Native.Nat.{ℕ, ◌≤◌}
 use Rattle.keys.specs.declared.NetworkKeys.{NetworkKeys}
 use Rattle.network.specs.declared.header.Header.{Header}
-use Rattle.network.specs.declared.trial.Trial.{Trial}
 use Rattle.network.specs.Candidates.{key_at}
 use Rattle.network.specs.Pdu.{pdu_of}
 use Rattle.network.specs.Sealing.{sealable}
@@ -30,4 +29,4 @@ module _ (node : Node) (s : Speech) (h : Header) (pdu : List ℕ) where
       h.key ≡ s.network → h.iv ≡ s.auth.iv → pdu ≡ pdu_of key h → sealable key h ≡ true → Formed h → (t : ℕ) → relayed_with node s pdu t ≡ pdu_of key (with_ttl h t)
   relayed_sealed same under made can formed t =
       let back = tried_sealed key s.network h can formed in
-      rw (made, ← under, ap (λ (x : Trial). x.header) back, ← same) refl
+      rw (made, ← under, back, ← same) refl

@@ -7,6 +7,7 @@ use mathlib.Core.Path.{◌≡◌, refl, sym, ap, ◌∙◌}
 use Prim.Native.Nat.{ℕ}
 use lib.Dec.{leb}
 use lib.ListN.{length, get_or}
+use Rattle.std.specs.Prelude.{Option, None, Some}
 use Rattle.common.specs.Lent.{Lent}
 use Rattle.common.proofs.Tests.{by_test}
 use Rattle.network.specs.declared.header.Header.{Header}
@@ -20,14 +21,13 @@ use Rattle.memory.proofs.ReplayMap.{look_up_nowhere}
 use Rattle.memory.proofs.SessionSlots.{place_nowhere}
 use Rattle.node.specs.declared.setup.Setup.{Setup}
 use Rattle.node.specs.Addresses.{is_local}
-use Rattle.node.specs.Setup.{making}
 use Rattle.node.proofs.Addressed.{group_spared, reserved_never}
 use Rattle.node.proofs.SetupLaws.{local_is_unicast, groups_given}
 use Rattle.receiver.specs.declared.state.Receiver.{Receiver}
 use Rattle.receiver.specs.Fresh.{setting_up}
 use Rattle.receiver.specs.Good.{Good}
 use Rattle.receiver.proofs.Opened.{opens_clear}
-use Rattle.receiver.proofs.Laws.Fresh.{ready_made, fresh_is}
+use Rattle.receiver.proofs.Laws.Fresh.{made, ready_made, fresh_is}
 use Rattle.receiver.proofs.Laws.Heard.{heard_elsewhere}
 use Rattle.receiver.proofs.Laws.Outgoing.{outgoing_heard}
 use Rattle.receiver.proofs.Laws.Sources.{Lists, lists_fresh, lists_freed, lists_heard}
@@ -35,7 +35,7 @@ use Rattle.sending.specs.declared.acknowledge.Chosen.{Chosen}
 use Rattle.sending.specs.declared.answer.Spoken.{Spoken}
 use Rattle.sending.specs.Acknowledge.{chosen}
 use Rattle.sending.proofs.Laws.Allowed.{access_allows, control_allows, asked_spared}
-use Rattle.sending.proofs.Laws.Calls.{walk_access, walk_control, walk_acknowledge, chosen_last}
+use Rattle.sending.proofs.Laws.Calls.{walk_access, walk_control, walk_acknowledge, chosen_none}
 use Rattle.demands.specs.Call.{Call, Hear, GiveUp, SendAccess, SendControl, SendSegment, Acknowledge, Stop, made_by, step, after}
 use Rattle.demands.specs.NeverTwice.{addressee}
 use Rattle.demands.specs.Reserved.{ForNobody, GoesOn, NoneListened, NoneAsked, NoneSentTo}
@@ -69,7 +69,7 @@ goes_on_law r pdu fwd msg trials h good octets p reserved =
 
 -- ---- listened to
 pub none_listened : NoneListened
-none_listened s e i h = group_spared (get_or s.groups i 0) (groups_given s (ready_made s e) i h)
+none_listened s e i h = group_spared (get_or s.groups i 0) (groups_given s (made s) (ready_made s e) i h)
 
 -- ---- asked for
 pub none_asked : NoneAsked
@@ -99,14 +99,14 @@ unicast_spared : (a : ℕ) → is_unicast a ≡ true → Spared a
 unicast_spared a u = by_test (is_reserved a) (λ t. absurd (true≢false (sym u ∙ reserved_not_unicast a t))) (λ t. t)
 
 spares_fresh : (s : Setup) → Spares (setting_up s).receiver
-spares_fresh s = rw (fresh_is s) (lists_fresh Spared zero_spared (making s).node (making s).next, zero_spared)
+spares_fresh s = rw (fresh_is s) (lists_fresh Spared zero_spared (made s).node (made s).next, zero_spared)
 
 spares_step : (r : Receiver) (c : Call) → Good r → Spares r → Spares (step r c).receiver
 spares_step r c g s =
     walk_step r Spares
     (record {
       hears = λ pdu fwd msg. (
-        lists_heard Spared zero_spared r s.0 pdu fwd msg (λ p. unicast_spared _ (opens_clear p.opened).unicast),
+        lists_heard Spared zero_spared r s.0 pdu fwd msg (λ h p. unicast_spared _ (opens_clear p.opened).unicast),
         outgoing_heard (λ (o : Outgoing). Spared o.terms.dst) r zero_spared s.1 (λ _. s.1) fwd msg pdu,
       );
       frees = λ slot _. (lists_freed Spared zero_spared r s.0 slot, s.1);
@@ -124,9 +124,9 @@ unanswered r good s net src buf t =
     let other : (a : ℕ) → Spared a → a ≡ src → ⊥ = λ a u e. true≢false (sym t ∙ ap is_reserved (sym e) ∙ u) in
     let none_open = place_nowhere r.sessions good.sessions_kept.places (record { src = src }) (λ i e. other _ (s.held i) (ap (λ (k : SessionKey). k.src) e)) in
     let none_listed = look_up_nowhere r.replay src (λ i. other _ (s.entries i)) in
-    let none = ap (λ (c : Chosen). c.dst) (chosen_last r.replay r.sessions src (reserved_some src t) no_entry none_open none_listed) in
+    let none = chosen_none r.replay r.sessions src (reserved_some src t) no_entry none_open none_listed refl in
     walk_acknowledge r buf (λ (s : Lent Spoken). made_by s.answer.answer ≡ true → ⊥) (λ _ _ m. false≢true m) net src
-    (λ unicast _ _. unicast_some (chosen r.replay r.sessions src).dst unicast none)
+    (λ c chose _ _ _. let both : ◌≡◌ {A = Option Chosen} None (Some c) = sym none ∙ chose in cc)
 
 spared : (r : Receiver) → Good r → Spares r → (c : Call) → (step r c).made ≡ true → Spared (addressee r c)
 spared r g s (Hear pdu fwd msg) m = absurd (false≢true m)

@@ -12,6 +12,7 @@ use native.Mathlib.Omega.{arith}
 use borrow.Author.Tests.{ne_eqb}
 use lib.ListN.{length}
 use lib.Pow.{pow_pos}
+use Rattle.std.specs.Prelude.{Ok}
 use Rattle.common.specs.Bits.{has_bit}
 use Rattle.common.proofs.BitLaws.{all_bound}
 use Rattle.network.specs.declared.header.Header.{Header}
@@ -28,7 +29,6 @@ use Rattle.node.specs.declared.setup.Setup.{Setup}
 use Rattle.node.specs.Addresses.{is_local}
 use Rattle.node.specs.Index.{SameFixed, SameIndex}
 use Rattle.node.proofs.IndexLaws.{same_node}
-use Rattle.receiver.specs.declared.fresh.Answer.TheVariants.{Ready}
 use Rattle.receiver.specs.declared.state.Receiver.{Receiver}
 use Rattle.receiver.specs.Fresh.{setting_up}
 use Rattle.receiver.specs.Good.{Gathering, Good}
@@ -65,7 +65,7 @@ pub same_scene : {node : Node} {speeches : List Speech} {spent : Spent} {r : Rec
 same_scene {node} s = same_node _ node s.setup_same s.index_same
 
 -- ---- a fresh receiver
-module _ (setup : Setup) (ready : (setting_up setup).answer ≡ Ready) (speeches : List Speech) (spent : Spent)
+module _ (setup : Setup) (ready : (setting_up setup).answer ≡ Ok tt) (speeches : List Speech) (spent : Spent)
     (speak : (k : ℕ) → k < length speeches → Speakable (node_of setup) (speech_at speeches k))
     (others : (k : ℕ) → k < length speeches → is_local (node_of setup) (speaker_of speeches k) ≡ false) where
   speaks : (k : ℕ) → k < length speeches → speaker_of speeches k ≡ 0 → ⊥

@@ -7,6 +7,7 @@ use mathlib.Core.Path.{◌≡◌, refl, sym, ◌∙◌, subst}
 use Prim.Native.Nat.{ℕ, zero, suc, ◌≤◌, ◌<◌}
 use native.Mathlib.Omega.{arith}
 use lib.ListN.{length}
+use Rattle.std.specs.Prelude.{Ok}
 use Rattle.common.specs.Bits.{with_bit}
 use Rattle.network.specs.Candidates.{key_at}
 use Rattle.network.specs.Pdu.{pdu_octets}
@@ -16,7 +17,6 @@ use Rattle.node.specs.declared.addresses.Node.{Node}
 use Rattle.node.specs.declared.setup.Setup.{Setup}
 use Rattle.node.specs.Addresses.{is_local}
 use Rattle.node.specs.Made.{WellMade}
-use Rattle.receiver.specs.declared.fresh.Answer.TheVariants.{Ready}
 use Rattle.receiver.specs.declared.state.Receiver.{Receiver}
 use Rattle.receiver.specs.Fresh.{setting_up}
 use Rattle.receiver.proofs.Good.{good_fresh}
@@ -34,7 +34,7 @@ use Rattle.demands.proofs.RelayLaws.{relayed_sealed}
 use Rattle.demands.proofs.SceneLaws.{Scenery, begins}
 use Rattle.demands.proofs.SpeechSegment.{formed}
 
-module _ (setup : Setup) (ready : (setting_up setup).answer ≡ Ready) (s : Speech) (speaks : Speakable (node_of setup) s) (other : is_local (node_of setup) s.src ≡ false)
+module _ (setup : Setup) (ready : (setting_up setup).answer ≡ Ok tt) (s : Speech) (speaks : Speakable (node_of setup) s) (other : is_local (node_of setup) s.src ≡ false)
     (cut : goes_whole s.words ≡ false) (ttl : ℕ) (ttl_fits : ttl ≤ 127) (ps : List Piece) (laws : Laws (node_of setup) s ttl s.auth.seq ps) where
   abbrev node : Node
   node = node_of setup

@@ -8,6 +8,7 @@ use Prim.Native.Nat.{ℕ, suc, ◌+◌, ◌≤◌}
 use native.Mathlib.Omega.{arith}
 use lib.Dec.{eqb}
 use lib.ListN.{length, get_or, replicate}
+use Rattle.std.specs.Prelude.{Ok}
 use Rattle.common.specs.Bits.{has_bit, with_bit, all_bits}
 use Rattle.common.specs.Search.{first}
 use Rattle.common.proofs.Tests.{by_test}
@@ -23,7 +24,6 @@ use Rattle.node.specs.declared.setup.Setup.{Setup}
 use Rattle.node.specs.Addresses.{element_places, is_local, answers_to, for_node}
 use Rattle.node.specs.Setup.{bound_within, keys_valid, next_within, elements_valid, groups_valid, index_valid, valid, network_key_at, material_at, bound_key_at, next_at, node_of, next_of, making}
 use Rattle.node.proofs.IndexLaws.{same_node}
-use Rattle.receiver.specs.declared.fresh.Answer.TheVariants.{Ready}
 use Rattle.receiver.specs.declared.state.Receiver.{Receiver}
 use Rattle.receiver.specs.Fresh.{setting_up}
 use Rattle.receiver.specs.Good.{Good}
@@ -64,7 +64,7 @@ use Rattle.demands.proofs.OpenerLaws.{plain_first}
 abbrev Placed : ℕ → Incoming → Type 0
 Placed n (Made i) = i ≤ n
 Placed n (Relayed i ttl) = (i ≤ n) × (ttl ≤ 127)
-Placed n (Unopened pdu) = no_key_opens (opening node.materials node.networks node.iv pdu).answer ≡ true
+Placed n (Unopened pdu) = no_key_opens (opening node.materials node.networks node.iv pdu).opened ≡ true
 
 -- whether place i is among them
 abbrev is_place : ℕ → Incoming → Bool
@@ -135,11 +135,11 @@ module _ (sender : Receiver) (words : Words) (between : Between sender shed to_s
     told l e all = (record { between = between; sent = all_made.0; hears = hears l e }, λ i h. brings_is i l e ∙ all i (omega arith))
 
 -- ---- a box that was set up
-bench_ready : (setting_up bench).answer ≡ Ready
+bench_ready : (setting_up bench).answer ≡ Ok tt
 unfolding setting_up making valid keys_valid bound_within elements_valid next_within groups_valid index_valid first kind_of
 bench_ready = refl
 
-updating_ready : (setting_up updating).answer ≡ Ready
+updating_ready : (setting_up updating).answer ≡ Ok tt
 unfolding setting_up making valid keys_valid bound_within elements_valid next_within groups_valid index_valid first kind_of
 updating_ready = refl
 

@@ -9,6 +9,7 @@ use mathlib.Core.Path.{◌≡◌, refl}
 use Prim.Native.Nat.{ℕ}
 use lib.ListN.{length, take}
 use lib.Seq.{take-append_seam}
+use Rattle.std.specs.Prelude.{Ok}
 use Rattle.common.specs.Lent.{Lent}
 use Rattle.common.specs.Lists.{onto}
 use Rattle.network.specs.declared.header.Header.{Header}
@@ -43,14 +44,14 @@ transmits r element h buf c = record { can = c.can; pdu = take-append_seam (pdu_
 -- a PDU was sent, and its SEQ is used
 pub record SaidBy (r : Receiver) (element : ℕ) (h : Header) (s : Lent Spoken) : Type 0 where
   pub len : ℕ
-  pub says : s.answer.answer ≡ answer.Sent len
+  pub says : s.answer.answer ≡ Ok (answer.Sent len)
   pub leaves : s.answer.receiver ≡ used r element
   pub transmitted_is : Transmits r element h len s.buffer
 
 -- segment 0 was sent, and the message is kept
 pub record StartedBy (r : Receiver) (element : ℕ) (o : Outgoing) (s : Lent Spoken) : Type 0 where
   pub len : ℕ
-  pub says : s.answer.answer ≡ answer.Started len o.terms.segn
+  pub says : s.answer.answer ≡ Ok (answer.Started len o.terms.segn)
   pub leaves : s.answer.receiver ≡ with_outgoing (used r element) o
   pub transmitted_is : Transmits r element (segment_header o 0) len s.buffer
 

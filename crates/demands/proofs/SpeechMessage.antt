@@ -15,9 +15,8 @@ use Rattle.keys.proofs.Widths.{aid_low}
 use Rattle.network.specs.Address.{is_unicast}
 use Rattle.transport.specs.declared.securing.MessageKey.{MessageKey}
 use Rattle.transport.specs.declared.securing.MessageKey.TheVariants.{Application, Device}
-use Rattle.transport.specs.declared.securing.Opened.TheVariants.{Message}
 use Rattle.transport.specs.SecureOpen as message
-use Rattle.transport.specs.Securing.{application_key_at, key_by, additional_by, secured, unsecuring}
+use Rattle.transport.specs.Securing.{application_key_at, key_by, additional_by, secured, opened, unsecuring}
 use Rattle.transport.proofs.SecureOpen.{secured_length, unsecure_secure, unsecure_secure_device}
 use Rattle.transport.specs.Segment.{message_octets}
 use Rattle.node.specs.declared.addresses.Node.{Node}
@@ -34,7 +33,7 @@ module _ (node : Node) (s : Speech) where
     pub unicast : akf_of key ≡ false → is_unicast s.dst ≡ true
     pub opens_to_law :
         unsecuring (held_by node) (envelope_of node s key szmic) (octets_of node s) msg
-        ≡ lent (Message (opener_of node s key) (application_place node s (Access key szmic payload)) (length payload)) (onto payload msg)
+        ≡ lent (opened (opener_of node s key) (application_place node s (Access key szmic payload)) (length payload)) (onto payload msg)
 
   module _ (made : WellMade node) (szmic : Bool) (payload msg : List ℕ) (room : message_octets ≤ length msg) where
     fits_here : (key : MessageKey) → s.words ≡ Access key szmic payload → Fits payload (octets_of node s) message_octets → message.Fits payload msg

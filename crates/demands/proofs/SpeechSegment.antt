@@ -11,7 +11,7 @@ use mathlib.Core.List.{List, ◌++◌, append_assoc}
 use mathlib.Core.Path.{◌≡◌, refl, sym, ap, ◌∙◌, subst}
 use Prim.Native.Nat.{ℕ, ◌+◌, ◌%◌, ◌≤◌, ◌<◌}
 use native.Mathlib.Omega.{arith}
-use borrow.Author.Tests.{eq-eqb, eqb-true, eqb-false}
+use borrow.Author.Tests.{eq-eqb, eqb-false, le-leb}
 use lib.Dec.{eqb}
 use lib.ListN.{length, get_or, drop, replicate, length-append}
 use lib.Seq.{drop_at}
@@ -32,12 +32,11 @@ use Rattle.network.proofs.TrialLaws.{onto_zeros, take_padded}
 use Rattle.transport.specs.declared.form.SegmentFields.{SegmentFields}
 use Rattle.transport.specs.declared.securing.MessageKey.{MessageKey}
 use Rattle.transport.specs.declared.securing.MessageKey.TheVariants.{Application, Device}
-use Rattle.transport.specs.Form.{segment_fits, form_of}
+use Rattle.transport.specs.Form.{key_fits, segment_fits, form_of}
 use Rattle.transport.specs.LeadsBack.{SegmentOf}
 use Rattle.transport.specs.Ranges.{InRange, KeyInRange, OpcodeInRange}
 use Rattle.transport.specs.ReadsBack.{Carries, front_of}
 use Rattle.transport.specs.Segment.{message_octets, full_octets, segment_front}
-use Rattle.transport.proofs.FormLaws.{fits_last, fits_full, key_application, key_device}
 use Rattle.transport.proofs.LeadsBack.{leads_back}
 use Rattle.transport.proofs.ReadsBack.{access_segment_reads_back, control_segment_reads_back}
 use Rattle.transport.proofs.SegmentLaws.{length_front, front_first}
@@ -160,26 +159,26 @@ module _ (node : Node) (s : Speech) (w : Speakable node s) (i : ℕ) (there : i 
         }
 
     fits : (full : ℕ) → full ≡ 4 + size_of s → segment_fits i (last_of node s) h.len full ≡ true
-    unfolding header_of
+    unfolding header_of segment_fits
     fits full e =
         let l = segment_long in
         let p = (part_bounds node s w i there).0 in
         let long = length (segment_of node s i) in
         by_test (eqb i (last_of node s))
-        (λ t. sym (fits_last i (last_of node s) long full (omega arith) there (eqb-true i (last_of node s) t)))
+        (λ t. rw (le-leb 5 long (omega arith), le-leb i (last_of node s) there, t) refl)
         (λ t.
         let n = eqb-false i (last_of node s) t in
         let f = part_full node s w i there (omega arith) in
-        sym (fits_full i (last_of node s) long full (omega arith) there n) ∙ eq-eqb long full (omega arith))
+        rw (le-leb 5 long (omega arith), le-leb i (last_of node s) there, t) (eq-eqb long full (omega arith)))
 
     in_range : (full : ℕ) → full ≡ 4 + size_of s → InRange fields h.len full
     in_range full e = record { seq_zero_fits = omega arith; seg_n_fits = last_low node s w; fits = fits full e }
 
     -- ---- it is read back
     key_range : (key : MessageKey) → aid_of node key < 64 → (akf_of key ≡ false → is_unicast s.dst ≡ true) → KeyInRange (akf_of key) (aid_of node key) h.dst
-    unfolding header_of
-    key_range (Application j) low u = record { aid_fits = low; fits = sym (key_application (aid_of node (Application j)) s.dst true refl) }
-    key_range Device low u = record { aid_fits = low; fits = sym (key_device 0 s.dst false refl refl true (sym (u refl))) }
+    unfolding header_of key_fits
+    key_range (Application j) low u = record { aid_fits = low; fits = refl }
+    key_range Device low u = record { aid_fits = low; fits = u refl }
 
     -- as what a header of the speech is taken: a segment of the message
     abbrev as_segment : Receiver → List ℕ → Lent Taken

@@ -8,14 +8,13 @@ use mathlib.Core.List.{List}
 use mathlib.Core.Path.{◌≡◌, refl, sym, ap, ◌∙◌}
 use Prim.Native.Nat.{ℕ, ◌≤◌, ◌<◌}
 use lib.ListN.{length, take}
-use Rattle.std.specs.Prelude.{if◌then◌else◌}
+use Rattle.std.specs.Prelude.{Ok, if◌then◌else◌}
 use Rattle.common.specs.Lent.{Lent, lent}
 use Rattle.common.specs.Lists.{onto}
 use Rattle.transport.specs.declared.securing.MessageKey.{MessageKey}
-use Rattle.transport.specs.declared.securing.Opened.TheVariants.{Message}
 use Rattle.transport.specs.Fields.{opcode}
 use Rattle.transport.specs.Ranges.{OpcodeInRange}
-use Rattle.transport.specs.Securing.{unsecuring}
+use Rattle.transport.specs.Securing.{opened, unsecuring}
 use Rattle.transport.proofs.ReadsBack.{akf_access, aid_access, opcode_control}
 use Rattle.transport.specs.Segment.{message_octets}
 use Rattle.memory.specs.declared.session.Session.{Session}
@@ -49,7 +48,7 @@ module _ (node : Node) (made : WellMade node) (s : Speech) (w : Speakable node s
   abbrev pub Up : List ℕ → Type 0
   Up msg =
       up msg
-      ≡ lent (record { answer = (hand_up node s).answer; trials = application_place node s s.words; receiver = segments.upgraded r session }) (onto (hand_up node s).octets msg)
+      ≡ lent (record { answer = Ok (hand_up node s).answer; trials = application_place node s s.words; receiver = segments.upgraded r session }) (onto (hand_up node s).octets msg)
 
   module _ (msg : List ℕ) (room : message_octets ≤ length msg) (all : take len bytes ≡ octets_of node s) where
     envelope_is :
@@ -61,7 +60,7 @@ module _ (node : Node) (made : WellMade node) (s : Speech) (w : Speakable node s
     -- what is handed up of these words
     abbrev handing : Words → Lent Taken
     handing ws =
-        lent (record { answer = (hand_up_as node s ws).answer; trials = application_place node s ws; receiver = segments.upgraded r session }) (onto (hand_up_as node s ws).octets msg)
+        lent (record { answer = Ok (hand_up_as node s ws).answer; trials = application_place node s ws; receiver = segments.upgraded r session }) (onto (hand_up_as node s ws).octets msg)
 
     -- access or control, by the words
     abbrev either : Bool → Lent Taken
@@ -72,7 +71,7 @@ module _ (node : Node) (made : WellMade node) (s : Speech) (w : Speakable node s
     opened_up key szmic payload e o =
         let u :
         unsecuring (held_by r.node) (segments.session_envelope session) (take len bytes) msg
-        ≡ lent (Message (opener_of node s key) (application_place node s (Access key szmic payload)) (length payload)) (onto payload msg) =
+        ≡ lent (opened (opener_of node s key) (application_place node s (Access key szmic payload)) (length payload)) (onto payload msg) =
         rw (ap held_by same, envelope_is key szmic payload e o.aid_fits, all) o.opens_to_law in
         ap either (ap is_control e) ∙ access_up_law r session msg (opener_of node s key) (application_place node s (Access key szmic payload)) (length payload) (onto payload msg) u
         ∙ ap handing (sym e)
@@ -82,7 +81,7 @@ module _ (node : Node) (made : WellMade node) (s : Speech) (w : Speakable node s
         let coded : opcode (first_of node s.words) ≡ code = ap (λ (ws : Words). opcode (first_of node ws)) e ∙ opcode_control true code q.opcode_fits in
         let octets = all ∙ cut_is node s (Control code parameters) e in
         let told : ℕ → List ℕ → Lent Taken =
-        λ c m. lent (record { answer = answer.Control s.src s.dst s.network c s.auth (length m); trials = 0; receiver = segments.upgraded r session }) (onto m msg) in
+        λ c m. lent (record { answer = Ok (answer.Control s.src s.dst s.network c s.auth (length m)); trials = 0; receiver = segments.upgraded r session }) (onto m msg) in
         ap either (ap is_control e) ∙ control_up_law r session msg ∙ ap (λ (c : ℕ). told c (take len bytes)) coded ∙ ap (told code) octets ∙ ap handing (sym e)
 
     up_as : (ws : Words) → s.words ≡ ws → WordsRead node s ws → Up msg

@@ -10,12 +10,12 @@ use lib.ListN.{set}
 use Rattle.common.specs.Bits.{has_bit, all_bits}
 use Rattle.common.proofs.BitLaws.{has_none, has_all}
 use Rattle.memory.specs.declared.replay.Entry.{Entry}
+use Rattle.memory.specs.declared.replay.Last.{Last}
 use Rattle.memory.specs.declared.session.Segment.{Segment}
 use Rattle.memory.specs.declared.session.Session.{Session}
 use Rattle.memory.specs.declared.session.SessionKey.{SessionKey}
 use Rattle.memory.specs.Replay.{no_entry, look_up, stale, is_last}
 use Rattle.memory.specs.Session.{session_slots, session_at, session_key, session_place}
-use Rattle.memory.proofs.ReplayLaws.{stale_none, last_none}
 use Rattle.memory.proofs.SessionSlots.{place_set_other, session_set_other}
 use Rattle.node.specs.declared.addresses.Node.{Node}
 use Rattle.demands.specs.Speech.{Speech, last_of}
@@ -27,9 +27,13 @@ use Rattle.demands.proofs.SpeechSession.{session_of}
 pub none_all : (n : ℕ) → 0 ≡ all_bits n → ⊥
 none_all n e = false≢true (sym (has_none 0) ∙ ap (λ (x : ℕ). has_bit x 0) e ∙ has_all n 0 (omega arith) (omega arith))
 
+-- its message, as it is kept once it was handed up
+abbrev pub whole_of : Node → Speech → Last
+whole_of node s = record { auth = s.auth; segn = last_of node s; dst = s.dst }
+
 -- the replay entry of a speech that was handed up
 abbrev pub entry_of : Node → Speech → Entry
-entry_of node s = record { src = s.src; pair = s.auth; last = record { auth = s.auth; segn = last_of node s; dst = s.dst } }
+entry_of node s = record { src = s.src; pair = s.auth; last = whole_of node s }
 
 -- its segment i
 abbrev pub segment_at : Node → Speech → ℕ → Segment
@@ -42,7 +46,7 @@ key_of s = record { src = s.src }
 -- it has not been handed up: its source's entry is not as new, nor is it the last message
 pub record Unheard (node : Node) (s : Speech) (replay : List Entry) : Type 0 where
   pub newer : stale (look_up replay s.src) s.auth ≡ false
-  pub other : is_last (look_up replay s.src).last s.auth (last_of node s) s.dst ≡ false
+  pub other : is_last (look_up replay s.src).last (whole_of node s) ≡ false
 
 -- how far it has come: these places are filled
 pub data Stage (node : Node) (s : Speech) (replay : List Entry) (sessions : List Session) (bits : ℕ) : Type 0 where
@@ -58,11 +62,8 @@ pub data Stage (node : Node) (s : Speech) (replay : List Entry) (sessions : List
 
 -- ---- its source has no entry
 pub unheard_none : (node : Node) (s : Speech) (replay : List Entry) → look_up replay s.src ≡ no_entry → Unheard node s replay
-unheard_none node s replay e =
-    record {
-      newer = rw e (sym (stale_none no_entry s.auth refl));
-      other = rw e (sym (last_none no_entry.last s.auth (last_of node s) s.dst refl));
-    }
+unfolding stale is_last
+unheard_none node s replay e = record { newer = rw e refl; other = rw e refl }
 
 -- ---- a slot of one key is set: another's stage stays
 module _ (node : Node) (s : Speech) (replay after : List Entry) (sessions : List Session) (bits : ℕ) (slot : ℕ) (x : Session)

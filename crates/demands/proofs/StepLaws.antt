@@ -12,6 +12,7 @@ use native.Mathlib.Omega.{arith}
 use borrow.Author.Tests.{ne_eqb, eqb-true, eqb-false}
 use lib.Dec.{eqb}
 use lib.ListN.{length, set, replicate}
+use Rattle.std.specs.Prelude.{Ok}
 use Rattle.common.specs.Bits.{has_bit, with_bit, all_bits}
 use Rattle.common.specs.Lent.{Lent, lent}
 use Rattle.common.specs.Lists.{onto}
@@ -44,7 +45,7 @@ use Rattle.demands.proofs.AnsweredLaws.{had_come, is_stored_law, is_up}
 use Rattle.demands.proofs.GatherLaws.{Holds, holds_begun, segment_stored, new_len, new_bytes, holds_more, holds_all}
 use Rattle.demands.proofs.SpeechCut.{last_low}
 use Rattle.demands.proofs.SpeechSession.{session_of, session_up}
-use Rattle.demands.proofs.StageLaws.{segment_at, key_of, Unheard, Stage, Silent, Gathers, Done, stage_other}
+use Rattle.demands.proofs.StageLaws.{whole_of, segment_at, key_of, Unheard, Stage, Silent, Gathers, Done, stage_other}
 
 -- what a call leaves that took t, its network key tried at its place, and forwards nothing
 abbrev pub left_taken : Node → Speech → Lent Taken → Outcome
@@ -84,7 +85,7 @@ module _ (node : Node) (made : WellMade node) (s : Speech) (w : Speakable node s
 
     -- ---- a repeat
     again : has_bit bits i ≡ true → Stage node s r.replay r.sessions bits
-        → Step node s r bits i msg (lent (record { answer = Repeated s.src s.auth bits; trials = 0; receiver = r }) msg)
+        → Step node s r bits i msg (lent (record { answer = Ok (Repeated s.src s.auth bits); trials = 0; receiver = r }) msg)
     again b st =
         record {
           answers = had_come node s bits i msg _ b (inl refl) refl refl;
@@ -128,7 +129,7 @@ module _ (node : Node) (made : WellMade node) (s : Speech) (w : Speakable node s
       -- not yet complete
       stored_step :
           eqb filled (all_bits (last_of node s)) ≡ false
-          → Step node s r bits i msg (lent (record { answer = Stored s.src s.auth filled; trials = 0; receiver = with_session r slot session }) msg)
+          → Step node s r bits i msg (lent (record { answer = Ok (Stored s.src s.auth filled); trials = 0; receiver = with_session r slot session }) msg)
       stored_step c =
           record {
             answers = is_stored_law node s bits i msg _ fresh c refl refl refl;
@@ -145,22 +146,22 @@ module _ (node : Node) (made : WellMade node) (s : Speech) (w : Speakable node s
       -- complete
       -- the message is handed up, which leaves q
       abbrev handing : Receiver → Lent Taken
-      handing q = lent (record { answer = (hand_up node s).answer; trials = application_place node s s.words; receiver = q }) (onto (hand_up node s).octets msg)
+      handing q = lent (record { answer = Ok (hand_up node s).answer; trials = application_place node s s.words; receiver = q }) (onto (hand_up node s).octets msg)
 
       up_step :
           eqb filled (all_bits (last_of node s)) ≡ true
-          → Step node s r bits i msg (handing (with_replay (with_session r slot no_session) (handed_up r.replay s.src s.auth (last_of node s) s.dst)))
+          → Step node s r bits i msg (handing (with_replay (with_session r slot no_session) (handed_up r.replay s.src (whole_of node s))))
       up_step c =
           record {
             answers = is_up node s bits i msg _ fresh c refl refl refl;
             own =
                 Done (eqb-true filled (all_bits (last_of node s)) c) (freed_none r.sessions slot (key_of s) long (ne_eqb s.src 0 spoken) only)
-                (look_up_handed_up_new r.replay g.replay_kept s.src s.auth (last_of node s) s.dst spoken room unheard.newer);
+                (look_up_handed_up_new r.replay g.replay_kept s.src (whole_of node s) spoken room unheard.newer);
             others = λ o b n z k.
                 stage_other node o r.replay _ r.sessions b slot no_session (λ e. z (ap (λ (a : SessionKey). a.src) e)) (other_stood o n z)
-                (look_up_handed_up_other r.replay g.replay_kept s.src s.auth (last_of node s) s.dst o.src n z) k;
+                (look_up_handed_up_other r.replay g.replay_kept s.src (whole_of node s) o.src n z) k;
             sessions_owned = slot_owned no_session (λ z. absurd (true≢false z));
-            entries_listed = λ n speaker k h q o. listed_handed_up n speaker r.replay o g.replay_kept s.src s.auth (last_of node s) s.dst k h q;
+            entries_listed = λ n speaker k h q o. listed_handed_up n speaker r.replay o g.replay_kept s.src (whole_of node s) k h q;
             cache_stays = refl;
           }
 
@@ -185,10 +186,10 @@ module _ (node : Node) (made : WellMade node) (s : Speech) (w : Speakable node s
       t = segments.placed r h (segment_at node s i) msg
 
       repeated :
-          (b : ℕ) → b ≡ bits → t ≡ lent (record { answer = Repeated s.src s.auth b; trials = 0; receiver = r }) msg → has_bit bits i ≡ true
+          (b : ℕ) → b ≡ bits → t ≡ lent (record { answer = Ok (Repeated s.src s.auth b); trials = 0; receiver = r }) msg → has_bit bits i ≡ true
           → Stage node s r.replay r.sessions bits → Step node s r bits i msg t
       repeated b same e has st =
-          subst (Step node s r bits i msg) (sym (e ∙ ap (λ (x : ℕ). lent (record { answer = Repeated s.src s.auth x; trials = 0; receiver = r }) msg) same)) (again has st)
+          subst (Step node s r bits i msg) (sym (e ∙ ap (λ (x : ℕ). lent (record { answer = Ok (Repeated s.src s.auth x); trials = 0; receiver = r }) msg) same)) (again has st)
 
       -- the session that stands in a slot is its source's alone
       own_only :

@@ -8,22 +8,21 @@ use mathlib.Core.Path.{◌≡◌, refl, sym, ap, ◌∙◌, subst}
 use Prim.Native.Nat.{ℕ}
 use lib.ListN.{length, drop}
 use lib.Seq.{take-append_seam}
+use Rattle.std.specs.Prelude.{Ok, Some}
 use Rattle.common.specs.Lent.{Lent, lent}
 use Rattle.common.specs.Lists.{onto}
 use Rattle.network.specs.declared.header.Header.{Header}
 use Rattle.network.specs.Header.{transport_of}
 use Rattle.transport.specs.declared.form.Form.TheVariants as form
 use Rattle.transport.specs.declared.securing.Opener.{Opener}
-use Rattle.transport.specs.declared.securing.Opened.TheVariants.{Message}
 use Rattle.transport.specs.Form.{form_of}
-use Rattle.transport.specs.Securing.{unsecuring}
+use Rattle.transport.specs.Securing.{opened, unsecuring}
 use Rattle.memory.specs.Cache.{seen_of, seen, remembered}
 use Rattle.memory.proofs.CacheLaws.{seen_new}
 use Rattle.node.specs.declared.setup.Setup.{Setup}
 use Rattle.node.specs.Addresses.{for_node, held_by}
 use Rattle.receiver.specs.declared.answer.Answer.TheVariants as answer
 use Rattle.receiver.specs.declared.answer.Taken.{Taken}
-use Rattle.receiver.specs.declared.fresh.Answer.TheVariants.{Ready}
 use Rattle.receiver.specs.declared.state.Receiver.{Receiver}
 use Rattle.receiver.specs.Fresh.{setting_up}
 use Rattle.receiver.specs.Hearing.{taken_as}
@@ -45,7 +44,7 @@ pub record HandsUp (setup : Setup) (h : Header) (pdu fwd msg : List ℕ) (m : Ha
   -- its header is in the cache
   pub caches : (k : Header) → seen_of k ≡ seen_of h → seen (step (start setup) (Hear pdu fwd msg)).receiver.cache k ≡ true
 
-module _ (setup : Setup) (ready : (setting_up setup).answer ≡ Ready) (h : Header) (pdu fwd msg : List ℕ) (place : ℕ)
+module _ (setup : Setup) (ready : (setting_up setup).answer ≡ Ok tt) (h : Header) (pdu fwd msg : List ℕ) (place : ℕ)
     (passes : Passes (start setup) pdu fwd msg place h) (here : for_node (node_of setup) h.dst ≡ true) where
   -- the receiver with the PDU in its cache
   abbrev q : Receiver
@@ -69,10 +68,10 @@ module _ (setup : Setup) (ready : (setting_up setup).answer ≡ Ready) (h : Head
 
   -- ---- an access message
   pub access_heard :
-      (akf : Bool) (aid trials : ℕ) (opener : Opener) (payload : List ℕ) → form_of h ≡ form.Access akf aid
+      (akf : Bool) (aid trials : ℕ) (opener : Opener) (payload : List ℕ) → form_of h ≡ Some (form.Access akf aid)
       → (let node = node_of setup in
       unsecuring (held_by node) (whole.whole_envelope h akf aid) (drop 1 (transport_of h)) msg
-      ≡ lent (Message opener trials (length payload)) (onto payload msg))
+      ≡ lent (opened opener trials (length payload)) (onto payload msg))
       → HandsUp setup h pdu fwd msg (record { answer = answer.Access h.src h.dst h.key opener (whole.pair_of h) (length payload); octets = payload })
       (record { network = place; application = trials })
   access_heard akf aid trials opener payload f u =
@@ -87,7 +86,7 @@ module _ (setup : Setup) (ready : (setting_up setup).answer ≡ Ready) (h : Head
 
   -- ---- a control message
   pub control_heard :
-      (code : ℕ) (parameters : List ℕ) → form_of h ≡ form.Control code → drop 1 (transport_of h) ≡ parameters
+      (code : ℕ) (parameters : List ℕ) → form_of h ≡ Some (form.Control code) → drop 1 (transport_of h) ≡ parameters
       → HandsUp setup h pdu fwd msg (record { answer = answer.Control h.src h.dst h.key code (whole.pair_of h) (length parameters); octets = parameters })
       (record { network = place; application = 0 })
   control_heard code parameters f m =

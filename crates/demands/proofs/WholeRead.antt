@@ -8,11 +8,11 @@ use Prim.Native.Nat.{ℕ, zero, suc, ◌+◌, ◌^◌, ◌≤◌, ◌<◌}
 use native.Mathlib.Omega.{arith}
 use borrow.Author.Tests.{eq-eqb}
 use lib.ListN.{length}
+use Rattle.std.specs.Prelude.{Ok}
 use Rattle.common.specs.Bits.{has_bit, with_bit, all_bits}
 use Rattle.common.proofs.BitLaws.{has_none, with_of_set, with_of_clear, has_with_own, all_of_bits}
 use Rattle.keys.specs.declared.NetworkKeys.{NetworkKeys}
 use Rattle.network.specs.declared.header.Header.{Header}
-use Rattle.network.specs.declared.opening.Answer.TheVariants as network
 use Rattle.network.specs.Candidates.{key_at}
 use Rattle.network.specs.Opening.{opening}
 use Rattle.network.specs.Pdu.{pdu_octets, pdu_of}
@@ -27,7 +27,6 @@ use Rattle.node.specs.declared.setup.Setup.{Setup}
 use Rattle.node.specs.Addresses.{is_local, for_node}
 use Rattle.node.proofs.IndexLaws.{same_node}
 use Rattle.receiver.specs.declared.answer.Refusal.TheVariants.{Cached}
-use Rattle.receiver.specs.declared.fresh.Answer.TheVariants.{Ready}
 use Rattle.receiver.specs.declared.state.Receiver.{Receiver}
 use Rattle.receiver.specs.Fresh.{setting_up}
 use Rattle.receiver.specs.Hearing as hear
@@ -56,10 +55,10 @@ only_missing =
     rw (has_none 0, eq-eqb (with_bit 0 0) (all_bits 0) all) refl
 
 -- a PDU that no key opens hands up nothing
-unopened_none : (r : Receiver) (pdu fwd msg : List ℕ) → no_key_opens (opening r.node.materials r.node.networks r.node.iv pdu).answer ≡ true
+unopened_none : (r : Receiver) (pdu fwd msg : List ℕ) → no_key_opens (opening r.node.materials r.node.networks r.node.iv pdu).opened ≡ true
     → handed (step r (Hear pdu fwd msg)) ≡ []
 unopened_none r pdu fwd msg t =
-    let y = heard_unopened r fwd msg pdu (unopened (opening r.node.materials r.node.networks r.node.iv pdu).answer t) in
+    let y = heard_unopened r fwd msg pdu (unopened (opening r.node.materials r.node.networks r.node.iv pdu).opened t) in
     ap (λ (o : hear.Outcome). handed (left_heard o)) y.1.leaves
 
 module _ (setup : Setup) (s : Speech) (ctl : Bool) (body : List ℕ) (ttl : ℕ) (ttl_fits : ttl ≤ 127) where
@@ -82,9 +81,9 @@ module _ (setup : Setup) (s : Speech) (ctl : Bool) (body : List ℕ) (ttl : ℕ)
     pub receives : (t : ℕ) → OwnKeyFirst node s (pdu_with t) → Receives node.materials node.networks node.iv (header t) (pdu_with t)
     pub other : is_local node s.src ≡ false
     pub here : for_node node s.dst ≡ true
-    pub hands_up : (ready : (setting_up setup).answer ≡ Ready) (t : ℕ) (fwd msg : List ℕ) → Reaches setup s (header t) fwd msg → Heard setup ready s t fwd msg (header t)
+    pub hands_up : (ready : (setting_up setup).answer ≡ Ok tt) (t : ℕ) (fwd msg : List ℕ) → Reaches setup s (header t) fwd msg → Heard setup ready s t fwd msg (header t)
 
-  module _ (ready : (setting_up setup).answer ≡ Ready) (m : Sendable) (p : Piece) (segment_is : p.segment ≡ 0) (pdu_is : p.pdu ≡ pdu_with ttl) where
+  module _ (ready : (setting_up setup).answer ≡ Ok tt) (m : Sendable) (p : Piece) (segment_is : p.segment ≡ 0) (pdu_is : p.pdu ≡ pdu_with ttl) where
     abbrev ps : List Piece
     ps = p ∷ []
 
@@ -97,7 +96,7 @@ module _ (setup : Setup) (s : Speech) (ctl : Bool) (body : List ℕ) (ttl : ℕ)
 
     -- ---- it comes for the first time
     module _ (t : ℕ) (fits : t ≤ 127) (first : OwnKeyFirst node s (pdu_with t)) (fwd msg : List ℕ) (wide : pdu_octets ≤ length fwd) (big : message_octets ≤ length msg) where
-      opens : opening node.materials node.networks node.iv (pdu_with t) ≡ record { answer = network.Opened; trials = network_place node s; header = header t }
+      opens : opening node.materials node.networks node.iv (pdu_with t) ≡ record { trials = network_place node s; opened = Ok (header t) }
       opens = open_seal node.materials node.networks node.iv (header t) (can_with t fits) (m.formed t) (m.receives t first)
 
       opens_in : (r : Receiver) → r.node ≡ node → Opens r (pdu_with t) fwd msg (network_place node s) (header t)
@@ -174,7 +173,7 @@ module _ (setup : Setup) (s : Speech) (ctl : Bool) (body : List ℕ) (ttl : ℕ)
     unopened_on : (r : Receiver) (bits : ℕ) (fwd msg : List ℕ) (l : List Hearing) (pdu : List ℕ) → r.node ≡ node → ComesAs node s ps (Unopened pdu)
         → ReadsEach node s ps 0 r bits l → ReadsOn r bits fwd msg l (Unopened pdu)
     unopened_on r bits fwd msg l pdu same v rest =
-        let none : no_key_opens (opening r.node.materials r.node.networks r.node.iv pdu).answer ≡ true = rw same v in
+        let none : no_key_opens (opening r.node.materials r.node.networks r.node.iv pdu).opened ≡ true = rw same v in
         (unopened_none r pdu fwd msg none, subst (λ (q : Receiver). ReadsEach node s ps 0 q bits l) (sym (unopened_leaves r pdu fwd msg none).receiver_stays) rest)
 
     -- of the PDU with some TTL it holds of what is heard

@@ -8,6 +8,7 @@ use mathlib.Core.Path.{◌≡◌, refl, sym, ap, ◌∙◌}
 use Prim.Native.Nat.{ℕ, ◌+◌, ◌≤◌, ◌<◌}
 use native.Mathlib.Omega.{arith}
 use lib.ListN.{length, drop, replicate}
+use Rattle.std.specs.Prelude.{Ok}
 use Rattle.common.specs.Lists.{padded}
 use Rattle.common.proofs.Tests.{by_test}
 use Rattle.network.specs.declared.header.Header.{Header}
@@ -17,19 +18,18 @@ use Rattle.network.specs.Header.{transport_of}
 use Rattle.network.specs.Pdu.{pdu_of}
 use Rattle.network.specs.SealOpen.{Formed}
 use Rattle.network.proofs.TrialLaws.{onto_zeros, take_padded}
+use Rattle.transport.specs.Form.{key_fits}
 use Rattle.transport.specs.declared.securing.MessageKey.{MessageKey}
 use Rattle.transport.specs.declared.securing.MessageKey.TheVariants.{Application, Device}
 use Rattle.transport.specs.Ranges.{KeyInRange, OpcodeInRange}
 use Rattle.transport.specs.ReadsBack.{Carries}
 use Rattle.transport.specs.Segment.{access_octet, control_octet}
-use Rattle.transport.proofs.FormLaws.{key_application, key_device}
 use Rattle.transport.proofs.ReadsBack.{access_reads_back, control_reads_back}
 use Rattle.transport.proofs.SecureOpen.{secured_length}
 use Rattle.node.specs.declared.addresses.Node.{Node}
 use Rattle.node.specs.declared.setup.Setup.{Setup}
 use Rattle.node.specs.Addresses.{for_node}
 use Rattle.node.specs.Made.{WellMade}
-use Rattle.receiver.specs.declared.fresh.Answer.TheVariants.{Ready}
 use Rattle.receiver.specs.Fresh.{setting_up}
 use Rattle.receiver.specs.Passing.{Passes}
 use Rattle.demands.specs.Interleaved.{start, node_of}
@@ -58,7 +58,7 @@ pub record Reaches (setup : Setup) (s : Speech) (h : Header) (fwd msg : List ℕ
   pub passes : Passes (start setup) (pdu_of (key_at (node_of setup).materials s.network) h) fwd msg (network_place (node_of setup) s) h
   pub here : for_node (node_of setup) s.dst ≡ true
 
-module _ (setup : Setup) (ready : (setting_up setup).answer ≡ Ready) (s : Speech) (ttl : ℕ) (fwd msg : List ℕ) where
+module _ (setup : Setup) (ready : (setting_up setup).answer ≡ Ok tt) (s : Speech) (ttl : ℕ) (fwd msg : List ℕ) where
   abbrev node : Node
   node = node_of setup
 
@@ -113,13 +113,14 @@ module _ (setup : Setup) (ready : (setting_up setup).answer ≡ Ready) (s : Spee
     fits_one = let l = octets_long in omega arith
 
     key_range : (aid : ℕ) → aid < 64 → (akf_of key ≡ false → (aid ≡ 0) × (is_unicast s.dst ≡ true)) → KeyInRange (akf_of key) aid s.dst
+    unfolding key_fits
     key_range aid low u =
         record {
           aid_fits = low;
           fits =
               by_test (akf_of key)
-              (λ t. sym (key_application aid s.dst (akf_of key) t))
-              (λ t. let z = u t in sym (key_device aid s.dst (akf_of key) t z.0 true (sym z.1)));
+              (λ t. rw t refl)
+              (λ t. let z = u t in rw (t, z.0, z.1) refl);
         }
 
     read_some : (k : MessageKey) → WordsRead node s (Access k false payload) → 1 ≤ length payload

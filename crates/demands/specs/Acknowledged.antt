@@ -4,7 +4,7 @@
 --   Hears                 it hears the PDU
 --   Marks                 what it answers, and what it keeps
 --   AcknowledgementRead   the promise
-use Rattle.std.specs.Prelude.{true, false, List, ◌∷◌, ◌++◌, ◌≡◌, ℕ, ◌≤◌, ◌<◌, eqb, length, if◌then◌else◌}
+use Rattle.std.specs.Prelude.{true, false, Ok, List, ◌∷◌, ◌++◌, ◌≡◌, ℕ, ◌≤◌, ◌<◌, eqb, length, if◌then◌else◌}
 use Rattle.std.specs.Int.Bits.{bit_or}
 use Rattle.common.specs.Bits.{all_bits}
 use Rattle.network.specs.declared.header.Header.{Header}
@@ -21,7 +21,6 @@ use Rattle.node.specs.declared.setup.Setup.{Setup}
 use Rattle.node.specs.Addresses.{is_local}
 use Rattle.receiver.specs.declared.answer.Answer.TheVariants.{Acknowledgement}
 use Rattle.receiver.specs.declared.state.Receiver.{Receiver}
-use Rattle.receiver.specs.declared.whole.Admission.TheVariants.{Admitted}
 use Rattle.receiver.specs.Whole.{admission}
 use Rattle.sending.specs.Transmission.{sending_iv}
 use Rattle.demands.specs.Call.{Hear, Acknowledge, Heard, Outcome, step}
@@ -42,15 +41,15 @@ pub record Speaker (speaker : Receiver) (node : Node) (s : Speech) : Type 0 wher
   pub auth_kept : speaker.out.auth ≡ s.auth
   pub segn_kept : speaker.out.terms.segn ≡ last_of node s
 
--- the header that a PDU opens to
-abbrev pub opens_to : Receiver → List ℕ → Header
-opens_to r pdu = (opening r.node.materials r.node.networks r.node.iv pdu).header
+-- a PDU opens to a header
+abbrev pub OpensTo : Receiver → List ℕ → Header → Type 0
+OpensTo r pdu h = (opening r.node.materials r.node.networks r.node.iv pdu).opened ≡ Ok h
 
 -- it hears a PDU that the node sealed by a network key: no key tried earlier opens it, it is not in the cache, and its replay entry is not newer or equal
 pub record Hears (speaker : Receiver) (node : Node) (net : ℕ) (pdu fwd msg : List ℕ) : Type 0 where
   pub own_key_first : (j : ℕ) → j < net → (key_at node.materials j).nid ≡ (key_at node.materials net).nid → opens node.materials (sending_iv node) pdu j ≡ false
-  pub new : seen speaker.cache (opens_to speaker pdu) ≡ false
-  pub admits : admission speaker.replay (opens_to speaker pdu) ≡ Admitted
+  pub new : (h : Header) → OpensTo speaker pdu h → seen speaker.cache h ≡ false
+  pub admits : (h : Header) → OpensTo speaker pdu h → admission speaker.replay h ≡ Ok tt
   -- the buffers are not refused 16
   pub room_forward : pdu_octets ≤ length fwd
   pub room_message : message_octets ≤ length msg
@@ -59,11 +58,11 @@ pub record Hears (speaker : Receiver) (node : Node) (net : ℕ) (pdu fwd msg : L
 pub record Marks (out : Outgoing) (src bits : ℕ) (msg : List ℕ) (o : Outcome) : Type 0 where
   -- all is heard with them: no message is kept any more
   pub completes :
-      bit_or out.heard bits ≡ all_bits out.terms.segn → (o.answer ≡ Heard (Acknowledgement src bits Completed)) × (o.receiver.out ≡ no_outgoing)
+      bit_or out.heard bits ≡ all_bits out.terms.segn → (o.answer ≡ Heard (Ok (Acknowledgement src bits Completed))) × (o.receiver.out ≡ no_outgoing)
   -- else it is kept, with these marked besides those that were
   pub marks :
       (bit_or out.heard bits ≡ all_bits out.terms.segn → ⊥)
-      → (o.answer ≡ Heard (Acknowledgement src bits (if eqb (bit_or out.heard bits) out.heard then Nothing else Marked)))
+      → (o.answer ≡ Heard (Ok (Acknowledgement src bits (if eqb (bit_or out.heard bits) out.heard then Nothing else Marked))))
       × (o.receiver.out ≡ with_heard out (bit_or out.heard bits))
   -- an acknowledgement writes none of the message buffer
   pub message_stays : o.message ≡ msg

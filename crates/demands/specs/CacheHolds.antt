@@ -7,14 +7,14 @@
 --   CacheHolds          the cache holds the last sixteen of them
 --   CachedExactly       exactly what is one of those is refused 5
 --   FreshUnderIndex     so nothing is that is the first of its source under an IV Index, whatever SEQs were heard under another
-use Rattle.std.specs.Prelude.{Bool, ◌&&◌, ◌||◌, List, [], ◌∷◌, ◌++◌, map, ◌≡◌, ℕ, eqb, leb, if◌then◌else◌}
+use Rattle.std.specs.Prelude.{Bool, ◌&&◌, ◌||◌, Result, Ok, Err, List, [], ◌∷◌, ◌++◌, map, ◌≡◌, ℕ, eqb, leb, if◌then◌else◌}
 use Rattle.network.specs.declared.header.Header.{Header}
+use Rattle.network.specs.declared.opening.Refusal.{Refusal}
 use Rattle.network.specs.Opening.{opening}
 use Rattle.memory.specs.declared.cache.Seen.{Seen}
 use Rattle.memory.specs.Cache.{seen_of}
 use Rattle.memory.specs.Remembered.{held, last_entries, Among}
 use Rattle.node.specs.declared.setup.Setup.{Setup}
-use Rattle.receiver.specs.declared.fresh.Answer.TheVariants.{Ready}
 use Rattle.receiver.specs.declared.state.Receiver.{Receiver}
 use Rattle.receiver.specs.Fresh.{setting_up}
 use Rattle.receiver.specs.Passing.{Opens}
@@ -27,10 +27,14 @@ abbrev pub stopped : ℕ → Bool
 stopped n = eqb n 16 || (eqb n 22 || (leb 1 n && leb n 5))
 
 -- of a PDU that was opened: its header
+abbrev pub header_in : Result Header Refusal → List Header
+header_in (Ok h) = h ∷ []
+header_in (Err e) = []
+
 abbrev pub entered_by : Receiver → Call → Outcome → List Header
 entered_by r (Hear pdu fwd msg) o =
     if stopped (number_of o.answer) then [] else
-    (opening r.node.materials r.node.networks r.node.iv pdu).header ∷ []
+    header_in (opening r.node.materials r.node.networks r.node.iv pdu).opened
 entered_by r (GiveUp src) o = []
 entered_by r (SendAccess q key szmic payload buf) o = []
 entered_by r (SendControl q opcode parameters buf) o = []
@@ -49,12 +53,12 @@ entered s l = map seen_of (entered_in (start s) l (run (start s) l))
 
 -- the cache's entries, the oldest first
 abbrev pub CacheHolds : Type 0
-CacheHolds = (s : Setup) (l : List Call) → (setting_up s).answer ≡ Ready → held (after (start s) l).cache ≡ last_entries (entered s l)
+CacheHolds = (s : Setup) (l : List Call) → (setting_up s).answer ≡ Ok tt → held (after (start s) l).cache ≡ last_entries (entered s l)
 
 -- a PDU that passes refusals 16 and 1 to 4
 abbrev pub CachedExactly : Type 0
 CachedExactly =
-    (s : Setup) (l : List Call) (pdu fwd msg : List ℕ) (trials : ℕ) (h : Header) → (setting_up s).answer ≡ Ready
+    (s : Setup) (l : List Call) (pdu fwd msg : List ℕ) (trials : ℕ) (h : Header) → (setting_up s).answer ≡ Ok tt
     → (let r = after (start s) l in
     let answer = (step r (Hear pdu fwd msg)).answer in
     Opens r pdu fwd msg trials h
@@ -63,6 +67,6 @@ CachedExactly =
 -- none was entered with its SRC under its IV Index
 abbrev pub FreshUnderIndex : Type 0
 FreshUnderIndex =
-    (s : Setup) (l : List Call) (pdu fwd msg : List ℕ) (trials : ℕ) (h : Header) → (setting_up s).answer ≡ Ready
+    (s : Setup) (l : List Call) (pdu fwd msg : List ℕ) (trials : ℕ) (h : Header) → (setting_up s).answer ≡ Ok tt
     → (let r = after (start s) l in
     Opens r pdu fwd msg trials h → Each (λ e. e.src ≡ h.src → e.iv ≡ h.iv → ⊥) (entered s l) → number_of (step r (Hear pdu fwd msg)).answer ≡ 5 → ⊥)

@@ -7,18 +7,18 @@
 --   run r l         what each call of a list leaves
 --   after r l       the receiver behind the last
 -- step_by, run_by and after_by are given the operations of a replay list: by another list's they are a receiver with that list.
-use Rattle.std.specs.Prelude.{Bool, true, false, List, [], ◌∷◌, ℕ}
+use Rattle.std.specs.Prelude.{Bool, true, false, Result, Ok, Err, List, [], ◌∷◌, ℕ}
 use Rattle.common.specs.Lent.{Lent}
 use Rattle.transport.specs.declared.securing.MessageKey.{MessageKey}
 use Rattle.memory.specs.Replay.{Listing, ascending}
 use Rattle.receiver.specs.declared.answer.Answer as heard_answer
-use Rattle.receiver.specs.declared.give_up.Answer as ended_answer
+use Rattle.receiver.specs.declared.answer.Refusal.{Refusal}
 use Rattle.receiver.specs.declared.give_up.GivenUp.{GivenUp}
 use Rattle.receiver.specs.declared.state.Receiver.{Receiver}
 use Rattle.receiver.specs.GiveUp.{giving_up}
 use Rattle.receiver.specs.Hearing as hear
 use Rattle.sending.specs.declared.answer.Answer as said_answer
-use Rattle.sending.specs.declared.answer.Answer.TheVariants.{Sent, Started, Refused}
+use Rattle.sending.specs.declared.answer.Answer.TheVariants.{Sent, Started}
 use Rattle.sending.specs.declared.answer.Spoken.{Spoken}
 use Rattle.sending.specs.declared.request.Request.{Request}
 use Rattle.sending.specs.Access.{sending_access}
@@ -62,9 +62,9 @@ message_for Stop = []
 -- ---- what a call leaves
 -- what it answers, by the kind of call
 pub data Answer : Type 0 where
-  Heard : heard_answer.Answer → Answer
-  Said : said_answer.Answer → Answer
-  Ended : ended_answer.Answer → Answer
+  Heard : Result heard_answer.Answer Refusal → Answer
+  Said : Result said_answer.Answer Refusal → Answer
+  Ended : Result Unit Refusal → Answer
 
 -- how many keys an answer counts as tried
 pub record Tried : Type 0 where
@@ -84,15 +84,14 @@ pub record Outcome : Type 0 where
   pub tried : Tried
 
 -- the answer of a call that sends tells of a PDU, and of its octets
-abbrev pub made_by : said_answer.Answer → Bool
-made_by (Sent len) = true
-made_by (Started len seg_n) = true
-made_by (Refused n) = false
+abbrev pub made_by : Result said_answer.Answer Refusal → Bool
+made_by (Ok a) = true
+made_by (Err n) = false
 
-abbrev pub length_by : said_answer.Answer → ℕ
-length_by (Sent len) = len
-length_by (Started len seg_n) = len
-length_by (Refused n) = 0
+abbrev pub length_by : Result said_answer.Answer Refusal → ℕ
+length_by (Ok (Sent len)) = len
+length_by (Ok (Started len seg_n)) = len
+length_by (Err n) = 0
 
 -- of hearing, sending, and giving up a session or the outgoing message
 abbrev pub left_heard : hear.Outcome → Outcome

@@ -2,14 +2,14 @@
 --   sent_in_full sender q words buf   the call that sends a message, and one for each segment behind the first
 --   GoesOut                           each of them makes a PDU
 --   SegmentGoes                       behind any calls that leave the message kept, so does one that sends a segment
-use Rattle.std.specs.Prelude.{Bool, true, false, List, [], ◌∷◌, ◌≡◌, ℕ, ◌+◌, ◌≤◌, length, if◌then◌else◌}
+use Rattle.std.specs.Prelude.{Err, Ok, Bool, true, false, List, [], ◌∷◌, ◌≡◌, ℕ, ◌+◌, ◌≤◌, length, if◌then◌else◌}
 use Rattle.common.specs.Bits.{has_bit}
 use Rattle.common.specs.Lists.{tab_from}
 use Rattle.network.specs.Pdu.{pdu_octets}
 use Rattle.node.specs.declared.addresses.Node.{Node}
 use Rattle.receiver.specs.declared.state.Receiver.{Receiver}
 use Rattle.receiver.specs.Good.{Good}
-use Rattle.sending.specs.declared.answer.Answer.TheVariants.{Sent, Started, Refused}
+use Rattle.sending.specs.declared.answer.Answer.TheVariants.{Sent, Started}
 use Rattle.sending.specs.declared.request.Request.{Request}
 use Rattle.sending.specs.Access.{access_allowed}
 use Rattle.sending.specs.Control.{control_allowed}
@@ -22,9 +22,9 @@ use Rattle.demands.specs.Speech.{Words, Access, Control, Speech, last_of}
 -- ---- in full
 -- a message that was begun with segment 0 has segments 1 to SegN besides
 abbrev pub rest_as : Answer → List ℕ → List Call
-rest_as (Said (Sent len)) buf = []
-rest_as (Said (Started len seg_n)) buf = tab_from (λ n. SendSegment n buf) 1 seg_n
-rest_as (Said (Refused n)) buf = []
+rest_as (Said (Ok (Sent len))) buf = []
+rest_as (Said (Ok (Started len seg_n))) buf = tab_from (λ n. SendSegment n buf) 1 seg_n
+rest_as (Said (Err n)) buf = []
 rest_as (Heard a) buf = []
 rest_as (Ended a) buf = []
 

@@ -8,7 +8,7 @@
 --   ForwardingMet       all premises of `Forwards` hold of a PDU that one box sends another past the shed, and it is forwarded
 --   ReservedMet         so do those of `ForNobody` and `GoesOn` where it sends it to a reserved address, the first or the last
 --   IndexMet            so do those of `FreshUnderIndex` of that PDU, where the same SRC and SEQ came under the IV Index before; and those of `CachedExactly` of that one, come again
-use Rattle.std.specs.Prelude.{true, false, List, [], ◌∷◌, ◌++◌, map, ◌≡◌, ℕ, ◌≤◌, replicate}
+use Rattle.std.specs.Prelude.{None, Ok, true, false, List, [], ◌∷◌, ◌++◌, map, ◌≡◌, ℕ, ◌≤◌, replicate}
 use Rattle.common.specs.Lists.{padded, Octets}
 use Rattle.network.specs.declared.header.Header.{Header}
 use Rattle.network.specs.Address.{is_reserved}
@@ -22,14 +22,12 @@ use Rattle.memory.specs.Remembered.{last_entries, Among}
 use Rattle.node.specs.declared.setup.Setup.{Setup}
 use Rattle.node.specs.Addresses.{is_local}
 use Rattle.node.specs.Setup.{nothing, with_network_key, with_application_key, with_device_key, with_elements, with_index}
-use Rattle.receiver.specs.declared.fresh.Answer.TheVariants.{Ready}
 use Rattle.receiver.specs.declared.state.Receiver.{Receiver}
 use Rattle.receiver.specs.Fresh.{setting_up}
 use Rattle.receiver.specs.Good.{Good}
 use Rattle.receiver.specs.Passing.{Opens, Ours, Passes}
 use Rattle.sending.specs.declared.request.Destination.TheVariants.{Address}
 use Rattle.sending.specs.declared.request.Request.{Request}
-use Rattle.sending.specs.declared.request.Ttl.TheVariants.{Unnamed}
 use Rattle.demands.specs.Acknowledged.{Speaker, Hears}
 use Rattle.demands.specs.CacheHolds.{entered}
 use Rattle.demands.specs.Call.{Call, Hear, SendAccess, Acknowledge, Outcome, step, after}
@@ -78,7 +76,7 @@ arrival e = record { event = e; forward = replicate pdu_octets 0; message = repl
 
 -- the shed sends the first box eight octets under the application key, in one PDU
 abbrev pub order : Call
-order = SendAccess (record { element = 0; dst = Address 0x0002; ttl = Unnamed; network = 0 }) (Application 0) false (replicate 8 0x21) (replicate pdu_octets 0)
+order = SendAccess (record { element = 0; dst = Address 0x0002; ttl = None; network = 0 }) (Application 0) false (replicate 8 0x21) (replicate pdu_octets 0)
 
 -- what comes before the request to acknowledge, and behind it
 abbrev pub so_far : List Arrival
@@ -111,7 +109,7 @@ abbrev pub bench : Setup
 bench = node_at 0x0002
 
 abbrev pub to_shed : Request
-to_shed = record { element = 0; dst = Address 0x0001; ttl = Unnamed; network = 0 }
+to_shed = record { element = 0; dst = Address 0x0001; ttl = None; network = 0 }
 
 -- 20 octets under the application key with a TransMIC of 8: three segments
 abbrev pub report : Words
@@ -156,7 +154,7 @@ updating = with_index bench 0x12345678 true true
 
 -- the shed sends the box a message whole
 abbrev pub to_box : Request
-to_box = record { element = 0; dst = Address 0x0002; ttl = Unnamed; network = 0 }
+to_box = record { element = 0; dst = Address 0x0002; ttl = None; network = 0 }
 
 abbrev pub greeting : List ℕ
 greeting = pdu_made (step (start shed) (say_call to_box short lent_pdu))
@@ -261,7 +259,7 @@ abbrev pub heard_before : List Call
 heard_before = Hear (pdu_under 0x12345677 0x0003) (replicate pdu_octets 0) (replicate message_octets 0) ∷ []
 
 pub record IndexMet : Type 0 where
-  pub ready : (setting_up shed).answer ≡ Ready
+  pub ready : (setting_up shed).answer ≡ Ok tt
   -- its SRC and SEQ are in the cache, under that one
   pub one_entered : entered shed heard_before ≡ seen_of (passing_under 0x12345677 0x0003) ∷ []
   -- the same SRC and SEQ under the IV Index now

@@ -9,7 +9,7 @@
 --   Answered           every answer to a segment, and to a PDU that no key opens
 --   Acknowledges       2: what an acknowledgement names, and when there is none
 --   EndsAlike          3: what is left at the end
-use Rattle.std.specs.Prelude.{Bool, true, false, ◌&&◌, ◌||◌, not, List, [], ◌∷◌, ◌++◌, map, ◌⊎◌, ◌≡◌, ℕ, zero, suc, ◌≤◌, ◌<◌, eqb, length, get_or, take, if◌then◌else◌}
+use Rattle.std.specs.Prelude.{Err, Ok, Bool, true, false, ◌&&◌, ◌||◌, not, List, [], ◌∷◌, ◌++◌, map, ◌⊎◌, ◌≡◌, ℕ, zero, suc, ◌≤◌, ◌<◌, eqb, length, get_or, take, if◌then◌else◌}
 use Rattle.common.specs.Bits.{has_bit, with_bit, all_bits}
 use Rattle.common.specs.Lent.{lent}
 use Rattle.common.specs.Lists.{onto}
@@ -27,7 +27,6 @@ use Rattle.memory.specs.Session.{no_sessions}
 use Rattle.node.specs.declared.addresses.Node.{Node}
 use Rattle.node.specs.declared.setup.Setup.{Setup}
 use Rattle.node.specs.Addresses.{is_local}
-use Rattle.receiver.specs.declared.fresh.Answer.TheVariants.{Ready}
 use Rattle.receiver.specs.declared.answer.Answer as heard_answer
 use Rattle.receiver.specs.declared.answer.Answer.TheVariants as answer
 use Rattle.receiver.specs.declared.answer.Refusal.{Refusal}
@@ -38,7 +37,7 @@ use Rattle.receiver.specs.Fresh.{setting_up}
 use Rattle.receiver.specs.Hearing.{outcome, refused_heard}
 use Rattle.sending.specs.Acknowledge.{acknowledging, saying_acknowledgement}
 use Rattle.sending.specs.Answer.{refused_at}
-use Rattle.sending.specs.Segment.{element_of}
+use Rattle.sending.specs.Segment.{element_at}
 use Rattle.sending.specs.Transmission.{next_seq}
 use Rattle.demands.specs.Call.{Call, Hear, GiveUp, SendAccess, SendControl, SendSegment, Acknowledge, Stop, Answer, Heard, Said, Ended, Outcome, left_heard, step, run, after}
 use Rattle.demands.specs.Refusal.{no_key_opens}
@@ -150,7 +149,7 @@ is_own Stop = true
 
 abbrev pub Comes : Node → List Speech → Spent → Event → Type 0
 Comes node speeches spent (Segment k i seq ttl) = Sent node speeches spent k i seq ttl
-Comes node speeches spent (Foreign pdu) = no_key_opens (opening node.materials node.networks node.iv pdu).answer ≡ true
+Comes node speeches spent (Foreign pdu) = no_key_opens (opening node.materials node.networks node.iv pdu).opened ≡ true
 Comes node speeches spent (Ask net src) = Unit {0}
 Comes node speeches spent (Own c) = is_own c ≡ true
 
@@ -166,7 +165,7 @@ Each P (x ∷ l) = P x × Each P l
 
 -- a fresh receiver, its speakers, and what comes
 pub record Scene (setup : Setup) (speeches : List Speech) (l : List Arrival) : Type 0 where
-  pub ready : (setting_up setup).answer ≡ Ready
+  pub ready : (setting_up setup).answer ≡ Ok tt
   pub eight_at_most : length speeches ≤ 8
   pub speakable : (k : ℕ) → k < length speeches → Speakable (node_of setup) (speech_at speeches k)
   pub sources_differ :
@@ -182,12 +181,12 @@ AllCome setup speeches l = (k i : ℕ) → k < length speeches → i ≤ last_of
 
 -- ---- 1: the answer to an arrival hands up a message exactly where that arrival brings its last missing segment
 abbrev pub handed_as : Answer → List ℕ → List Handed
-handed_as (Heard (answer.Refused n)) msg = []
-handed_as (Heard (answer.Stored src auth bits)) msg = []
-handed_as (Heard (answer.Repeated src auth bits)) msg = []
-handed_as (Heard (answer.Access src dst net key pair len)) msg = record { answer = answer.Access src dst net key pair len; octets = take len msg } ∷ []
-handed_as (Heard (answer.Control src dst net opcode pair len)) msg = record { answer = answer.Control src dst net opcode pair len; octets = take len msg } ∷ []
-handed_as (Heard (answer.Acknowledgement src bits effect)) msg = []
+handed_as (Heard (Err n)) msg = []
+handed_as (Heard (Ok (answer.Stored src auth bits))) msg = []
+handed_as (Heard (Ok (answer.Repeated src auth bits))) msg = []
+handed_as (Heard (Ok (answer.Access src dst net key pair len))) msg = record { answer = answer.Access src dst net key pair len; octets = take len msg } ∷ []
+handed_as (Heard (Ok (answer.Control src dst net opcode pair len))) msg = record { answer = answer.Control src dst net opcode pair len; octets = take len msg } ∷ []
+handed_as (Heard (Ok (answer.Acknowledgement src bits effect))) msg = []
 handed_as (Said a) msg = []
 handed_as (Ended a) msg = []
 
@@ -197,12 +196,12 @@ handed o = handed_as o.answer o.message
 
 -- a segment was stored
 abbrev pub is_stored : Answer → Bool
-is_stored (Heard (answer.Refused n)) = false
-is_stored (Heard (answer.Stored src auth bits)) = true
-is_stored (Heard (answer.Repeated src auth bits)) = false
-is_stored (Heard (answer.Access src dst net key pair len)) = false
-is_stored (Heard (answer.Control src dst net opcode pair len)) = false
-is_stored (Heard (answer.Acknowledgement src bits effect)) = false
+is_stored (Heard (Err n)) = false
+is_stored (Heard (Ok (answer.Stored src auth bits))) = true
+is_stored (Heard (Ok (answer.Repeated src auth bits))) = false
+is_stored (Heard (Ok (answer.Access src dst net key pair len))) = false
+is_stored (Heard (Ok (answer.Control src dst net opcode pair len))) = false
+is_stored (Heard (Ok (answer.Acknowledgement src bits effect))) = false
 is_stored (Said a) = false
 is_stored (Ended a) = false
 
@@ -228,13 +227,13 @@ HandedUp =
 pub record SegmentAnswered (node : Node) (s : Speech) (bits i : ℕ) (msg : List ℕ) (o : Outcome) : Type 0 where
   -- it is new, and another is missing: stored, with a bit for each that has come
   pub stored :
-      has_bit bits i ≡ false → eqb (with_bit bits i) (all_bits (last_of node s)) ≡ false → o.answer ≡ Heard (answer.Stored s.src s.auth (with_bit bits i))
+      has_bit bits i ≡ false → eqb (with_bit bits i) (all_bits (last_of node s)) ≡ false → o.answer ≡ Heard (Ok (answer.Stored s.src s.auth (with_bit bits i)))
   -- it is the last that was missing: the message is handed up
-  pub completes : is_last_missing bits i (last_of node s) ≡ true → o.answer ≡ Heard (hand_up node s).answer
+  pub completes : is_last_missing bits i (last_of node s) ≡ true → o.answer ≡ Heard (Ok (hand_up node s).answer)
   -- it had come: a repeat, or 5 where the PDU is in the cache
   pub repeats :
       has_bit bits i ≡ true
-      → (o.answer ≡ Heard (answer.Repeated s.src s.auth bits)) ⊎ (o.answer ≡ Heard (answer.Refused refusal.Cached))
+      → (o.answer ≡ Heard (Ok (answer.Repeated s.src s.auth bits))) ⊎ (o.answer ≡ Heard (Err refusal.Cached))
   -- a message handed up fills the first octets of the message buffer, and the rest stays; a stored segment or a repeat writes none of it
   pub message_is : o.message ≡ (if is_last_missing bits i (last_of node s) then onto (hand_up node s).octets msg else msg)
   -- its network key is tried at its place, and application keys where the message is handed up
@@ -246,7 +245,7 @@ pub record SegmentAnswered (node : Node) (s : Speech) (bits i : ℕ) (msg : List
 abbrev pub ForeignAnswered : Node → Receiver → (pdu fwd msg : List ℕ) → Outcome → Type 0
 ForeignAnswered node r pdu fwd msg o =
     let x = opening node.materials node.networks node.iv pdu in
-    (n : Refusal) × (refusal_number n ≡ number_of (opened.paper x.answer)) × (o ≡ left_heard (outcome (refused_heard r n x.trials) fwd msg))
+    (n : Refusal) × (refusal_number n ≡ number_of (opened.paper x.opened)) × (o ≡ left_heard (outcome (refused_heard r n x.trials) fwd msg))
 
 -- the answer to an event, where these segments of each speech have come; what is no PDU hands up nothing
 abbrev pub AnsweredAs : Node → List Speech → (ℕ → ℕ) → Receiver → Event → (fwd msg : List ℕ) → Outcome → Type 0
@@ -278,10 +277,10 @@ pub record AskAnswered (node : Node) (speeches : List Speech) (before : List Arr
       (k : ℕ) → AskedOf node speeches before net src k
       → (let s = speech_at speeches k in
       acknowledging r net src buf
-      ≡ saying_acknowledgement r (element_of node s.dst) net src (record { auth = s.auth; dst = s.dst; bits = come k before }) buf)
+      ≡ saying_acknowledgement r (element_at node s.dst) net src (record { auth = s.auth; dst = s.dst; bits = come k before }) buf)
   -- and it goes out where a SEQ is left
   pub goes_out :
-      (k : ℕ) → AskedOf node speeches before net src k → next_seq r (element_of node (speech_at speeches k).dst) ≤ 0xFFFFFF
+      (k : ℕ) → AskedOf node speeches before net src k → next_seq r (element_at node (speech_at speeches k).dst) ≤ 0xFFFFFF
       → (step r (Acknowledge net src buf)).made ≡ true
   -- 14 where it is for none, and it leaves everything
   pub refuses : ((k : ℕ) → AskedOf node speeches before net src k → ⊥) → acknowledging r net src buf ≡ lent (refused_at r refusal.OutsideRules) buf
@@ -310,7 +309,6 @@ in_turn (suc n) l = in_turn n l ++ arrivals_of n l
 
 -- all that a run hands up of a source
 abbrev pub source_of : heard_answer.Answer → ℕ
-source_of (answer.Refused n) = 0
 source_of (answer.Stored src auth bits) = src
 source_of (answer.Repeated src auth bits) = src
 source_of (answer.Access src dst net key pair len) = src

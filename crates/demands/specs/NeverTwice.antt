@@ -6,17 +6,17 @@
 --   addressee r c     whom call c sends to
 --   Carried           the PDU that a call makes carries what it used, to its addressee, and no other call makes one
 --   Rise, NeverTwice  the two promises
-use Rattle.std.specs.Prelude.{true, List, [], ◌∷◌, ◌++◌, ◌≡◌, ℕ, ◌<◌, if◌then◌else◌}
+use Rattle.std.specs.Prelude.{Option, None, Some, true, Ok, List, [], ◌∷◌, ◌++◌, ◌≡◌, ℕ, ◌<◌, if◌then◌else◌}
 use Rattle.common.specs.Lent.{lent}
 use Rattle.network.specs.declared.header.Header.{Header}
-use Rattle.network.specs.declared.sealing.Answer.TheVariants.{Sealed}
 use Rattle.network.specs.Candidates.{key_at}
 use Rattle.network.specs.Sealing.{sealing}
 use Rattle.receiver.specs.declared.state.Receiver.{Receiver}
 use Rattle.receiver.specs.Good.{Good}
+use Rattle.sending.specs.declared.acknowledge.Chosen.{Chosen}
 use Rattle.sending.specs.Acknowledge.{chosen}
 use Rattle.sending.specs.Request.{dst_of}
-use Rattle.sending.specs.Segment.{element_of}
+use Rattle.sending.specs.Segment.{element_at}
 use Rattle.sending.specs.Transmission.{sending_iv, address_of, next_seq}
 use Rattle.demands.specs.Call.{Call, Hear, GiveUp, SendAccess, SendControl, SendSegment, Acknowledge, Stop, lent_for, step}
 
@@ -26,14 +26,19 @@ pub record Use : Type 0 where
   pub iv : ℕ
   pub seq : ℕ
 
+-- the DST that what is acknowledged was sent to
+abbrev pub spoken_to : Option Chosen → ℕ
+spoken_to None = 0
+spoken_to (Some c) = c.dst
+
 -- the element that sends: the one named; of a segment the one that began the message; of an acknowledgement the one that was spoken to
 abbrev pub speaker : Receiver → Call → ℕ
 speaker r (Hear pdu fwd msg) = 0
 speaker r (GiveUp src) = 0
 speaker r (SendAccess q key szmic payload buf) = q.element
 speaker r (SendControl q opcode parameters buf) = q.element
-speaker r (SendSegment n buf) = element_of r.node r.out.src
-speaker r (Acknowledge net src buf) = element_of r.node (chosen r.replay r.sessions src).dst
+speaker r (SendSegment n buf) = element_at r.node r.out.src
+speaker r (Acknowledge net src buf) = element_at r.node (spoken_to (chosen r.replay r.sessions src))
 speaker r Stop = 0
 
 -- the IV Index that it sends with; a segment goes out under the one that its message was begun with
@@ -74,7 +79,7 @@ pub record Carries (r : Receiver) (c : Call) : Type 0 where
   pub to_addressee : header.dst ≡ addressee r c
   pub under_index : header.iv ≡ index_sent r c
   pub with_next_law : header.seq ≡ next_seq r (speaker r c)
-  pub sealed : sealing (key_at r.node.materials header.key) header (lent_for c) ≡ lent (Sealed (step r c).octets) (step r c).pdu
+  pub sealed : sealing (key_at r.node.materials header.key) header (lent_for c) ≡ lent (Ok (step r c).octets) (step r c).pdu
 
 abbrev pub Carried : Type 0
 Carried = (r : Receiver) (c : Call) → (step r c).made ≡ true → Carries r c

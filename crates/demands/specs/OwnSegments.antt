@@ -3,16 +3,14 @@
 --   segments_kept o               its segments, as they are sent
 --   OwnApproved                   they are approved, and what is kept is shown
 --   KeptAsSaid                    what is kept is what the call that began the message was given: the secured payload, or the parameters
-use Rattle.std.specs.Prelude.{true, false, List, ◌≡◌, ℕ, suc, ◌≤◌, length}
+use Rattle.std.specs.Prelude.{true, false, List, Ok, ◌≡◌, ℕ, suc, ◌≤◌, length}
 use Rattle.common.specs.Lent.{lent}
 use Rattle.common.specs.Lists.{tab, onto}
-use Rattle.transport.specs.declared.vetting.Vetted.TheVariants.{Approved}
 use Rattle.transport.specs.Listed.{written}
 use Rattle.transport.specs.Segment.{message_octets}
 use Rattle.transport.specs.Vetting.{vetting}
 use Rattle.memory.specs.declared.outgoing.Outgoing.{Outgoing}
 use Rattle.node.specs.declared.setup.Setup.{Setup}
-use Rattle.receiver.specs.declared.fresh.Answer.TheVariants.{Ready}
 use Rattle.receiver.specs.declared.state.Receiver.{Receiver}
 use Rattle.receiver.specs.Fresh.{setting_up}
 use Rattle.receiver.specs.Good.{Good}
@@ -34,7 +32,7 @@ abbrev pub SendableStep : Type 0
 SendableStep = (r : Receiver) (c : Call) → SendableIfKept r.out → SendableIfKept (step r c).receiver.out
 
 abbrev pub SendableAfter : Type 0
-SendableAfter = (s : Setup) (l : List Call) → (setting_up s).answer ≡ Ready → SendableIfKept (after (start s) l).out
+SendableAfter = (s : Setup) (l : List Call) → (setting_up s).answer ≡ Ok tt → SendableIfKept (after (start s) l).out
 
 -- ---- its segments
 -- 0 to SegN
@@ -43,9 +41,9 @@ segments_kept o = tab (segment_pdu o) (suc o.terms.segn)
 
 abbrev pub OwnApproved : Type 0
 OwnApproved =
-    (s : Setup) (l : List Call) (buf : List ℕ) → (setting_up s).answer ≡ Ready → message_octets ≤ length buf
+    (s : Setup) (l : List Call) (buf : List ℕ) → (setting_up s).answer ≡ Ok tt → message_octets ≤ length buf
     → (let o = (after (start s) l).out in
-    (o.src ≡ 0 → ⊥) → vetting o.terms.ctl (written (segments_kept o)) buf ≡ lent (Approved o.len) (onto (kept_octets o) buf))
+    (o.src ≡ 0 → ⊥) → vetting o.terms.ctl (written (segments_kept o)) buf ≡ lent (Ok o.len) (onto (kept_octets o) buf))
 
 -- behind any calls that leave the message kept
 abbrev pub KeptAsSaid : Type 0

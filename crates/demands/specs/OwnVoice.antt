@@ -2,7 +2,7 @@
 --   OwnExactly     22 exactly for such a PDU, whatever receiver hears it, and what it leaves
 --   OthersOnly r   no entry of the cache or of the replay list, and no session, has one of our elements as its SRC
 --   NeverListed    so it is of every receiver that setup made, whatever was called since
-use Rattle.std.specs.Prelude.{false, List, ◌≡◌, ℕ, get_or}
+use Rattle.std.specs.Prelude.{Ok, false, List, ◌≡◌, ℕ, get_or}
 use Rattle.network.specs.declared.header.Header.{Header}
 use Rattle.memory.specs.Cache.{no_seen}
 use Rattle.memory.specs.Replay.{no_entry}
@@ -10,7 +10,6 @@ use Rattle.memory.specs.Session.{session_at}
 use Rattle.node.specs.declared.setup.Setup.{Setup}
 use Rattle.node.specs.Addresses.{is_local}
 use Rattle.receiver.specs.declared.answer.Refusal.TheVariants.{OwnSource}
-use Rattle.receiver.specs.declared.fresh.Answer.TheVariants.{Ready}
 use Rattle.receiver.specs.declared.state.Receiver.{Receiver}
 use Rattle.receiver.specs.Fresh.{setting_up}
 use Rattle.receiver.specs.Hearing.{outcome, refused_heard, hearing}
@@ -43,4 +42,4 @@ pub record OthersOnly (r : Receiver) : Type 0 where
   pub sessions_others : (i : ℕ) → is_local r.node (session_at r.sessions i).src ≡ false
 
 abbrev pub NeverListed : Type 0
-NeverListed = (s : Setup) (l : List Call) → (setting_up s).answer ≡ Ready → OthersOnly (after (start s) l)
+NeverListed = (s : Setup) (l : List Call) → (setting_up s).answer ≡ Ok tt → OthersOnly (after (start s) l)

@@ -7,8 +7,9 @@
 --   Hearing, hear_call             what the fresh receiver hears
 --   Shared, Between, Telling       the premises
 --   ReadBack                       the promise: what each hearing hands up, stores and counts, and that the message is handed up once
-use Rattle.std.specs.Prelude.{Bool, true, false, ◌||◌, List, [], ◌∷◌, ◌++◌, map, ◌≡◌, ℕ, ◌≤◌, ◌<◌, eqb, leb, length, get_or, take, if◌then◌else◌}
+use Rattle.std.specs.Prelude.{Err, Ok, Bool, true, false, ◌||◌, Option, Some, None, List, [], ◌∷◌, ◌++◌, map, ◌≡◌, ℕ, ◌≤◌, ◌<◌, eqb, leb, length, get_or, take, if◌then◌else◌}
 use Rattle.common.specs.Bits.{has_bit, with_bit}
+use Rattle.keys.specs.declared.NetworkKeys.{NetworkKeys}
 use Rattle.network.specs.declared.header.Header.{Header}
 use Rattle.network.specs.Candidates.{key_at, opens}
 use Rattle.network.specs.Opening.{opening}
@@ -21,13 +22,11 @@ use Rattle.transport.specs.Segment.{message_octets}
 use Rattle.node.specs.declared.addresses.Node.{Node}
 use Rattle.node.specs.declared.setup.Setup.{Setup}
 use Rattle.node.specs.Addresses.{is_local, for_node, held_by}
-use Rattle.receiver.specs.declared.answer.Answer.TheVariants as heard_answer
 use Rattle.receiver.specs.declared.answer.Refusal.TheVariants.{Cached}
-use Rattle.receiver.specs.declared.fresh.Answer.TheVariants.{Ready}
 use Rattle.receiver.specs.declared.state.Receiver.{Receiver}
 use Rattle.receiver.specs.Fresh.{setting_up}
 use Rattle.receiver.specs.Good.{Good}
-use Rattle.sending.specs.declared.answer.Answer.TheVariants.{Sent, Started, Refused}
+use Rattle.sending.specs.declared.answer.Answer.TheVariants.{Sent, Started}
 use Rattle.sending.specs.declared.request.Request.{Request}
 use Rattle.sending.specs.Access.{is_whole}
 use Rattle.sending.specs.Request.{dst_of, additional_for}
@@ -89,9 +88,9 @@ pieces r (c ∷ l) = if eqb r.out.src 0 then [] else piece r c ++ pieces (step r
 
 -- a message that was begun with segment 0 goes on behind it
 abbrev pub pieces_as : Answer → Receiver → List Call → List Piece
-pieces_as (Said (Sent len)) r l = []
-pieces_as (Said (Started len seg_n)) r l = pieces r l
-pieces_as (Said (Refused n)) r l = []
+pieces_as (Said (Ok (Sent len))) r l = []
+pieces_as (Said (Ok (Started len seg_n))) r l = pieces r l
+pieces_as (Said (Err n)) r l = []
 pieces_as (Heard a) r l = []
 pieces_as (Ended a) r l = []
 
@@ -103,9 +102,9 @@ made_of sender q words buf l =
 
 -- SegN, as the call that began the message answers it
 abbrev pub seg_n_as : Answer → ℕ
-seg_n_as (Said (Sent len)) = 0
-seg_n_as (Said (Started len seg_n)) = seg_n
-seg_n_as (Said (Refused n)) = 0
+seg_n_as (Said (Ok (Sent len))) = 0
+seg_n_as (Said (Ok (Started len seg_n))) = seg_n
+seg_n_as (Said (Err n)) = 0
 seg_n_as (Heard a) = 0
 seg_n_as (Ended a) = 0
 
@@ -134,11 +133,13 @@ abbrev pub with_ttl : Header → ℕ → Header
 with_ttl h ttl =
     record { key = h.key; iv = h.iv; ctl = h.ctl; ttl = ttl; seq = h.seq; src = h.src; dst = h.dst; len = h.len; transport = h.transport }
 
--- relays open a PDU by the message's network key, and seal it again by the same, under the same IV Index
+-- relays open a PDU by the message's network key, and seal it again by the same, under the same IV Index; nothing comes of one that it does not open
+abbrev pub resealed_with : NetworkKeys → ℕ → Option Header → List ℕ
+resealed_with key ttl (Some h) = pdu_of key (with_ttl h ttl)
+resealed_with key ttl None = []
+
 abbrev pub relayed_with : Node → Speech → List ℕ → ℕ → List ℕ
-relayed_with node s pdu ttl =
-    let key = key_at node.materials s.network in
-    pdu_of key (with_ttl (tried key s.network s.auth.iv pdu).header ttl)
+relayed_with node s pdu ttl = let key = key_at node.materials s.network in resealed_with key ttl (tried key s.network s.auth.iv pdu)
 
 -- the PDU that is heard, and the call that hears it
 abbrev pub pdu_heard : Node → Speech → List Piece → Incoming → List ℕ
@@ -192,7 +193,7 @@ OwnMessageFirst node s (Control opcode parameters) = Unit {0}
 -- a sender that was set up, and used since; a fresh receiver that a message of its is for
 pub record Between (sender : Receiver) (setup : Setup) (q : Request) (words : Words) : Type 0 where
   pub good : Good sender
-  pub ready : (setting_up setup).answer ≡ Ready
+  pub ready : (setting_up setup).answer ≡ Ok tt
   pub shared : Shared sender.node (node_of setup)
   -- the element that speaks is another node's
   pub other_node : is_local (node_of setup) (address_of sender.node q.element) ≡ false
@@ -212,7 +213,7 @@ pub record OneOf (node : Node) (s : Speech) (ps : List Piece) (i : ℕ) (pdu : L
 abbrev pub ComesAs : Node → Speech → List Piece → Incoming → Type 0
 ComesAs node s ps (Made i) = OneOf node s ps i (piece_at ps i).pdu
 ComesAs node s ps (Relayed i ttl) = OneOf node s ps i (relayed_with node s (piece_at ps i).pdu ttl) × (ttl ≤ 127)
-ComesAs node s ps (Unopened pdu) = no_key_opens (opening node.materials node.networks node.iv pdu).answer ≡ true
+ComesAs node s ps (Unopened pdu) = no_key_opens (opening node.materials node.networks node.iv pdu).opened ≡ true
 
 -- and is heard with buffers that are not refused 16
 pub record Hears (node : Node) (s : Speech) (ps : List Piece) (h : Hearing) : Type 0 where
@@ -234,7 +235,7 @@ pub record Reads (node : Node) (s : Speech) (seg_n bits i : ℕ) (o : Outcome) :
   -- one that is new is stored where another is missing
   pub stores : has_bit bits i ≡ false → is_last_missing bits i seg_n ≡ false → is_stored o.answer ≡ true
   -- a message that went whole is refused 5 when it comes again
-  pub again : goes_whole s.words ≡ true → has_bit bits i ≡ true → o.answer ≡ Heard (heard_answer.Refused Cached)
+  pub again : goes_whole s.words ≡ true → has_bit bits i ≡ true → o.answer ≡ Heard (Err Cached)
   -- network keys are tried up to the message's own, and pairs likewise where it is handed up
   pub counts :
       o.tried ≡ record { network = network_place node s; application = if is_last_missing bits i seg_n then application_place node s s.words else 0 }

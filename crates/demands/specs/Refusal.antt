@@ -3,11 +3,11 @@
 --   is_refused a                the answer is a refusal
 --   Untouched r pdu message o   receiver and both buffers are what they were
 --   Behind r h fwd n o          what a refusal behind the cache leaves
-use Rattle.std.specs.Prelude.{Bool, true, false, ◌&&◌, ◌||◌, List, ◌≡◌, ℕ, eqb, leb, if◌then◌else◌}
+use Rattle.std.specs.Prelude.{Bool, true, false, Result, Ok, Err, ◌&&◌, ◌||◌, List, ◌≡◌, ℕ, eqb, leb, if◌then◌else◌}
 use Rattle.common.specs.Lent.{lent}
 use Rattle.network.specs.declared.header.Header.{Header}
-use Rattle.network.specs.declared.opening.Answer as opening_answer
-use Rattle.network.specs.declared.opening.Answer.TheVariants as network
+use Rattle.network.specs.declared.opening.Refusal as network_refusal
+use Rattle.network.specs.declared.opening.Refusal.TheVariants as network
 use Rattle.network.specs.Opening.{opening}
 use Rattle.transport.specs.Form.{form_of, is_segment}
 use Rattle.memory.specs.Cache.{remembered}
@@ -43,17 +43,17 @@ abbrev pub EverythingStays : Type 0
 EverythingStays = (r : Receiver) (c : Call) → leaves_everything (number_of (step r c).answer) ≡ true → Untouched r (lent_for c) (message_for c) (step r c)
 
 -- no key opens a PDU: refusals 1, 2 and 3 of its opening
-abbrev pub no_key_opens : opening_answer.Answer → Bool
-no_key_opens network.Opened = false
-no_key_opens network.WrongLength = true
-no_key_opens network.NoCandidate = true
-no_key_opens network.NotAuthentic = true
-no_key_opens network.WrongAddress = false
+abbrev pub no_key_opens : Result Header network_refusal.Refusal → Bool
+no_key_opens (Ok h) = false
+no_key_opens (Err network.WrongLength) = true
+no_key_opens (Err network.NoCandidate) = true
+no_key_opens (Err network.NotAuthentic) = true
+no_key_opens (Err network.WrongAddress) = false
 
 -- it changes nothing
 abbrev pub UnopenedLeaves : Type 0
 UnopenedLeaves =
-    (r : Receiver) (pdu fwd msg : List ℕ) → no_key_opens (opening r.node.materials r.node.networks r.node.iv pdu).answer ≡ true
+    (r : Receiver) (pdu fwd msg : List ℕ) → no_key_opens (opening r.node.materials r.node.networks r.node.iv pdu).opened ≡ true
     → Untouched r fwd msg (left_heard (hearing r pdu fwd msg))
 
 -- ---- behind the cache
@@ -72,11 +72,11 @@ pub record Behind (r : Receiver) (h : Header) (fwd : List ℕ) (n : ℕ) (o : Ou
   pub receiver_left : o.receiver ≡ left_behind (cached r h) h n
   pub forwarded_as : lent o.octets o.pdu ≡ relayed r.node h fwd
 
--- refusals 6 to 13 leave that, and nothing else
+-- refusals 6 to 13 are of a PDU that opens to a header, and leave that, and nothing else
 abbrev pub LateLeaves : Type 0
 LateLeaves =
     (r : Receiver) (pdu fwd msg : List ℕ)
     → (let o = left_heard (hearing r pdu fwd msg) in
     let n = number_of o.answer in
-    let h = (opening r.node.materials r.node.networks r.node.iv pdu).header in
-    leb 6 n && leb n 13 ≡ true → Behind r h fwd n o)
+    leb 6 n && leb n 13 ≡ true
+    → (h : Header) × ((opening r.node.materials r.node.networks r.node.iv pdu).opened ≡ Ok h) × Behind r h fwd n o)

@@ -4,7 +4,7 @@
 --   NoneListened     setup takes none as a group
 --   NoneAsked        no request to send to one makes a PDU, whatever receiver is asked
 --   NoneSentTo       nor does any call, of a receiver that setup made
-use Rattle.std.specs.Prelude.{true, false, ◌&&◌, List, ◌≡◌, ℕ, ◌<◌, leb, length, get_or, if◌then◌else◌}
+use Rattle.std.specs.Prelude.{Err, Ok, true, false, ◌&&◌, List, ◌≡◌, ℕ, ◌<◌, leb, length, get_or, if◌then◌else◌}
 use Rattle.common.specs.Lent.{lent}
 use Rattle.common.specs.Lists.{onto, Octets}
 use Rattle.network.specs.declared.header.Header.{Header}
@@ -14,9 +14,7 @@ use Rattle.network.specs.Pdu.{pdu_of}
 use Rattle.network.specs.Sealing.{lowered}
 use Rattle.node.specs.declared.setup.Setup.{Setup}
 use Rattle.node.specs.Made.{WellMade}
-use Rattle.receiver.specs.declared.answer.Answer.TheVariants.{Refused}
 use Rattle.receiver.specs.declared.answer.Refusal.TheVariants.{NotForNode}
-use Rattle.receiver.specs.declared.fresh.Answer.TheVariants.{Ready}
 use Rattle.receiver.specs.declared.state.Receiver.{Receiver}
 use Rattle.receiver.specs.Fresh.{setting_up}
 use Rattle.receiver.specs.Good.{Good}
@@ -35,7 +33,7 @@ abbrev pub ForNobody : Type 0
 ForNobody =
     (r : Receiver) (pdu fwd msg : List ℕ) (trials : ℕ) (h : Header)
     → Passes r pdu fwd msg trials h → is_reserved h.dst ≡ true
-    → (let o = (hearing r pdu fwd msg).heard in (o.answer ≡ Refused NotForNode) × (o.network ≡ trials) × (o.application ≡ 0))
+    → (let o = (hearing r pdu fwd msg).heard in (o.answer ≡ Err NotForNode) × (o.network ≡ trials) × (o.application ≡ 0))
 
 -- the octets forwarded, and the forward buffer: no element has a reserved address, so relay and TTL decide
 abbrev pub GoesOn : Type 0
@@ -50,7 +48,7 @@ GoesOn =
 
 -- ---- listened to
 abbrev pub NoneListened : Type 0
-NoneListened = (s : Setup) → (setting_up s).answer ≡ Ready → (i : ℕ) → i < s.listened → is_reserved (get_or s.groups i 0) ≡ false
+NoneListened = (s : Setup) → (setting_up s).answer ≡ Ok tt → (i : ℕ) → i < s.listened → is_reserved (get_or s.groups i 0) ≡ false
 
 -- ---- sent to
 abbrev pub NoneAsked : Type 0
@@ -62,5 +60,5 @@ NoneAsked =
 -- after any calls; that the PDU which a call makes has its addressee as DST is `Carried`
 abbrev pub NoneSentTo : Type 0
 NoneSentTo =
-    (s : Setup) (l : List Call) (c : Call) → (setting_up s).answer ≡ Ready
+    (s : Setup) (l : List Call) (c : Call) → (setting_up s).answer ≡ Ok tt
     → (let r = after (setting_up s).receiver l in (step r c).made ≡ true → is_reserved (addressee r c) ≡ false)

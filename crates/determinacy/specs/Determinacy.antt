@@ -1,5 +1,5 @@
 -- Determinacy: the contract of each public function of the library crates determines what a call of it gives, crate by crate as in crates.txt.
--- `text::first`, `field::last` and `field::nth` return a slice: their contracts fix its octets, and not the place where they stand.
+-- `text::first`, `field::last`, `field::nth` and `Writer::text` return a slice: their contracts fix its octets, and not the place where they stand.
 use Rattle.aes.specs.contracts as aes
 use Rattle.answers.specs.contracts as answers
 use Rattle.commands.specs.contracts as commands
@@ -68,6 +68,7 @@ pub record Determinate : Type 2 where
   pub transport_securing_open : Determined transport.securing.open.ended (λ _ _. transport.securing.open.clauses)
   pub transport_segment_access_octet : Determined transport.segment.access_octet.ended (λ _ _. transport.segment.access_octet.clauses)
   pub transport_segment_control_octet : Determined transport.segment.control_octet.ended (λ _ _. transport.segment.control_octet.clauses)
+  pub transport_segment_full_octets : Determined transport.segment.full_octets.ended (λ _ _. transport.segment.full_octets.clauses)
   pub transport_segment_front : Determined transport.segment.front.ended (λ _ _. transport.segment.front.clauses)
   pub transport_segment_acknowledgement : Determined transport.segment.acknowledgement.ended (λ _ _. transport.segment.acknowledgement.clauses)
   pub transport_seq_auth_find : Determined transport.seq_auth.find.ended (λ _ _. transport.seq_auth.find.clauses)
@@ -97,6 +98,7 @@ pub record Determinate : Type 2 where
   pub memory_session_store : Determined memory.session.store.ended (λ _ _. memory.session.store.clauses)
   pub memory_session_is_complete : Determined memory.session.is_complete.ended (λ _ _. memory.session.is_complete.clauses)
   -- node
+  pub node_addresses_none : Determined node.addresses.none.ended (λ _ _. node.addresses.none.clauses)
   pub node_addresses_is_local : Determined node.addresses.is_local.ended (λ _ _. node.addresses.is_local.clauses)
   pub node_addresses_is_for : Determined node.addresses.is_for.ended (λ _ _. node.addresses.is_for.clauses)
   pub node_addresses_held_by : Determined node.addresses.held_by.ended (λ _ _. node.addresses.held_by.clauses)
@@ -104,6 +106,7 @@ pub record Determinate : Type 2 where
   pub node_setup_counted : Determined node.setup.counted.ended (λ _ _. node.setup.counted.clauses)
   pub node_setup_with_network_key : Determined node.setup.with_network_key.ended (λ _ _. node.setup.with_network_key.clauses)
   pub node_setup_with_application_key : Determined node.setup.with_application_key.ended (λ _ _. node.setup.with_application_key.clauses)
+  pub node_setup_with_group : Determined node.setup.with_group.ended (λ _ _. node.setup.with_group.clauses)
   pub node_setup_with_label : Determined node.setup.with_label.ended (λ _ _. node.setup.with_label.clauses)
   pub node_setup_make : Determined node.setup.make.ended (λ _ _. node.setup.make.clauses)
   -- sensor
@@ -119,11 +122,11 @@ pub record Determinate : Type 2 where
   pub sensor_reading_temperature : Determined sensor.reading.temperature.ended (λ _ _. sensor.reading.temperature.clauses)
   pub sensor_status_is_status : Determined sensor.status.is_status.ended (λ _ _. sensor.status.is_status.clauses)
   -- receiver
-  pub receiver_answer_number : Determined receiver.answer.number.ended (λ _ _. receiver.answer.number.clauses)
+  pub receiver_answer_Refusal_number : Determined receiver.answer.Refusal.number.ended (λ _ _. receiver.answer.Refusal.number.clauses)
   pub receiver_fresh_set_up : Determined receiver.fresh.set_up.ended (λ _ _. receiver.fresh.set_up.clauses)
   pub receiver_give_up_session : Determined receiver.give_up.session.ended (λ _ _. receiver.give_up.session.clauses)
   pub receiver_hear_hear : Determined receiver.hear.hear.ended (λ _ _. receiver.hear.hear.clauses)
-  pub receiver_state_with_outgoing : Determined receiver.state.with_outgoing.ended (λ _ _. receiver.state.with_outgoing.clauses)
+  pub receiver_state_Receiver_with_outgoing : Determined receiver.state.Receiver.with_outgoing.ended (λ _ _. receiver.state.Receiver.with_outgoing.clauses)
   -- sending
   pub sending_access_send : Determined sending.access.send.ended (λ _ _. sending.access.send.clauses)
   pub sending_acknowledge_send : Determined sending.acknowledge.send.ended (λ _ _. sending.acknowledge.send.clauses)
@@ -155,17 +158,20 @@ pub record Determinate : Type 2 where
   pub text_hex_value : Determined text.hex.value.ended (λ _ _. text.hex.value.clauses)
   pub text_hex_read : Determined text.hex.read.ended (λ _ _. text.hex.read.clauses)
   pub text_hex_fill : Determined text.hex.fill.ended (λ _ _. text.hex.fill.clauses)
-  pub text_hex_put : Determined text.hex.put.ended (λ _ _. text.hex.put.clauses)
   pub text_number_read : Determined text.number.read.ended (λ _ _. text.number.read.clauses)
   pub text_number_read_up_to : Determined text.number.read_up_to.ended (λ _ _. text.number.read_up_to.clauses)
   pub text_number_read_short : Determined text.number.read_short.ended (λ _ _. text.number.read_short.clauses)
   pub text_number_read_octet : Determined text.number.read_octet.ended (λ _ _. text.number.read_octet.clauses)
   pub text_number_read_bit : Determined text.number.read_bit.ended (λ _ _. text.number.read_bit.clauses)
-  pub text_number_put : Determined text.number.put.ended (λ _ _. text.number.put.clauses)
-  pub text_number_put_decimal : Determined text.number.put_decimal.ended (λ _ _. text.number.put_decimal.clauses)
-  pub text_number_put_hundredths : Determined text.number.put_hundredths.ended (λ _ _. text.number.put_hundredths.clauses)
-  pub text_refusal_put : Determined text.refusal.put.ended (λ _ _. text.refusal.put.clauses)
-  pub text_refusal_put_line : Determined text.refusal.put_line.ended (λ _ _. text.refusal.put_line.clauses)
+  pub text_writer_Writer_new : Determined text.writer.Writer.new.ended (λ _ _. text.writer.Writer.new.clauses)
+  pub text_writer_Writer_text : DeterminedAs text.writer.Writer.text.ended (λ _ _. text.writer.Writer.text.clauses) (λ _ r. r.now)
+  pub text_writer_Writer_put : Determined text.writer.Writer.put.ended (λ _ _. text.writer.Writer.put.clauses)
+  pub text_writer_Writer_number : Determined text.writer.Writer.number.ended (λ _ _. text.writer.Writer.number.clauses)
+  pub text_writer_Writer_decimal : Determined text.writer.Writer.decimal.ended (λ _ _. text.writer.Writer.decimal.clauses)
+  pub text_writer_Writer_hundredths : Determined text.writer.Writer.hundredths.ended (λ _ _. text.writer.Writer.hundredths.clauses)
+  pub text_writer_Writer_hex : Determined text.writer.Writer.hex.ended (λ _ _. text.writer.Writer.hex.clauses)
+  pub text_writer_Writer_refused : Determined text.writer.Writer.refused.ended (λ _ _. text.writer.Writer.refused.clauses)
+  pub text_writer_Writer_refused_line : Determined text.writer.Writer.refused_line.ended (λ _ _. text.writer.Writer.refused_line.clauses)
   -- site
   pub site_setting_setup : Determined site.setting.setup.ended (λ _ _. site.setting.setup.clauses)
   pub site_setting_node : Determined site.setting.node.ended (λ _ _. site.setting.node.clauses)

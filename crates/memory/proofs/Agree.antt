@@ -10,6 +10,7 @@ use lib.Dec.{eqb}
 use Rattle.common.proofs.Tests.{by_test}
 use Rattle.memory.specs.declared.pair.Pair.{Pair}
 use Rattle.memory.specs.declared.replay.Entry.{Entry}
+use Rattle.memory.specs.declared.replay.Last.{Last}
 use Rattle.memory.specs.declared.session.Segment.{Segment}
 use Rattle.memory.specs.declared.session.Session.{Session}
 use Rattle.memory.specs.Decision.{decision_by}
@@ -38,10 +39,9 @@ module _ {o n : Listing} {Both : List Entry → List Entry → Type 0} (agree : 
   unfolding accepted_by
   agree_accepted src pair = agree_made src (λ e. record { src = src; pair = raised e pair; last = e.last }) (λ e. refl)
 
-  pub agree_handed_up : (src : ℕ) (auth : Pair) (seg_n dst : ℕ) → Both (handed_up_by o a src auth seg_n dst) (handed_up_by n b src auth seg_n dst)
+  pub agree_handed_up : (src : ℕ) (last : Last) → Both (handed_up_by o a src last) (handed_up_by n b src last)
   unfolding handed_up_by
-  agree_handed_up src auth seg_n dst =
-      agree_made src (λ e. record { src = src; pair = raised e auth; last = record { auth = auth; segn = seg_n; dst = dst } }) (λ e. refl)
+  agree_handed_up src last = agree_made src (λ e. record { src = src; pair = raised e last.auth; last = last }) (λ e. refl)
 
   pub agree_decision : (sessions : List Session) (src : ℕ) (seg : Segment) → (src ≡ 0 → ⊥) → decision_by o a sessions src seg ≡ decision_by n b sessions src seg
   unfolding decision_by

@@ -7,7 +7,7 @@ use mathlib.Core.Logic.{◌⊎◌, inl, inr}
 use mathlib.Core.Path.{◌≡◌, refl, sym, ap, ap₂, ◌∙◌}
 use Prim.Native.Nat.{ℕ, ◌+◌, ◌-◌, ◌%◌, ◌≤◌, ◌<◌}
 use native.Mathlib.Omega.{arith}
-use borrow.Author.Tests.{eq-eqb, ne_eqb, eqb-true, eqb-false, lt-ltb, ltb-true, ltb-false}
+use borrow.Author.Tests.{eq-eqb, eqb-true, eqb-false, lt-ltb, ltb-true, ltb-false}
 use lib.Dec.{eqb, ltb}
 use lib.ListN.{length, get_or, take, drop, length-append, length-take, length-drop, length-set, length-replicate, get_or-replicate, get_or-append}
 use lib.Seq.{get_or-take, get_or-drop, get_or-append-add, get_or-set_same, get_or-set_other}
@@ -20,10 +20,10 @@ use Rattle.memory.proofs.Keyed.{each_set, Keyed, place, found_key, place_upto}
 
 same_told : (a b : Seen) → same_seen a b ≡ true → a ≡ b
 same_told a b e =
-    let pair = and_first (eqb a.src b.src && eqb a.seq b.seq) (eqb a.iv b.iv) e in
-    let src = eqb-true a.src b.src (and_first (eqb a.src b.src) (eqb a.seq b.seq) pair) in
-    let seq = eqb-true a.seq b.seq (and_second (eqb a.src b.src) (eqb a.seq b.seq) pair) in
-    let iv = eqb-true a.iv b.iv (and_second (eqb a.src b.src && eqb a.seq b.seq) (eqb a.iv b.iv) e) in
+    let pair = and_second (eqb a.src b.src) (eqb a.seq b.seq && eqb a.iv b.iv) e in
+    let src = eqb-true a.src b.src (and_first (eqb a.src b.src) (eqb a.seq b.seq && eqb a.iv b.iv) e) in
+    let seq = eqb-true a.seq b.seq (and_first (eqb a.seq b.seq) (eqb a.iv b.iv) pair) in
+    let iv = eqb-true a.iv b.iv (and_second (eqb a.seq b.seq) (eqb a.iv b.iv) pair) in
     ap₂ (λ (s q : ℕ). record { src = s; seq = q; iv = a.iv }) src seq ∙ ap (λ (i : ℕ). record { src = b.src; seq = b.seq; iv = i }) iv
 
 abbrev entries_keyed : Keyed Seen Seen
@@ -35,20 +35,6 @@ entries_keyed =
       same_told = same_told;
       same_self = λ a. rw (eq-eqb a.src a.src refl, eq-eqb a.seq a.seq refl, eq-eqb a.iv a.iv refl) refl;
     }
-
--- ---- whether two entries are the same, from the code's tests
-module _ (a b : Seen) where
-  pub other_source : (a.src ≡ b.src → ⊥) → false ≡ same_seen a b
-  other_source n = rw (ne_eqb a.src b.src n)
-
-  module _ (e : a.src ≡ b.src) where
-    pub other_number : (a.seq ≡ b.seq → ⊥) → false ≡ same_seen a b
-    other_number n = rw (eq-eqb a.src b.src e, ne_eqb a.seq b.seq n)
-
-    pub same_number : a.seq ≡ b.seq → eqb a.iv b.iv ≡ same_seen a b
-    same_number q = rw (eq-eqb a.src b.src e, eq-eqb a.seq b.seq q)
-
-pub ruleset same_rules = (other_source, other_number, same_number)
 
 -- ---- what is seen stands at a place
 module _ (c : Cache) (k : Header) where

@@ -1,5 +1,4 @@
 -- The laws about the definitions of specs/.
-pub mod PairLaws
 pub mod ReplayLaws
 pub mod SessionLaws
 pub mod DecisionLaws

@@ -1,20 +1,17 @@
 -- The replay list from the code's tests: each answer follows from what stands at the place where a source's entry does, or would, and from whether the last place is empty.
 -- Assumes nothing.
-use mathlib.Core.Bool.{Bool, true, false, not}
+use mathlib.Core.Bool.{true, false}
 use mathlib.Core.List.{List}
 use mathlib.Core.Path.{◌≡◌, refl, ap, ◌∙◌}
 use Prim.Native.Nat.{ℕ, ◌-◌, ◌≤◌, ◌<◌}
-use borrow.Author.Tests.{not-true, not-false, eq-eqb, ne_eqb, lt-ltb, le-ltb, ltb-true, ltb-false}
+use borrow.Author.Tests.{eq-eqb, ne_eqb, lt-ltb, le-ltb, ltb-true, ltb-false}
 use lib.Dec.{eqb, ltb}
 use lib.ListN.{length, get_or, set, get_or-eq_default}
 use Rattle.common.specs.Lists.{tab}
 use Rattle.common.proofs.Tests.{by_test}
-use Rattle.memory.specs.declared.pair.Pair.{Pair}
-use Rattle.memory.specs.declared.replay.Last.{Last}
 use Rattle.memory.specs.declared.replay.Entry.{Entry}
 use Rattle.memory.specs.declared.replay.Place.{Place}
-use Rattle.memory.specs.Pair.{newer, same_pair, greater}
-use Rattle.memory.specs.Replay.{replay_entries, no_entry, before, entry_place, standing, is_listed, look_up, last_free, has_room, shifted_at, inserted, stale, raised, is_last}
+use Rattle.memory.specs.Replay.{replay_entries, no_entry, before, entry_place, standing, is_listed, look_up, last_free, has_room, shifted_at, inserted}
 
 -- ---- before
 module _ (e : Entry) (src : ℕ) where
@@ -90,8 +87,6 @@ module _ (l : List Entry) (p : ℕ) (e : Entry) (i : ℕ) where
     unfolding shifted_at
     shift_above k = rw (le-ltb i p h, ne_eqb i p k)
 
-pub ruleset shift_rules = (shift_below, shift_here, shift_above)
-
 -- ---- an entry goes in
 module _ (l : List Entry) (e : Entry) where
   pub insert_zero : e.src ≡ 0 → l ≡ inserted l e
@@ -111,49 +106,3 @@ module _ (l : List Entry) (e : Entry) where
       pub insert_full : last_free l ≡ false → l ≡ inserted l e
       unfolding inserted
       insert_full t = rw (ne_eqb e.src 0 h, ← listed_is l e.src p ep, ne_eqb p.held.src e.src k, t)
-
--- ---- 9, and what is kept
-module _ (e : Entry) (pair : Pair) where
-  module _ (h : e.src ≡ 0) where
-    pub stale_none : false ≡ stale e pair
-    unfolding stale
-    stale_none = rw (eq-eqb e.src 0 h)
-
-    pub raise_none : pair ≡ raised e pair
-    unfolding raised
-    raise_none = rw (eq-eqb e.src 0 h)
-
-  module _ (h : e.src ≡ 0 → ⊥) where
-    pub stale_held : (n : Bool) → n ≡ newer pair e.pair → not n ≡ stale e pair
-    unfolding stale
-    stale_held n en = rw (ne_eqb e.src 0 h, en)
-
-    pub raise_held : (p : Pair) → p ≡ greater pair e.pair → p ≡ raised e pair
-    unfolding raised
-    raise_held p ep = rw (ne_eqb e.src 0 h, ep)
-
-pub ruleset stale_rules = (stale_none, stale_held)
-
-pub ruleset raise_rules = (raise_none, raise_held)
-
--- ---- the last segmented message handed up
-module _ (last : Last) (auth : Pair) (seg_n dst : ℕ) where
-  pub last_none : last.dst ≡ 0 → false ≡ is_last last auth seg_n dst
-  unfolding is_last
-  last_none h = rw (eq-eqb last.dst 0 h)
-
-  module _ (h1 : last.dst ≡ 0 → ⊥) (s : Bool) (e : s ≡ same_pair last.auth auth) where
-    pub last_other_pair : not s ≡ true → false ≡ is_last last auth seg_n dst
-    unfolding is_last
-    last_other_pair h = rw (ne_eqb last.dst 0 h1, ← e, not-true s h)
-
-    module _ (h2 : not s ≡ false) where
-      pub last_other_segn : (last.segn ≡ seg_n → ⊥) → false ≡ is_last last auth seg_n dst
-      unfolding is_last
-      last_other_segn h = rw (ne_eqb last.dst 0 h1, ← e, not-false s h2, ne_eqb last.segn seg_n h)
-
-      pub last_by_dst : last.segn ≡ seg_n → eqb last.dst dst ≡ is_last last auth seg_n dst
-      unfolding is_last
-      last_by_dst h = rw (ne_eqb last.dst 0 h1, ← e, not-false s h2, eq-eqb last.segn seg_n h)
-
-pub ruleset last_rules = (last_none, last_other_pair, last_other_segn, last_by_dst)

@@ -19,6 +19,7 @@ use Rattle.common.proofs.Lists.{length_tab, get_d_tab}
 use Rattle.common.proofs.Tests.{by_test, by_choice}
 use Rattle.memory.specs.declared.pair.Pair.{Pair}
 use Rattle.memory.specs.declared.replay.Entry.{Entry}
+use Rattle.memory.specs.declared.replay.Last.{Last}
 use Rattle.memory.specs.Pair.{newer, greater}
 use Rattle.memory.specs.Replay.{replay_entries, no_entry, no_entries, entry_place, standing, is_listed, look_up, last_free, has_room, shifted_at, inserted}
 use Rattle.memory.specs.Replay.{stale, raised, accepted_by, accepted, handed_up_by, handed_up, ReplayKept}
@@ -110,23 +111,23 @@ module _ (l : List Entry) (k : ReplayKept l) (src : ℕ) where
   unfolding accepted_by
   kept_accepted pair = kept_inserted l k _
 
-  module _ (auth : Pair) (seg_n dst : ℕ) where
-    pub kept_handed_up : ReplayKept (handed_up l src auth seg_n dst)
+  module _ (last : Last) where
+    pub kept_handed_up : ReplayKept (handed_up l src last)
     unfolding handed_up_by
     kept_handed_up = kept_inserted l k _
 
-    pub look_up_handed_up_other : (a : ℕ) → (a ≡ src → ⊥) → (a ≡ 0 → ⊥) → look_up (handed_up l src auth seg_n dst) a ≡ look_up l a
+    pub look_up_handed_up_other : (a : ℕ) → (a ≡ src → ⊥) → (a ≡ 0 → ⊥) → look_up (handed_up l src last) a ≡ look_up l a
     unfolding handed_up_by
     look_up_handed_up_other = look_up_inserted_other l k _
 
     -- of a source whose entry was not as new
     pub look_up_handed_up_new :
-        (src ≡ 0 → ⊥) → has_room l src ≡ true → stale (look_up l src) auth ≡ false
-        → look_up (handed_up l src auth seg_n dst) src ≡ record { src = src; pair = auth; last = record { auth = auth; segn = seg_n; dst = dst } }
+        (src ≡ 0 → ⊥) → has_room l src ≡ true → stale (look_up l src) last.auth ≡ false
+        → look_up (handed_up l src last) src ≡ record { src = src; pair = last.auth; last = last }
     unfolding handed_up_by
     look_up_handed_up_new some room old =
         look_up_inserted_own l k _ some room
-        ∙ ap (λ (p : Pair). record { src = src; pair = p; last = record { auth = auth; segn = seg_n; dst = dst } }) (raised_new (look_up l src) auth old)
+        ∙ ap (λ (p : Pair). record { src = src; pair = p; last = last }) (raised_new (look_up l src) last.auth old)
 
 -- ---- which sources have an entry
 -- what holds of each place's source, and of the one whose message was accepted or handed up
@@ -161,9 +162,9 @@ module _ (P : ℕ → Type 0) (l : List Entry) (each : (i : ℕ) → P (source_a
   unfolding accepted_by
   each_accepted src pair = each_inserted _
 
-  pub each_handed_up : (src : ℕ) (auth : Pair) (seg_n dst : ℕ) → P src → (i : ℕ) → P (source_at (handed_up l src auth seg_n dst) i)
+  pub each_handed_up : (src : ℕ) (last : Last) → P src → (i : ℕ) → P (source_at (handed_up l src last) i)
   unfolding handed_up_by
-  each_handed_up src auth seg_n dst = each_inserted _
+  each_handed_up src last = each_inserted _
 
 -- each is one of n
 abbrev pub Listed : ℕ → (ℕ → ℕ) → List Entry → Type 0
@@ -180,12 +181,12 @@ module _ (n : ℕ) (source : ℕ → ℕ) where
         ⊎_elim (λ e. inl (of a (λ q. z (sym e ∙ sym (ap (λ (x : Entry). x.src) (look_up_there l a e)) ∙ q)))) inr (looked_up l a)
 
     module _ (k : ReplayKept l) where
-      pub listed_handed_up : (src : ℕ) (auth : Pair) (seg_n dst m : ℕ) → m < n → src ≡ source m → Listed n source (handed_up l src auth seg_n dst)
-      listed_handed_up src auth seg_n dst m h e a z =
+      pub listed_handed_up : (src : ℕ) (last : Last) (m : ℕ) → m < n → src ≡ source m → Listed n source (handed_up l src last)
+      listed_handed_up src last m h e a z =
           by_test (eqb a src) (λ t. (m, h, eqb-true a src t ∙ e))
           (λ t.
-          let some : (a ≡ 0 → ⊥) = λ q. z (ap (λ (b : ℕ). (look_up (handed_up l src auth seg_n dst) b).src) q ∙ look_up_zero _) in
-          of a (λ q. z (ap (λ (x : Entry). x.src) (look_up_handed_up_other l k src auth seg_n dst a (eqb-false a src t) some) ∙ q)))
+          let some : (a ≡ 0 → ⊥) = λ q. z (ap (λ (b : ℕ). (look_up (handed_up l src last) b).src) q ∙ look_up_zero _) in
+          of a (λ q. z (ap (λ (x : Entry). x.src) (look_up_handed_up_other l k src last a (eqb-false a src t) some) ∙ q)))
 
       -- what stands at a place is one of them
       whose : (i : ℕ) → (m : ℕ) × (i < replay_entries → eqb (source_at l i) 0 ≡ false → (m < n) × (source_at l i ≡ source m))

@@ -3,23 +3,23 @@
 use mathlib.Core.Bool.{Bool, true}
 use mathlib.Core.List.{List}
 use mathlib.Core.Path.{◌≡◌, refl, subst}
+use Rattle.std.specs.Prelude.{Ok, Err}
 use Prim.Native.Nat.{ℕ, ◌≤◌, ◌<◌}
 use native.Mathlib.Omega.{arith}
 use lib.Dec.{eqb, ltb}
 use borrow.Author.Tests.{eqb-true, ltb-true, ltb-false}
 use Rattle.common.specs.Bits.{has_bit}
 use Rattle.common.proofs.Tests.{by_test, and_first, and_second}
-use Rattle.memory.specs.declared.decision.Decision.{Decision}
-use Rattle.memory.specs.declared.decision.Decision.TheVariants.{Repeat, Join, Open, Stale, Differs, NoEntryLeft, NoSlotLeft}
+use Rattle.memory.specs.declared.decision.Decision.TheVariants.{Repeat, Join, Open}
 use Rattle.memory.specs.declared.replay.Entry.{Entry}
 use Rattle.memory.specs.declared.session.Segment.{Segment}
 use Rattle.memory.specs.declared.session.Session.{Session}
 use Rattle.memory.specs.declared.session.SessionKey.{SessionKey}
 use Rattle.memory.specs.declared.session.Terms.{Terms}
-use Rattle.memory.specs.Decision.{joining, replacing, opening, decision_by, decision}
+use Rattle.memory.specs.Decision.{Decided, joining, replacing, opening, decision_by, decision}
 use Rattle.memory.specs.Pair.{newer, same_pair}
 use Rattle.memory.specs.Replay.{look_up, stale, has_room, is_last}
-use Rattle.memory.specs.Session.{session_slots, session_at, segment_key, session_place, free_place, slot_for, same_bit, same_terms}
+use Rattle.memory.specs.Session.{session_slots, session_at, segment_key, session_place, free_place, free_slot, slot_for, same_bit, same_terms}
 
 -- equal terms have one SegN
 pub same_last : (a b : Terms) → same_terms a b ≡ true → a.segn ≡ b.segn
@@ -54,17 +54,14 @@ opens_slot {sessions} {key} o =
     by_test (ltb own session_slots) (λ t. rw t (o.own (ltb-true own session_slots t))) (λ t. rw t (o.lowest (ltb-false own session_slots t)))
 
 -- the slot that a decision names is such a one
-abbrev pub Within : List Session → ℕ → Segment → Decision → Type 0
-Within sessions src seg (Repeat bits) = Unit {0}
-Within sessions src seg (Join slot) = Joins sessions src seg slot
-Within sessions src seg (Open slot) = Opens sessions (segment_key src seg) slot
-Within sessions src seg Stale = Unit {0}
-Within sessions src seg Differs = Unit {0}
-Within sessions src seg NoEntryLeft = Unit {0}
-Within sessions src seg NoSlotLeft = Unit {0}
+abbrev pub Within : List Session → ℕ → Segment → Decided → Type 0
+Within sessions src seg (Ok (Repeat bits)) = Unit {0}
+Within sessions src seg (Ok (Join slot)) = Joins sessions src seg slot
+Within sessions src seg (Ok (Open slot)) = Opens sessions (segment_key src seg) slot
+Within sessions src seg (Err refusal) = Unit {0}
 
 module _ (replay : List Entry) (sessions : List Session) (src : ℕ) (seg : Segment) where
-  abbrev Here : Decision → Type 0
+  abbrev Here : Decided → Type 0
   Here d = Within sessions src seg d
 
   abbrev own : ℕ
@@ -95,7 +92,7 @@ module _ (replay : List Entry) (sessions : List Session) (src : ℕ) (seg : Segm
         (λ t. by_test (newer held.auth seg.auth) (λ u. rw (t, u) (tt {0}))
         (λ u. by_test room (λ v. rw (t, u, v) (record { within = h; own = λ k. refl; lowest = λ k. absurd (omega arith) })) (λ v. rw (t, u, v) (tt {0}))))
 
-    opening_within : session_slots ≤ own → Here (opening entry (free_place sessions) room seg.auth)
+    opening_within : session_slots ≤ own → Here (opening entry (free_slot sessions) room seg.auth)
     unfolding opening
     opening_within h =
         let free = free_place sessions in
@@ -110,14 +107,14 @@ module _ (replay : List Entry) (sessions : List Session) (src : ℕ) (seg : Segm
   unfolding decision_by
   decision_within =
       let room = has_room replay src in
-      by_test (is_last entry.last seg.auth seg.terms.segn seg.terms.dst) (λ t. rw t (tt {0}))
+      by_test (is_last entry.last (record { auth = seg.auth; segn = seg.terms.segn; dst = seg.terms.dst })) (λ t. rw t (tt {0}))
       (λ t. by_test (ltb own session_slots)
       (λ u. let h = ltb-true own session_slots u in
       by_test (same_pair held.auth seg.auth) (λ v. rw (t, u, v) (joining_within room h)) (λ v. rw (t, u, v) (replacing_within room h)))
       (λ u. rw (t, u) (opening_within room (ltb-false own session_slots u))))
 
-  pub join_within : (slot : ℕ) → decision replay sessions src seg ≡ Join slot → slot < session_slots
+  pub join_within : (slot : ℕ) → decision replay sessions src seg ≡ Ok (Join slot) → slot < session_slots
   join_within slot e = let w : Joins sessions src seg slot = subst (Within sessions src seg) e decision_within in w.within
 
-  pub open_within : (slot : ℕ) → decision replay sessions src seg ≡ Open slot → slot < session_slots
+  pub open_within : (slot : ℕ) → decision replay sessions src seg ≡ Ok (Open slot) → slot < session_slots
   open_within slot e = let w : Opens sessions (segment_key src seg) slot = subst (Within sessions src seg) e decision_within in w.within

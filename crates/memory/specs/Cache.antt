@@ -26,7 +26,7 @@ seen_of h = record { src = h.src; seq = h.seq; iv = h.iv }
 
 -- one and the same
 abbrev pub same_seen : Seen → Seen → Bool
-same_seen a b = eqb a.src b.src && eqb a.seq b.seq && eqb a.iv b.iv
+same_seen a b = eqb a.src b.src && (eqb a.seq b.seq && eqb a.iv b.iv)
 
 -- one of the entries is it
 unfoldable pub seen : Cache → Header → Bool

@@ -4,9 +4,9 @@
 --   has_room l src                   not 11: the source has an entry, or not all 32 are used
 --   inserted l e                     the list with an entry more, or with its source's replaced
 --   stale e pair                     9: the entry is newer or equal
---   is_last last auth seg_n dst      a segment of the last segmented message handed up
+--   is_last last message             it is the last segmented message handed up
 --   accepted l src pair              the list after a whole message was accepted
---   handed_up l src auth seg_n dst   the list after a segmented message was handed up
+--   handed_up l src last             the list after a segmented message was handed up
 --   Listing                          a list's operations; `ascending` are those of this one
 --   ReplayKept l                     all its places are there, and they ascend
 --   EndsThere                        so a source's entry is found
@@ -94,8 +94,8 @@ unfoldable pub raised : Entry → Pair → Pair
 raised e pair = if eqb e.src 0 then pair else greater pair e.pair
 
 -- the same SeqAuth, SegN and DST
-unfoldable pub is_last : Last → Pair → ℕ → ℕ → Bool
-is_last last auth seg_n dst = not (eqb last.dst 0) && same_pair last.auth auth && (eqb last.segn seg_n && eqb last.dst dst)
+unfoldable pub is_last : Last → Last → Bool
+is_last last message = not (eqb last.dst 0) && same_pair last.auth message.auth && (eqb last.segn message.segn && eqb last.dst message.dst)
 
 -- ---- what uses the list takes its operations: so another list's receiver is the same definitions
 pub record Listing : Type 0 where
@@ -113,16 +113,16 @@ accepted_by by l src pair =
     by.inserted l (record { src = src; pair = raised (by.look_up l src) pair; last = (by.look_up l src).last })
 
 -- a segmented message is handed up: it is kept with the entry
-unfoldable pub handed_up_by : Listing → List Entry → ℕ → Pair → ℕ → ℕ → List Entry
-handed_up_by by l src auth seg_n dst =
-    by.inserted l (record { src = src; pair = raised (by.look_up l src) auth; last = record { auth = auth; segn = seg_n; dst = dst } })
+unfoldable pub handed_up_by : Listing → List Entry → ℕ → Last → List Entry
+handed_up_by by l src last =
+    by.inserted l (record { src = src; pair = raised (by.look_up l src) last.auth; last = last })
 
 -- by the list that the receiver has
 abbrev pub accepted : List Entry → ℕ → Pair → List Entry
 accepted l src pair = accepted_by ascending l src pair
 
-abbrev pub handed_up : List Entry → ℕ → Pair → ℕ → ℕ → List Entry
-handed_up l src auth seg_n dst = handed_up_by ascending l src auth seg_n dst
+abbrev pub handed_up : List Entry → ℕ → Last → List Entry
+handed_up l src last = handed_up_by ascending l src last
 
 -- ---- what holds of every list that is kept so
 -- a place that is used has only used places before it, of lesser sources

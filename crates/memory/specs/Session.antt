@@ -2,6 +2,7 @@
 --   session_key s, segment_key src seg   the key of a session, and of the session that a segment is for
 --   session_place l key                  the slot of the session with that key
 --   free_place l                         the lowest free slot
+--   session_slot l key, free_slot l      the same, where there is one
 --   slot_for l key                       the slot that a segment with that key goes to
 --   SessionsApart l                      no two sessions have one key
 --   same_terms a b                       not 10: equal in CTL, octet 0, SZMIC, SegN, DST and opening key
@@ -9,7 +10,7 @@
 --   stored s h seg_o                     the session with a segment in its place
 --   complete s                           no segment is missing
 --   block_ack s                          bits 0 to SegN report places filled
-use Rattle.std.specs.Prelude.{Bool, true, false, ◌&&◌, List, [], ◌++◌, ◌≡◌, ℕ, ◌+◌, ◌*◌, ◌%◌, ◌<◌, eqb, ltb, length, get_or, take, drop, replicate, if◌then◌else◌}
+use Rattle.std.specs.Prelude.{Bool, true, false, ◌&&◌, List, [], ◌++◌, ◌≡◌, ℕ, ◌+◌, ◌*◌, ◌%◌, ◌<◌, eqb, ltb, Option, Some, None, length, get_or, take, drop, replicate, if◌then◌else◌}
 use Rattle.common.specs.Bits.{with_bit, all_bits}
 use Rattle.common.specs.Lists.{onto}
 use Rattle.common.specs.Search.{first}
@@ -66,6 +67,16 @@ is_free s = no_key (session_key s)
 -- the lowest of them; the number of slots where there is none
 unfoldable pub free_place : List Session → ℕ
 free_place l = first is_free l
+
+-- a slot, where there is one
+abbrev pub slot_at : ℕ → Option ℕ
+slot_at n = if ltb n session_slots then Some n else None
+
+abbrev pub session_slot : List Session → SessionKey → Option ℕ
+session_slot l k = slot_at (session_place l k)
+
+abbrev pub free_slot : List Session → Option ℕ
+free_slot l = slot_at (free_place l)
 
 -- a new session takes the lowest free slot, a replacing one its source's slot, where a segment joins too
 unfoldable pub slot_for : List Session → SessionKey → ℕ

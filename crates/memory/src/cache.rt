@@ -1,15 +1,15 @@
 // The message cache: what was heard lately, by SRC, SEQ and IV Index. A full cache replaces its oldest entry.
 ghost use Rattle.std.specs.Prelude.{◌≡◌};
-ghost use Rattle.common.specs.Search.{first};
-ghost use Rattle.memory.specs.Cache.{no_cache, seen_of, same_seen, seen, remembered};
+ghost use Rattle.memory.specs.Cache.{no_cache, seen_of, seen, remembered};
 
 use network::header::Header;
 
 // How many entries there are.
 pub const ENTRIES: usize = 16;
 
-// A cache entry; SRC 0 marks an empty place.
-#[derive(Clone, Copy)]
+// A cache entry; SRC 0 marks an empty place. It is no Option: a cache that a caller passes may hold anything beside SRC 0, and what is promised holds of
+// that too.
+#[derive(Clone, Copy, PartialEq, Eq)]
 pub struct Seen {
     pub src: u16,
     pub seq: u32,
@@ -49,42 +49,15 @@ fn entry(h: Header) -> Seen
     }
 }
 
-// Whether two entries are of one and the same PDU.
-fn same(a: Seen, b: Seen) -> bool
-    ensures { result ≡ same_seen a b }
-{
-    if a.src != b.src {
-        return false;
-    }
-    if a.seq != b.seq {
-        return false;
-    }
-    a.iv == b.iv
-}
-
-// The place of an entry, or their number.
-fn place(entries: [Seen; ENTRIES], x: Seen) -> usize
-    ensures { result ≡ first (λ e. same_seen e x) entries }
-{
-    let mut i: usize = 0;
-    while i < ENTRIES {
-        if same(entries[i], x) {
-            return i;
-        }
-        i += 1;
-    }
-    ENTRIES
-}
-
 // Whether a PDU with this header is in the cache.
 pub fn is_seen(cache: Cache, h: Header) -> bool
     ensures { result ≡ seen cache h }
 {
-    let entries = cache.entries;
-    place(entries, entry(h)) < ENTRIES
+    cache.entries.contains(&entry(h))
 }
 
 // The cache with the PDU of this header as its newest entry.
+#[tactic(auto, unfolding(crate::specs::Cache::remembered))]
 pub fn remember(cache: Cache, h: Header) -> Cache
     ensures { result ≡ remembered cache h }
 {

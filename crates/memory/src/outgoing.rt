@@ -6,7 +6,7 @@ use super::pair::Pair;
 use super::session::{MESSAGE, Terms};
 use network::header::Header;
 
-// SRC 0 marks that none is kept.
+// SRC 0 marks that none is kept. It is no Option: a caller may pass one with SRC 0 and anything beside it, and what is promised holds of that too.
 #[derive(Clone, Copy)]
 pub struct Outgoing {
     // The sending element's address.
@@ -17,13 +17,13 @@ pub struct Outgoing {
     pub ttl: u8,
     // Bit SegO is set where that segment was heard.
     pub heard: u32,
-    // The octets of the whole message.
+    // How many octets the whole message has. It stands beside them, as there is no heap.
     pub len: usize,
     pub bytes: [u8; MESSAGE],
 }
 
 // What a heard acknowledgement does.
-#[derive(Clone, Copy)]
+#[derive(Clone, Copy, PartialEq, Eq)]
 pub enum Effect {
     // It fits nothing, or marks nothing new.
     Nothing,
@@ -57,35 +57,26 @@ pub fn none() -> Outgoing
 }
 
 // Whether an acknowledgement is for the message that is kept.
+#[tactic(auto, unfolding(crate::specs::Outgoing::fits_outgoing))]
 fn fits(out: Outgoing, h: Header, obo: bool, seqzero: u16) -> bool
     ensures { result ≡ fits_outgoing out h obo seqzero }
 {
-    let auth = out.auth;
-    let terms = out.terms;
-    if out.src == 0 {
-        return false;
-    }
-    if h.dst != out.src {
-        return false;
-    }
-    if seqzero as u32 != auth.seq % 8192 {
-        return false;
-    }
-    if obo {
-        return true;
-    }
-    h.src == terms.dst
+    out.src != 0
+        && h.dst == out.src
+        && seqzero as u32 == out.auth.seq % 8192
+        && (obo || h.src == out.terms.dst)
 }
 
 // The segments heard so far and those of a BlockAck; bits above SegN are ignored.
+#[tactic(auto, unfolding(crate::specs::Outgoing::heard_with))]
 fn heard_with(out: Outgoing, bits: u32) -> u32
     ensures { result ≡ heard_with out bits }
 {
-    let terms = out.terms;
-    out.heard | (bits & common::bits::all(terms.segn as u32))
+    out.heard | (bits & common::bits::all(out.terms.segn as u32))
 }
 
 // What a heard acknowledgement does to the message that is kept.
+#[tactic(auto, unfolding(crate::specs::Outgoing::acknowledging))]
 pub fn acknowledge(out: Outgoing, h: Header, obo: bool, seqzero: u16, bits: u32) -> Acknowledged
     ensures { result ≡ acknowledging out h obo seqzero bits }
 {
@@ -95,8 +86,7 @@ pub fn acknowledge(out: Outgoing, h: Header, obo: bool, seqzero: u16, bits: u32)
             out,
         };
     }
-    let terms = out.terms;
-    let all = common::bits::all(terms.segn as u32);
+    let all = common::bits::all(out.terms.segn as u32);
     if bits == 0 {
         return Acknowledged {
             effect: Effect::Cancelled,
@@ -116,10 +106,8 @@ pub fn acknowledge(out: Outgoing, h: Header, obo: bool, seqzero: u16, bits: u32)
             out,
         };
     }
-    let mut after = out;
-    after.heard = heard;
     Acknowledged {
         effect: Effect::Marked,
-        out: after,
+        out: Outgoing { heard, ..out },
     }
 }

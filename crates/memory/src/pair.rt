@@ -2,39 +2,33 @@
 ghost use Rattle.std.specs.Prelude.{◌≡◌};
 ghost use Rattle.memory.specs.Pair.{newer, same_pair, greater};
 
-// An IV Index and a sequence number: those of a whole message, or the SeqAuth of a segmented one.
-#[derive(Clone, Copy)]
+// An IV Index and a sequence number: those of a whole message, or the SeqAuth of a segmented one. The order of the fields is the order of pairs.
+#[derive(Clone, Copy, PartialEq, Eq, PartialOrd, Ord)]
 pub struct Pair {
     pub iv: u32,
     pub seq: u32,
 }
 
 // Whether a is greater than b.
+#[tactic(auto, unfolding(crate::specs::Pair::newer))]
 pub fn is_newer(a: Pair, b: Pair) -> bool
     ensures { result ≡ newer a b }
 {
-    if a.iv == b.iv {
-        return b.seq < a.seq;
-    }
-    b.iv < a.iv
+    a > b
 }
 
 // Whether a and b are the same pair.
+#[tactic(auto, unfolding(crate::specs::Pair::same_pair))]
 pub fn same(a: Pair, b: Pair) -> bool
     ensures { result ≡ same_pair a b }
 {
-    if a.iv == b.iv {
-        return a.seq == b.seq;
-    }
-    false
+    a == b
 }
 
 // The greater of the two.
+#[tactic(auto, unfolding(crate::specs::Pair::greater, crate::specs::Pair::newer))]
 pub fn max(a: Pair, b: Pair) -> Pair
     ensures { result ≡ greater a b }
 {
-    if is_newer(a, b) {
-        return a;
-    }
-    b
+    a.max(b)
 }

@@ -9,15 +9,16 @@ use super::pair::Pair;
 // How many entries there are.
 pub const ENTRIES: usize = 32;
 
-// The last segmented message of a source that was handed up; DST 0 marks that there is none.
-#[derive(Clone, Copy)]
+// The last segmented message of a source that was handed up; DST 0 marks that there is none. It is no Option, as an entry is none.
+#[derive(Clone, Copy, PartialEq, Eq)]
 pub struct Last {
     pub auth: Pair,
     pub segn: u8,
     pub dst: u16,
 }
 
-// A replay entry; SRC 0 marks an empty place.
+// A replay entry; SRC 0 marks an empty place. It is no Option: a list that a caller passes may hold anything beside SRC 0, and what is promised holds of
+// that too.
 #[derive(Clone, Copy)]
 pub struct Entry {
     pub src: u16,
@@ -41,14 +42,11 @@ pub fn none() -> Entry
 }
 
 // Whether an entry stands before a source; an empty place stands behind all.
+#[tactic(auto, unfolding(crate::specs::Replay::before))]
 fn is_before(e: Entry, src: u16) -> bool
     ensures { result ≡ before src e }
 {
-    let empty = e.src == 0;
-    if empty {
-        return false;
-    }
-    e.src < src
+    e.src != 0 && e.src < src
 }
 
 // A place, and what stands there; nothing stands behind the last.
@@ -58,7 +56,8 @@ struct Place {
     held: Entry,
 }
 
-// Where a source's entry stands, or would stand. At most six places are looked at.
+// Where a source's entry stands, or would stand. At most six places are looked at. A loop of its own: what is promised holds of any list, and of one that is
+// not in order the library's `partition_point` promises nothing.
 fn find(replay: [Entry; ENTRIES], src: u16) -> Place
     ensures { result ≡ standing replay src }
 {
@@ -83,11 +82,11 @@ fn find(replay: [Entry; ENTRIES], src: u16) -> Place
 }
 
 // A source's entry, or an empty one.
+#[tactic(auto, unfolding(crate::specs::Replay::look_up, crate::specs::Replay::is_listed))]
 pub fn look_up(replay: [Entry; ENTRIES], src: u16) -> Entry
     ensures { result ≡ look_up replay src }
 {
-    let found = find(replay, src);
-    let e = found.held;
+    let e = find(replay, src).held;
     if e.src == src {
         return e;
     }
@@ -95,29 +94,24 @@ pub fn look_up(replay: [Entry; ENTRIES], src: u16) -> Entry
 }
 
 // Whether the entry is as new as a pair, or newer.
+#[tactic(auto, unfolding(crate::specs::Replay::stale))]
 pub fn is_stale(e: Entry, pair: Pair) -> bool
     ensures { result ≡ stale e pair }
 {
-    if e.src == 0 {
-        return false;
-    }
-    !super::pair::is_newer(pair, e.pair)
+    e.src != 0 && !super::pair::is_newer(pair, e.pair)
 }
 
 // Whether the source has an entry, or there is a place for one.
+#[tactic(auto, unfolding(crate::specs::Replay::has_room, crate::specs::Replay::is_listed, crate::specs::Replay::last_free))]
 pub fn has_room(replay: [Entry; ENTRIES], src: u16) -> bool
     ensures { result ≡ has_room replay src }
 {
     let there = find(replay, src);
-    let held = there.held;
-    if held.src == src {
-        return true;
-    }
-    let last = replay[ENTRIES - 1];
-    last.src == 0
+    there.held.src == src || replay[ENTRIES - 1].src == 0
 }
 
 // What stands at place i when e has gone in at place p.
+#[tactic(auto, unfolding(crate::specs::Replay::shifted_at))]
 fn shifted(replay: [Entry; ENTRIES], p: usize, e: Entry, i: usize) -> Entry
     requires { i < replay_entries }
     ensures { result ≡ shifted_at replay p e i }
@@ -131,15 +125,14 @@ fn shifted(replay: [Entry; ENTRIES], p: usize, e: Entry, i: usize) -> Entry
     replay[i - 1]
 }
 
-// The list with an entry gone in at place p: those from there on move up by one.
+// The list with an entry gone in at place p: those from there on move up by one. A loop that writes place by place: by `array::from_fn` the proof of the 32
+// places does not close.
 fn shift(replay: [Entry; ENTRIES], p: usize, e: Entry) -> [Entry; ENTRIES]
     ensures { result ≡ tab (shifted_at replay p e) replay_entries }
 {
     let mut after = replay;
-    let mut i: usize = 0;
-    while i < ENTRIES {
+    for i in 0..ENTRIES {
         after[i] = shifted(replay, p, e, i);
-        i += 1;
     }
     after
 }
@@ -153,20 +146,18 @@ fn insert(replay: [Entry; ENTRIES], e: Entry) -> [Entry; ENTRIES]
         return after;
     }
     let found = find(replay, e.src);
-    let p = found.at;
-    let held = found.held;
-    if held.src == e.src {
-        after[p] = e;
+    if found.held.src == e.src {
+        after[found.at] = e;
         return after;
     }
-    let end = replay[ENTRIES - 1];
-    if end.src == 0 {
-        return shift(replay, p, e);
+    if replay[ENTRIES - 1].src == 0 {
+        return shift(replay, found.at, e);
     }
     after
 }
 
 // The greater of the entry's pair and this one.
+#[tactic(auto, unfolding(crate::specs::Replay::raised))]
 fn raise(e: Entry, pair: Pair) -> Pair
     ensures { result ≡ raised e pair }
 {
@@ -176,51 +167,37 @@ fn raise(e: Entry, pair: Pair) -> Pair
     super::pair::max(pair, e.pair)
 }
 
-// Whether a segment with this SeqAuth, SegN and DST is of the last segmented message handed up.
-pub fn is_last(last: Last, auth: Pair, segn: u8, dst: u16) -> bool
-    ensures { result ≡ is_last last auth segn dst }
+// Whether a message with this SeqAuth, SegN and DST is the last segmented message handed up.
+#[tactic(auto, unfolding(crate::specs::Replay::is_last, crate::specs::Pair::same_pair))]
+pub fn is_last(last: Last, message: Last) -> bool
+    ensures { result ≡ is_last last message }
 {
-    if last.dst == 0 {
-        return false;
-    }
-    if !super::pair::same(last.auth, auth) {
-        return false;
-    }
-    if last.segn != segn {
-        return false;
-    }
-    last.dst == dst
+    last.dst != 0 && last == message
 }
 
 // The list after a whole message of a source was accepted.
+#[tactic(auto, unfolding(crate::specs::Replay::accepted_by))]
 pub fn accept(replay: [Entry; ENTRIES], src: u16, pair: Pair) -> [Entry; ENTRIES]
     ensures { result ≡ accepted replay src pair }
 {
     let e = look_up(replay, src);
-    let last = e.last;
     let raised = raise(e, pair);
     insert(
         replay,
         Entry {
             src,
             pair: raised,
-            last,
+            last: e.last,
         },
     )
 }
 
 // The list after a segmented message of a source was handed up.
-pub fn hand_up(
-    replay: [Entry; ENTRIES],
-    src: u16,
-    auth: Pair,
-    segn: u8,
-    dst: u16,
-) -> [Entry; ENTRIES]
-    ensures { result ≡ handed_up replay src auth segn dst }
+#[tactic(auto, unfolding(crate::specs::Replay::handed_up_by))]
+pub fn hand_up(replay: [Entry; ENTRIES], src: u16, last: Last) -> [Entry; ENTRIES]
+    ensures { result ≡ handed_up replay src last }
 {
-    let raised = raise(look_up(replay, src), auth);
-    let last = Last { auth, segn, dst };
+    let raised = raise(look_up(replay, src), last.auth);
     insert(
         replay,
         Entry {

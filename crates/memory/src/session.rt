@@ -1,7 +1,7 @@
 // A session gathers the segments of one message of one source.
 ghost use Rattle.std.specs.Prelude.{◌≡◌, ◌++◌, ◌+◌, ◌≤◌, length, take, drop};
 ghost use Rattle.common.specs.Lists.{onto};
-ghost use Rattle.memory.specs.Session.{no_session, segment_key, session_place, free_place, same_terms, begun, octet_place, segment_octets, length_with, stored, complete};
+ghost use Rattle.memory.specs.Session.{no_session, segment_key, session_slot, free_slot, same_terms, begun, octet_place, segment_octets, length_with, stored, complete};
 
 use super::pair::Pair;
 use network::header::Header;
@@ -13,7 +13,7 @@ pub const SLOTS: usize = 8;
 pub const MESSAGE: usize = transport::securing::MESSAGE;
 
 // What all segments of a message share: a segment that joins a session may differ in none of it.
-#[derive(Clone, Copy)]
+#[derive(Clone, Copy, PartialEq, Eq)]
 pub struct Terms {
     pub ctl: bool,
     // Octet 0 of the transport PDU: SEG, then AKF and AID, or the opcode.
@@ -40,7 +40,7 @@ pub struct SessionKey {
     pub src: u16,
 }
 
-// SRC 0 marks a free slot.
+// SRC 0 marks a free slot. It is no Option: a caller may pass a slot with SRC 0 and anything beside it, and what is promised holds of that too.
 #[derive(Clone, Copy)]
 pub struct Session {
     pub src: u16,
@@ -48,7 +48,7 @@ pub struct Session {
     pub terms: Terms,
     // Bit SegO is set where that segment has come.
     pub filled: u32,
-    // The octets of the whole message, known when its last segment has come.
+    // How many octets the whole message has, known when its last segment has come. It stands beside them, as there is no heap.
     pub len: usize,
     pub bytes: [u8; MESSAGE],
 }
@@ -84,79 +84,46 @@ pub(crate) fn key_for(src: u16, seg: Segment) -> SessionKey
     SessionKey { src }
 }
 
-// The slot of the session with this key, or the number of slots.
-pub fn place(sessions: [Session; SLOTS], key: SessionKey) -> usize
-    ensures { result ≡ session_place sessions key }
+// The slot of the session with this key.
+pub fn place(sessions: [Session; SLOTS], key: SessionKey) -> Option<usize>
+    ensures { result ≡ session_slot sessions key }
 {
-    let mut i: usize = 0;
-    while i < SLOTS {
-        let s = sessions[i];
-        if s.src == key.src {
-            return i;
-        }
-        i += 1;
-    }
-    SLOTS
+    sessions.iter().position(|s| s.src == key.src)
 }
 
-// The lowest free slot, or the number of slots.
-pub(crate) fn free(sessions: [Session; SLOTS]) -> usize
-    ensures { result ≡ free_place sessions }
+// The lowest free slot.
+pub(crate) fn free(sessions: [Session; SLOTS]) -> Option<usize>
+    ensures { result ≡ free_slot sessions }
 {
-    let mut slot: usize = 0;
-    while slot < SLOTS {
-        let s = sessions[slot];
-        if s.src == 0 {
-            return slot;
-        }
-        slot += 1;
-    }
-    SLOTS
+    sessions.iter().position(|s| s.src == 0)
 }
 
 // Whether two segments share what those of one message do.
+#[tactic(auto, unfolding(crate::specs::Session::same_terms))]
 pub fn same_terms(a: Terms, b: Terms) -> bool
     ensures { result ≡ same_terms a b }
 {
-    if a.ctl != b.ctl {
-        return false;
-    }
-    if a.first != b.first {
-        return false;
-    }
-    if a.szmic != b.szmic {
-        return false;
-    }
-    if a.segn != b.segn {
-        return false;
-    }
-    if a.dst != b.dst {
-        return false;
-    }
-    a.key == b.key
+    a == b
 }
 
 // A session with nothing stored yet: every octet is zero.
 pub fn begin(src: u16, seg: Segment) -> Session
     ensures { result ≡ begun src seg }
 {
-    let auth = seg.auth;
-    let terms = seg.terms;
-    let mut s = none();
-    s.src = src;
-    s.auth = auth;
-    s.terms = terms;
-    s
+    Session {
+        src,
+        auth: seg.auth,
+        terms: seg.terms,
+        ..none()
+    }
 }
 
 // Where the octets of segment SegO begin.
+#[tactic(auto, unfolding(crate::specs::Session::octet_place))]
 fn octet_place(ctl: bool, sego: u8) -> usize
     ensures { result ≡ octet_place ctl sego }
 {
-    if ctl {
-        return (sego % 32) as usize * 8;
-    }
-    (sego % 32) as usize * 12
+    (sego % 32) as usize * transport::segment::full_octets(ctl)
 }
 
 // How far the octets of a segment go in its transport PDU; they begin at 4.
@@ -164,13 +131,7 @@ fn octets_end(transport: [u8; 16], len: usize) -> usize
     ensures exact { result ≡ 4 + length (drop 4 (take len transport)) }
     ensures within { result ≤ 16 }
 {
-    if len < 4 {
-        return 4;
-    }
-    if 16 < len {
-        return 16;
-    }
-    len
+    len.clamp(4, 16)
 }
 
 // The message's octets with those of a segment in their place.
@@ -179,9 +140,8 @@ fn put_octets(bytes: [u8; MESSAGE], at: usize, h: Header) -> [u8; MESSAGE]
     ensures { result ≡ take at bytes ++ onto (segment_octets h) (drop at bytes) }
 {
     let mut after = bytes;
-    let t = h.transport;
-    let n = octets_end(t, h.len);
-    common::copy(&t[4..n], &mut after[at..]);
+    let n = octets_end(h.transport, h.len);
+    common::copy(&h.transport[4..n], &mut after[at..]);
     after
 }
 
@@ -189,10 +149,8 @@ fn put_octets(bytes: [u8; MESSAGE], at: usize, h: Header) -> [u8; MESSAGE]
 fn len_with(s: Session, h: Header, sego: u8) -> usize
     ensures { result ≡ length_with s h sego }
 {
-    let terms = s.terms;
-    if sego == terms.segn {
-        let t = h.transport;
-        return octet_place(terms.ctl, sego) + (octets_end(t, h.len) - 4);
+    if sego == s.terms.segn {
+        return octet_place(s.terms.ctl, sego) + (octets_end(h.transport, h.len) - 4);
     }
     s.len
 }
@@ -201,20 +159,18 @@ fn len_with(s: Session, h: Header, sego: u8) -> usize
 pub fn store(s: Session, h: Header, sego: u8) -> Session
     ensures { result ≡ stored s h sego }
 {
-    let terms = s.terms;
-    let bytes = s.bytes;
-    let after = put_octets(bytes, octet_place(terms.ctl, sego), h);
-    let mut t = s;
-    t.filled = common::bits::with(s.filled, sego as u32);
-    t.len = len_with(s, h, sego);
-    t.bytes = after;
-    t
+    Session {
+        filled: common::bits::with(s.filled, sego as u32),
+        len: len_with(s, h, sego),
+        bytes: put_octets(s.bytes, octet_place(s.terms.ctl, sego), h),
+        ..s
+    }
 }
 
 // Whether no segment is missing.
+#[tactic(auto, unfolding(crate::specs::Session::complete))]
 pub fn is_complete(s: Session) -> bool
     ensures { result ≡ complete s }
 {
-    let terms = s.terms;
-    s.filled == common::bits::all(terms.segn as u32)
+    s.filled == common::bits::all(s.terms.segn as u32)
 }

@@ -1,9 +1,9 @@
 -- Additional data, chained: the blocks of a list are its first sixteen octets and the blocks of the rest, so behind the two octets of length the first block has
--- fourteen octets of data. Key laws: `blocks_first`; `data_none`, `data_short`, `data_rest`; `octet_length`, `octet_behind`.
+-- fourteen octets of data. Key laws: `blocks_first`; `data_none`, `data_short`, `data_rest`.
 -- Assumes nothing.
 use mathlib.Core.Path.{◌≡◌, refl, sym, ap, ◌∙◌}
-use mathlib.Core.List.{List, [], ◌∷◌, ◌++◌}
-use Prim.Native.Nat.{ℕ, zero, suc, ◌+◌, ◌-◌, ◌*◌, ◌/◌, ◌%◌, ◌≤◌, ◌<◌}
+use mathlib.Core.List.{List, [], ◌∷◌}
+use Prim.Native.Nat.{ℕ, zero, suc, ◌+◌, ◌-◌, ◌*◌, ◌≤◌, ◌<◌}
 use native.Mathlib.Omega.{arith}
 use borrow.Author.Tests.{eq-eqb, ne_eqb}
 use lib.ListN.{length, get_or, take, drop, length-drop}
@@ -14,7 +14,7 @@ use Rattle.common.proofs.Lists.{length_tab, get_d_tab, tab_is, tab_ext}
 use Rattle.aes.specs.Cipher.{cipher}
 use Rattle.modes.specs.Chain.{block_of, blocks, chain}
 use Rattle.modes.specs.Ccm.{data_octets, data_blocks}
-use Rattle.modes.proofs.Blocks.{zero_padded, get_d_chunk, xored_whole}
+use Rattle.modes.proofs.Blocks.{get_d_chunk}
 
 -- ---- the first block and the others
 block_first : (m : List ℕ) → padded 16 m ≡ block_of m 0
@@ -56,9 +56,9 @@ module _ (ks : List (List ℕ)) (x a : List ℕ) where
     data_whole = rw (ne_eqb (length a) 0 some) (ap (chain ks x) (blocks_first (data_octets a) (omega arith)))
 
     -- the first block b, chained to y as the code does it
-    module _ (b z y : List ℕ) (eb : b ≡ padded 16 (data_octets a)) (ez : z ≡ xored 16 x (drop 0 (b ++ (0 ∷ [])))) (ey : y ≡ cipher ks z) where
+    module _ (b z y : List ℕ) (eb : b ≡ padded 16 (data_octets a)) (ez : z ≡ xored 16 x b) (ey : y ≡ cipher ks z) where
       first_chained : y ≡ cipher ks (xored 16 x (padded 16 (data_octets a)))
-      first_chained = ey ∙ ap (cipher ks) (ez ∙ xored_whole x b ∙ ap (xored 16 x) eb)
+      first_chained = ey ∙ ap (cipher ks) (ez ∙ ap (xored 16 x) eb)
 
       goes_on_law : chain ks y (blocks (drop 14 a)) ≡ chain ks x (data_blocks a)
       goes_on_law = ap (λ (w : List ℕ). chain ks w (blocks (drop 14 a))) first_chained ∙ data_whole
@@ -69,12 +69,3 @@ module _ (ks : List (List ℕ)) (x a : List ℕ) where
 
       pub data_rest : (k : ℕ) (r : List ℕ) → k ≡ length a - 14 → r ≡ chain ks y (blocks (take k (drop 14 a))) → r ≡ chain ks x (data_blocks a)
       data_rest k r ek er = er ∙ ap (λ (l : List ℕ). chain ks y (blocks l)) (take_all k (drop 14 a) (omega (arith, length-drop 14 a))) ∙ goes_on_law
-
--- ---- the octets that are authenticated
-pub octet_length : (a : List ℕ) (j : ℕ) → j < 2 → get_or (length a / 256 ∷ length a % 256 ∷ []) j 0 ≡ get_or (data_octets a) j 0
-octet_length a zero h = refl
-octet_length a (suc zero) h = refl
-octet_length a (suc (suc j)) h = absurd (omega arith)
-
-pub octet_behind : (a : List ℕ) (j : ℕ) {v : ℕ} → 2 ≤ j → v ≡ get_or (a ++ (0 ∷ [])) (j - 2) 0 → v ≡ get_or (data_octets a) j 0
-octet_behind a j h e = let two : suc (suc (j - 2)) ≡ j = omega arith in e ∙ zero_padded a (j - 2) ∙ ap (λ (k : ℕ). get_or (data_octets a) k 0) two

@@ -4,10 +4,8 @@
 --   unicast_..                     0x0001-0x7FFF are unicast, and no others
 --   reserved_some, _not_unicast    a reserved address is not 0 and not unicast
 --   not_reserved                   one of another kind is not reserved
---   reserved_told, _untold         what the code answers, by the variant of its kind
 --   addresses_allowed_law          a unicast SRC and a DST that may be sent to are allowed
 --   allowed_source, allowed_some   where they are allowed, SRC is unicast and DST is not 0
---   allowed_by_kind, allowed_not   what the code answers, by its test of SRC
 use mathlib.Core.Bool.{Bool, true, false, false≢true}
 use mathlib.Core.Logic.{inl, inr}
 use mathlib.Core.Path.{◌≡◌, refl, sym, ap, ◌∙◌, subst}
@@ -70,13 +68,6 @@ pub unicast_some : (a : ℕ) → is_unicast a ≡ true → a ≡ 0 → ⊥
 unicast_some a u e = let b = (unicast_bounds a u).0 in omega arith
 
 -- ---- reserved
-untold : (k : AddressKind) → (k ≡ Reserved → ⊥) → false ≡ reserved_kind k
-untold Unassigned n = refl
-untold Unicast n = refl
-untold Virtual n = refl
-untold Group n = refl
-untold Reserved n = absurd (n refl)
-
 pub not_reserved : (a : ℕ) (k : AddressKind) → kind_of a ≡ k → reserved_kind k ≡ false → is_reserved a ≡ false
 unfolding is_reserved
 not_reserved a k e n = rw e n
@@ -87,16 +78,6 @@ reserved_some a t e = false≢true (sym (not_reserved a Unassigned (kind_in Unas
 pub reserved_not_unicast : (a : ℕ) → is_reserved a ≡ true → is_unicast a ≡ false
 reserved_not_unicast a t =
     by_test (is_unicast a) (λ u. absurd (false≢true (sym (not_reserved a Unicast (unicast_kind_law a u) refl) ∙ t))) (λ u. u)
-
--- what the code answers, by the variant of its kind
-module _ (a : ℕ) {k : AddressKind} (e : k ≡ kind_of a) where
-  pub reserved_told : k ≡ Reserved → true ≡ is_reserved a
-  unfolding is_reserved
-  reserved_told t = rw (← e, t) refl
-
-  pub reserved_untold : (k ≡ Reserved → ⊥) → false ≡ is_reserved a
-  unfolding is_reserved
-  reserved_untold n = rw (← e) (untold k n)
 
 -- ---- SRC and DST
 module _ (ctl : Bool) (src dst : ℕ) where
@@ -111,13 +92,3 @@ module _ (ctl : Bool) (src dst : ℕ) where
   pub allowed_some : addresses_allowed ctl src dst ≡ true → dst ≡ 0 → ⊥
   unfolding addresses_allowed kind_of
   allowed_some a e = false≢true (rw e at (and_second (is_unicast src) (destination_kind ctl (kind_of dst)) a))
-
--- what the code answers, by its test of SRC
-module _ (ctl : Bool) (src dst : ℕ) {u : Bool} (eu : u ≡ is_unicast src) where
-  pub allowed_by_kind : {k : AddressKind} {r : Bool} → u ≡ true → k ≡ kind_of dst → r ≡ destination_kind ctl k → r ≡ addresses_allowed ctl src dst
-  unfolding addresses_allowed
-  allowed_by_kind t ek er = rw (← eu, t, ← ek) er
-
-  pub allowed_not : u ≡ false → false ≡ addresses_allowed ctl src dst
-  unfolding addresses_allowed
-  allowed_not f = rw (← eu, f)

@@ -9,15 +9,19 @@ use native.Mathlib.Omega.{arith}
 use borrow.Author.Tests.{eq-eqb, ne_eqb}
 use lib.Dec.{eqb}
 use lib.ListN.{length, get_or, drop}
+use Rattle.std.specs.Prelude.{Option, Some, None, is_some}
+use Rattle.network.specs.declared.header.Header.{Header}
 use Rattle.common.specs.Search.{picked}
 use Rattle.common.specs.Trials.{Outcome}
 use Rattle.common.proofs.Picked.{places, length_places, place_at, picked_end, picked_skip, picked_next}
 use Rattle.common.proofs.Trials.{Visited, visited_start, visited_pass, visited_tried, visited_opens, visited_end, tries_each}
 use Rattle.keys.specs.declared.NetworkKeys.{NetworkKeys}
-use Rattle.network.specs.declared.trial.Trial.{Trial}
 use Rattle.network.specs.Candidates.{network_key_places, key_at, candidates, opens, found_by, searched}
-use Rattle.network.specs.Header.{no_header}
 use Rattle.network.specs.Trial.{tried}
+
+some_not : (t : Option Header) → ((x : Header) → t ≡ Some x → ⊥) → is_some t ≡ false
+some_not None f = refl
+some_not (Some x) f = absurd (f x refl)
 
 module _ (keys : List NetworkKeys) (count nid : ℕ) where
   -- whether the key at a place is a candidate
@@ -74,7 +78,7 @@ module _ (keys : List NetworkKeys) (count nid : ℕ) where
 
     module _ {i n : ℕ} (s : Searching i n) where
       -- past the last key
-      pub no_key_opens_law : min count network_key_places ≤ i → record { ok = false; trials = n; header = no_header } ≡ searched keys count nid iv pdu
+      pub no_key_opens_law : min count network_key_places ≤ i → record { trials = n; opened = None } ≡ searched keys count nid iv pdu
       unfolding searched
       no_key_opens_law h = rw (candidates_are, visited_end has_nid (opens keys iv pdu) (min count network_key_places) s h)
 
@@ -84,17 +88,18 @@ module _ (keys : List NetworkKeys) (count nid : ℕ) where
         key_passed f = visited_pass has_nid (opens keys iv pdu) (min count network_key_places) s h (ne_eqb _ _ f)
 
         -- it is a candidate
-        module _ (c : (key_at keys i).nid ≡ nid) {t : Trial} (e : t ≡ tried (key_at keys i) i iv pdu) where
-          verdict : opens keys iv pdu i ≡ t.ok
+        module _ (c : (key_at keys i).nid ≡ nid) {t : Option Header} (e : t ≡ tried (key_at keys i) i iv pdu) where
+          verdict : opens keys iv pdu i ≡ is_some t
           unfolding opens
-          verdict = ap (λ (u : Trial). u.ok) (sym e)
+          verdict = ap is_some (sym e)
 
-          pub key_tried : t.ok ≡ false → Searching (i + 1) (n + 1)
-          key_tried f = visited_tried has_nid (opens keys iv pdu) (min count network_key_places) s h (eq-eqb _ _ c) (verdict ∙ f)
+          pub key_tried : ((x : Header) → t ≡ Some x → ⊥) → Searching (i + 1) (n + 1)
+          key_tried f = visited_tried has_nid (opens keys iv pdu) (min count network_key_places) s h (eq-eqb _ _ c) (verdict ∙ some_not t f)
 
-          pub key_opens : t.ok ≡ true → record { ok = true; trials = n + 1; header = t.header } ≡ searched keys count nid iv pdu
+          pub key_opens : {x : Header} → t ≡ Some x → record { trials = n + 1; opened = Some x } ≡ searched keys count nid iv pdu
           unfolding searched
-          key_opens f = rw (candidates_are, visited_opens has_nid (opens keys iv pdu) (min count network_key_places) s h (eq-eqb _ _ c) (verdict ∙ f), e)
+          key_opens f =
+              rw (candidates_are, visited_opens has_nid (opens keys iv pdu) (min count network_key_places) s h (eq-eqb _ _ c) (verdict ∙ ap is_some f), ← e, f)
 
 -- ---- no trials are made exactly where there is no candidate
 module _ (keys : List NetworkKeys) (count nid iv : ℕ) (pdu : List ℕ) where

@@ -8,28 +8,27 @@ use native.Mathlib.Omega.{arith}
 use lib.Dec.{eqb}
 use lib.ListN.{get_or}
 use borrow.Author.Tests.{eq-eqb, ne_eqb, eqb-true, eqb-false}
+use Rattle.std.specs.Prelude.{Option, Some, None}
 use Rattle.common.specs.Paper.{Paper, Refusal, Given}
 use Rattle.common.proofs.PaperLaws.{told_apart}
 use Rattle.common.proofs.Tests.{by_test}
-use Rattle.network.specs.declared.iv_index.IvIndex.{IvIndex}
-use Rattle.network.specs.declared.iv_index.IvIndex.TheVariants.{Index, Nothing}
 use Rattle.network.specs.IvIndex.{iv_index_heard, iv_index_sent, Word, index, paper, PaperApart}
 
 -- the current one or the one before is given back by its own lowest bit
-pub heard_of_index : (current i : ℕ) → (i ≡ current) ⊎ (i + 1 ≡ current) → iv_index_heard current (i % 2) ≡ Index i
+pub heard_of_index : (current i : ℕ) → (i ≡ current) ⊎ (i + 1 ≡ current) → iv_index_heard current (i % 2) ≡ Some i
 unfolding iv_index_heard
 heard_of_index current i o =
     ⊎_elim
-    (λ e. rw (eq-eqb (current % 2) (i % 2 % 2) (omega arith)) (ap Index (sym e)))
-    (λ e. rw (ne_eqb (current % 2) (i % 2 % 2) (omega arith), ne_eqb current 0 (omega arith)) (ap Index (omega arith))) o
+    (λ e. rw (eq-eqb (current % 2) (i % 2 % 2) (omega arith)) (ap Some (sym e)))
+    (λ e. rw (ne_eqb (current % 2) (i % 2 % 2) (omega arith), ne_eqb current 0 (omega arith)) (ap Some (omega arith))) o
 
 -- what IVI picks has IVI as its lowest bit
-pub heard_parity : (current ivi i : ℕ) → iv_index_heard current ivi ≡ Index i → i % 2 ≡ ivi % 2
+pub heard_parity : (current ivi i : ℕ) → iv_index_heard current ivi ≡ Some i → i % 2 ≡ ivi % 2
 unfolding iv_index_heard
 heard_parity current ivi i e =
     by_test (eqb (current % 2) (ivi % 2))
     (λ t.
-    let q : Index current ≡ Index i = rw t at e in
+    let q : Some current ≡ Some i = rw t at e in
     let s : current ≡ i = cc in
     let h = eqb-true (current % 2) (ivi % 2) t in
     omega arith)
@@ -37,11 +36,11 @@ heard_parity current ivi i e =
     let h = eqb-false (current % 2) (ivi % 2) t in
     by_test (eqb current 0)
     (λ z.
-    let q : Nothing ≡ Index i = rw (t, z) at e in
+    let q : None ≡ Some i = rw (t, z) at e in
     let s : ◌≡◌ {A = ℕ} 0 1 = cc in
     omega arith)
     (λ z.
-    let q : Index (current - 1) ≡ Index i = rw (t, z) at e in
+    let q : Some (current - 1) ≡ Some i = rw (t, z) at e in
     let s : current - 1 ≡ i = cc in
     let n = eqb-false current 0 z in
     omega arith))
@@ -53,13 +52,13 @@ sent_near current true h = let p = h refl in inr (omega arith)
 sent_near current false h = inl refl
 
 -- ---- how an answer is given
-abbrev read : Paper Word → IvIndex
-read (Given index v) = Index (get_or v 0 0)
-read (Refusal n v) = Nothing
+abbrev read : Paper Word → Option ℕ
+read (Given index v) = Some (get_or v 0 0)
+read (Refusal n v) = None
 
-back : (i : IvIndex) → read (paper i) ≡ i
-back (Index iv) = refl
-back Nothing = refl
+back : (i : Option ℕ) → read (paper i) ≡ i
+back (Some iv) = refl
+back None = refl
 
 pub paper_apart : PaperApart
 paper_apart = told_apart paper read back

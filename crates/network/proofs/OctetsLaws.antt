@@ -6,6 +6,8 @@ use mathlib.Core.Path.{◌≡◌, refl, sym, ap, ◌∙◌}
 use Prim.Native.Nat.{ℕ, zero, suc, ◌+◌, ◌*◌, ◌/◌, ◌%◌, ◌^◌, ◌<◌}
 use native.Mathlib.Nat.{one-mul, mul-one, mul_assoc, mod-eq_of_lt, mod-one, pow-suc, pow-succ', one-le-pow}
 use native.Mathlib.Omega.{arith}
+use Rattle.std.proofs.Math.Nat.{div-div-eq-div-mul}
+use Rattle.std.specs.Int.{w32, to_be_bytes}
 use lib.Arith.{digits_lt, mod-mul}
 use lib.ListN.{length, length-append}
 use Rattle.common.specs.Lists.{Octets}
@@ -17,6 +19,11 @@ pub length_octets : (n x : ℕ) → length (octets n x) ≡ n
 unfolding octets
 length_octets zero x = refl
 length_octets (suc n) x = let e = length_octets n (x / 256) in simp length-append (omega arith)
+
+-- the bytes of a number of four are its octets
+pub octets_of_four : (x : ℕ) → to_be_bytes w32 x ≡ octets 4 x
+unfolding octets
+octets_of_four x = rw (div-div-eq-div-mul x 256 256, div-div-eq-div-mul x 65536 256) refl
 
 -- each is an octet
 pub octets_byte : (n x : ℕ) → Octets (octets n x)

@@ -1,23 +1,22 @@
 -- Opening a PDU from the code's tests: each answer follows from the tests before it, and its number tells it from every other.
--- Key laws: `paper_apart`; the answers `judge_..` of the candidates' search and `open_..` of a call, each named for what is wrong. Assumes nothing.
-use mathlib.Core.Bool.{Bool, true, false, not}
+-- Key laws: `paper_apart`; the answers `open_..` of a call, each named for what is wrong. Assumes nothing.
+use mathlib.Core.Bool.{true}
 use mathlib.Core.List.{List, [], ◌∷◌}
 use mathlib.Core.Path.{◌≡◌, refl, sym, ap, ◌∙◌}
 use Prim.Native.Nat.{ℕ, ◌-◌, ◌/◌, ◌%◌, ◌≤◌, ◌<◌}
 use lib.Dec.{eqb}
-use lib.ListN.{length, get_or}
-use borrow.Author.Tests.{eq-eqb, ne_eqb, lt-ltb, le-ltb, not-true, not-false}
+use lib.ListN.{length, get_or, drop}
+use borrow.Author.Tests.{eq-eqb, ne_eqb, lt-ltb, le-ltb}
+use Rattle.std.specs.Prelude.{Option, Some, None, Result, Ok, Err}
 use Rattle.common.specs.Paper.{Paper, Refusal, Given}
-use Rattle.common.proofs.PaperLaws.{told_apart}
+use Rattle.common.proofs.PaperLaws.{told_apart, bit_back}
 use Rattle.common.proofs.Tests.{by_test}
 use Rattle.keys.specs.declared.NetworkKeys.{NetworkKeys}
-use Rattle.network.specs.declared.iv_index.IvIndex.{IvIndex}
-use Rattle.network.specs.declared.iv_index.IvIndex.TheVariants.{Index, Nothing}
-use Rattle.network.specs.declared.opening.Answer.{Answer}
-use Rattle.network.specs.declared.opening.Answer.TheVariants.{Opened, WrongLength, NoCandidate, NotAuthentic, WrongAddress}
+use Rattle.network.specs.declared.header.Header.{Header}
+use Rattle.network.specs.declared.opening.Refusal as refusal
+use Rattle.network.specs.declared.opening.Refusal.TheVariants.{WrongLength, NoCandidate, NotAuthentic, WrongAddress}
 use Rattle.network.specs.declared.opening.Opening.{Opening}
 use Rattle.network.specs.declared.trial.Found.{Found}
-use Rattle.network.specs.Address.{addresses_allowed}
 use Rattle.network.specs.Candidates.{candidates, searched}
 use Rattle.network.specs.IvIndex.{iv_index_heard}
 use Rattle.network.specs.Opening.{Word, opened, paper, PaperApart, refused, judged, under, opening}
@@ -25,36 +24,33 @@ use Rattle.network.proofs.CandidatesLaws.{trials_none, trials_some}
 use Rattle.network.specs.Pdu.{pdu_octets}
 
 -- ---- how an answer is given
-abbrev read : Paper Word → Answer
-read (Given opened v) = Opened
-read (Refusal n v) = get_or (WrongLength ∷ NoCandidate ∷ NotAuthentic ∷ []) (n - 1) WrongAddress
+abbrev header_read : List ℕ → Header
+header_read v =
+    record {
+      key = get_or v 0 0;
+      iv = get_or v 1 0;
+      ctl = eqb (get_or v 2 0) 1;
+      ttl = get_or v 3 0;
+      seq = get_or v 4 0;
+      src = get_or v 5 0;
+      dst = get_or v 6 0;
+      len = get_or v 7 0;
+      transport = drop 8 v;
+    }
 
-back : (a : Answer) → read (paper a) ≡ a
-back Opened = refl
-back WrongLength = refl
-back NoCandidate = refl
-back NotAuthentic = refl
-back WrongAddress = refl
+abbrev read : Paper Word → Result Header refusal.Refusal
+read (Given opened v) = Ok (header_read v)
+read (Refusal n v) = Err (get_or (WrongLength ∷ NoCandidate ∷ NotAuthentic ∷ []) (n - 1) WrongAddress)
+
+back : (a : Result Header refusal.Refusal) → read (paper a) ≡ a
+back (Ok h) = rw (bit_back h.ctl) refl
+back (Err WrongLength) = refl
+back (Err NoCandidate) = refl
+back (Err NotAuthentic) = refl
+back (Err WrongAddress) = refl
 
 pub paper_apart : PaperApart
 paper_apart = told_apart paper read back
-
--- ---- refusals 3 and 4
-module _ (s : Found) where
-  pub judge_forged : {r : Opening} → not s.ok ≡ true → r ≡ refused NotAuthentic s.trials → r ≡ judged s
-  unfolding judged
-  judge_forged f e = rw (not-true s.ok f) e
-
-  module _ (t : not s.ok ≡ false) {b : Bool} (eb : b ≡ addresses_allowed s.header.ctl s.header.src s.header.dst) where
-    pub judge_address : {r : Opening} → b ≡ false → r ≡ refused WrongAddress s.trials → r ≡ judged s
-    unfolding judged
-    judge_address f e = rw (not-false s.ok t, ← eb, f) e
-
-    pub judge_opened : b ≡ true → record { answer = Opened; trials = s.trials; header = s.header } ≡ judged s
-    unfolding judged
-    judge_opened f = rw (not-false s.ok t, ← eb, f)
-
-pub ruleset judge_rules = (judge_forged, judge_address, judge_opened)
 
 -- how many keys have a PDU's NID
 abbrev of_nid : List NetworkKeys → ℕ → List ℕ → ℕ
@@ -77,16 +73,16 @@ module _ (keys : List NetworkKeys) (count current : ℕ) (pdu : List ℕ) {r : O
       unfolding opening
       open_foreign n e = rw (le-ltb (length pdu) 14 low, le-ltb pdu_octets (length pdu) high, ← n) e
 
-      module _ {x : IvIndex} (ex : x ≡ iv_index_heard current (get_or pdu 0 0 / 128)) where
+      module _ {x : Option ℕ} (ex : x ≡ iv_index_heard current (get_or pdu 0 0 / 128)) where
         -- with a candidate or with none: the refusal is the same
-        pub open_no_index : x ≡ Nothing → r ≡ refused NoCandidate 0 → r ≡ opening keys count current pdu
+        pub open_no_index : x ≡ None → r ≡ refused NoCandidate 0 → r ≡ opening keys count current pdu
         unfolding opening under
         open_no_index n e =
             by_test (eqb (of_nid keys count pdu) 0)
             (λ t. rw (le-ltb (length pdu) 14 low, le-ltb pdu_octets (length pdu) high, t) e)
             (λ t. rw (le-ltb (length pdu) 14 low, le-ltb pdu_octets (length pdu) high, t, ← ex, n) e)
 
-        module _ {iv : ℕ} {s : Found} (i : x ≡ Index iv) (q : s ≡ searched keys count (get_or pdu 0 0 % 128) iv pdu) where
+        module _ {iv : ℕ} {s : Found} (i : x ≡ Some iv) (q : s ≡ searched keys count (get_or pdu 0 0 % 128) iv pdu) where
           pub open_no_candidate : s.trials ≡ 0 → r ≡ refused NoCandidate 0 → r ≡ opening keys count current pdu
           open_no_candidate z =
               let n = trials_some keys count (get_or pdu 0 0 % 128) iv pdu (ap (λ (f : Found). f.trials) (sym q) ∙ z) in

@@ -1,7 +1,7 @@
 -- `Resealed`: the key that opened a PDU reads its header off octets, since those heard and those of the cipher are. So SEQ has 24 bits and DST 16, TTL is a remainder, the
 -- addresses were judged, and the transport is as long as the PDU's length leaves it: the header can be sealed, and `Forwarded` says the rest.
 -- Assumes nothing.
-use mathlib.Core.Bool.{Bool, true, false, ◌&&◌, false≢true}
+use mathlib.Core.Bool.{Bool, true, false, ◌&&◌}
 use mathlib.Core.List.{List}
 use mathlib.Core.Path.{◌≡◌, refl, sym, ap, ◌∙◌, subst}
 use Prim.Native.Nat.{ℕ, ◌+◌, ◌-◌, ◌/◌, ◌%◌, ◌^◌, ◌<◌, ◌≤◌, min}
@@ -10,10 +10,9 @@ use borrow.Author.Tests.{ltb-true, ltb-false, eqb-true}
 use lib.Dec.{eqb, ltb}
 use lib.ListN.{length, get_or, take, drop, length-take, length-drop, get_or-eq_default}
 use lib.Seq.{get_or-take}
-use Rattle.std.specs.Prelude.{if◌then◌else◌}
+use Rattle.std.specs.Prelude.{Option, Some, None, Ok, IfSome, IfOk, if◌then◌else◌}
 use Rattle.common.specs.Lent.{lent}
 use Rattle.common.specs.Lists.{padded, onto, Octets}
-use Rattle.common.specs.Paper.{number_of}
 use Rattle.common.proofs.Lists.{length_tab, get_d_tab, tab_ext}
 use Rattle.common.proofs.Octets.{octets_take, octets_drop, octets_xored}
 use Rattle.common.proofs.Tests.{by_test}
@@ -25,18 +24,12 @@ use Rattle.modes.proofs.Octets.{octets_decrypted}
 use Rattle.modes.specs.Ccm.{mic_octets}
 use Rattle.keys.specs.declared.NetworkKeys.{NetworkKeys}
 use Rattle.network.specs.declared.header.Header.{Header}
-use Rattle.network.specs.declared.iv_index.IvIndex.{IvIndex}
-use Rattle.network.specs.declared.iv_index.IvIndex.TheVariants.{Index, Nothing}
-use Rattle.network.specs.declared.opening.Answer.{Answer}
-use Rattle.network.specs.declared.opening.Answer.TheVariants.{Opened, WrongLength, NoCandidate, NotAuthentic, WrongAddress}
 use Rattle.network.specs.declared.opening.Opening.{Opening}
-use Rattle.network.specs.declared.sealing.Answer.TheVariants.{Sealed}
-use Rattle.network.specs.declared.trial.Found.{Found}
 use Rattle.network.specs.Address.{addresses_allowed}
 use Rattle.network.specs.Candidates.{network_key_places, key_at, candidates, opens, found_by, searched}
 use Rattle.network.specs.IvIndex.{iv_index_heard}
 use Rattle.network.specs.Octets.{number}
-use Rattle.network.specs.Opening.{paper, refused, judged, under, opening}
+use Rattle.network.specs.Opening.{admitted, judged, under, opening}
 use Rattle.network.specs.Pdu.{pdu_octets, net_mic, privacy_block, obfuscated, pdu_of, front_of}
 use Rattle.network.specs.Resealed.{OctetKey, Resealed}
 use Rattle.network.specs.Sealing.{most_transport, sealable, lowered}
@@ -143,16 +136,14 @@ module _ (key : NetworkKeys) (place iv : ℕ) (pdu : List ℕ) (nid : key.nid �
         }
 
   -- a key that opens it
-  tried_again :
-      (tried key place iv pdu).ok ≡ true
-      → (let t = (tried key place iv pdu).header in addresses_allowed t.ctl t.src t.dst ≡ true → Again key pdu t × (t.key ≡ place))
+  tried_again : IfSome (tried key place iv pdu) (λ t. addresses_allowed t.ctl t.src t.dst ≡ true → Again key pdu t × (t.key ≡ place))
   unfolding tried header_of
   tried_again =
       by_test (ctl_of front && ltb (length pdu) 18)
-      (λ t. rw t (λ ok. absurd (false≢true ok)))
+      (λ t. rw t tt)
       (λ t. by_test (body_tried key iv front pdu).answer
-      (λ u. rw (t, u) (λ _ a. (header_again t a, refl)))
-      (λ u. rw (t, u) (λ ok. absurd (false≢true ok))))
+      (λ u. rw (t, u) (λ a. (header_again t a, refl)))
+      (λ u. rw (t, u) tt))
 
 -- ---- the search, and the call
 -- a header that the key at its place can seal again
@@ -161,57 +152,51 @@ record Resealable (keys : List NetworkKeys) (pdu : List ℕ) (h : Header) : Type
   low : h.key < network_key_places
 
 abbrev ResealableWhere : List NetworkKeys → List ℕ → Opening → Type 0
-ResealableWhere keys pdu o = o.answer ≡ Opened → Resealable keys pdu o.header
+ResealableWhere keys pdu o = IfOk o.opened (Resealable keys pdu)
 
--- and of a search: where a key opens the PDU and its addresses are allowed
-abbrev AgainWhere : List NetworkKeys → List ℕ → Found → Type 0
-AgainWhere keys pdu s = s.ok ≡ true → addresses_allowed s.header.ctl s.header.src s.header.dst ≡ true → Resealable keys pdu s.header
+-- and of a search: where its addresses are allowed
+abbrev AllowedAgain : List NetworkKeys → List ℕ → Header → Type 0
+AllowedAgain keys pdu h = addresses_allowed h.ctl h.src h.dst ≡ true → Resealable keys pdu h
 
--- a refusal opens nothing
-refused_none : (keys : List NetworkKeys) (pdu : List ℕ) (a : Answer) (trials : ℕ) → 0 < number_of (paper a) → ResealableWhere keys pdu (refused a trials)
-refused_none keys pdu a trials h e = let z : number_of (paper a) ≡ 0 = ap (λ (x : Answer). number_of (paper x)) e in absurd (omega arith)
+if_some : {P Q : Header → Type 0} (o : Option Header) → ((h : Header) → P h → Q h) → IfSome o P → IfSome o Q
+if_some None f p = tt
+if_some (Some h) f p = f h p
 
 module _ (keys : List NetworkKeys) (count : ℕ) (pdu : List ℕ) (held : (i : ℕ) → i < min count network_key_places → OctetKey (key_at keys i)) (p : Octets pdu)
     (least : 14 ≤ length pdu) (most : length pdu ≤ pdu_octets) where
-  searched_again : (nid iv : ℕ) → nid ≤ 127 → AgainWhere keys pdu (searched keys count nid iv pdu)
+  searched_again : (nid iv : ℕ) → nid ≤ 127 → IfSome (searched keys count nid iv pdu).opened (AllowedAgain keys pdu)
   unfolding searched candidates opens
   searched_again nid iv seven =
-      tries_places (has_nid keys count nid) (opens keys iv pdu) (λ t. AgainWhere keys pdu (found_by keys iv pdu t)) (min count network_key_places)
-      (λ i k low same o _ _ a.
+      tries_places (has_nid keys count nid) (opens keys iv pdu) (λ t. IfSome (found_by keys iv pdu t).opened (AllowedAgain keys pdu)) (min count network_key_places)
+      (λ i k low same o _.
       let n = eqb-true (key_at keys i).nid nid same in
-      let x = tried_again (key_at keys i) i iv pdu (omega arith) (held i low) p least most o a in
-      record {
-        again = subst (λ (n : ℕ). Again (key_at keys n) pdu (tried (key_at keys i) i iv pdu).header) (sym x.1) x.0;
-        low = omega (arith, x.1);
-      })
-      (λ ok. absurd (false≢true ok))
+      if_some (tried (key_at keys i) i iv pdu)
+      (λ h x a.
+      let again = (x a).0 in
+      record { again = subst (λ (n : ℕ). Again (key_at keys n) pdu h) (sym (x a).1) again; low = omega (arith, (x a).1) })
+      (tried_again (key_at keys i) i iv pdu (omega arith) (held i low) p least most))
+      tt
 
-  judged_again : (s : Found) → AgainWhere keys pdu s → ResealableWhere keys pdu (judged s)
-  unfolding judged
-  judged_again s r =
-      by_test s.ok
-      (λ t. by_test (addresses_allowed s.header.ctl s.header.src s.header.dst)
-      (λ u. rw (t, u) (λ _. r t u))
-      (λ u. rw (t, u) (refused_none keys pdu WrongAddress s.trials (omega arith))))
-      (λ t. rw t (refused_none keys pdu NotAuthentic s.trials (omega arith)))
+  admitted_again : (o : Option Header) → IfSome o (AllowedAgain keys pdu) → IfOk (admitted o) (Resealable keys pdu)
+  admitted_again None r = tt
+  admitted_again (Some h) r = by_test (addresses_allowed h.ctl h.src h.dst) (λ u. rw u (r u)) (λ u. rw u tt)
 
-  under_again : (i : IvIndex) → ResealableWhere keys pdu (under keys count pdu i)
-  unfolding under
-  under_again Nothing = refused_none keys pdu NoCandidate 0 (omega arith)
-  under_again (Index iv) = judged_again (searched keys count (get_or pdu 0 0 % 128) iv pdu) (searched_again (get_or pdu 0 0 % 128) iv (omega arith))
+  under_again : (i : Option ℕ) → ResealableWhere keys pdu (under keys count pdu i)
+  unfolding under judged
+  under_again None = tt
+  under_again (Some iv) = admitted_again (searched keys count (get_or pdu 0 0 % 128) iv pdu).opened (searched_again (get_or pdu 0 0 % 128) iv (omega arith))
 
 opening_again :
     (keys : List NetworkKeys) (count current : ℕ) (pdu : List ℕ) → ((i : ℕ) → i < min count network_key_places → OctetKey (key_at keys i)) → Octets pdu
     → ResealableWhere keys pdu (opening keys count current pdu)
 unfolding opening
 opening_again keys count current pdu held p =
-    let wrong = refused_none keys pdu WrongLength 0 (omega arith) in
     by_test (ltb (length pdu) 14)
-    (λ t. rw t wrong)
+    (λ t. rw t tt)
     (λ t. by_test (ltb pdu_octets (length pdu))
-    (λ u. rw (t, u) wrong)
+    (λ u. rw (t, u) tt)
     (λ u. by_test (eqb (length (candidates keys count (get_or pdu 0 0 % 128))) 0)
-    (λ v. rw (t, u, v) (refused_none keys pdu NoCandidate 0 (omega arith)))
+    (λ v. rw (t, u, v) tt)
     (λ v. rw (t, u, v)
     (under_again keys count pdu held p (ltb-false (length pdu) 14 t) (ltb-false pdu_octets (length pdu) u) (iv_index_heard current (get_or pdu 0 0 / 128))))))
 
@@ -219,8 +204,8 @@ pub resealed : Resealed
 resealed keys count current pdu trials h buf held p wide e =
     let key = key_at keys h.key in
     let r : Resealable keys pdu h =
-    subst (λ (o : Opening). ResealableWhere keys pdu o) e (opening_again keys count current pdu held p) refl in
+    subst (λ (o : Opening). ResealableWhere keys pdu o) e (opening_again keys count current pdu held p) in
     let a = r.again in
     let there = room key h (within key h a.can) a.formed in
     forwarded keys h buf r.low a.can a.formed wide
-    ∙ ap (λ (n : ℕ). lent (Sealed n) (onto (pdu_of key (lowered h)) buf)) (pdu_length key h there ∙ a.long)
+    ∙ ap (λ (n : ℕ). lent (Ok n) (onto (pdu_of key (lowered h)) buf)) (pdu_length key h there ∙ a.long)

@@ -8,14 +8,11 @@ use Prim.Native.Nat.{ℕ, ◌+◌, ◌/◌, ◌%◌, ◌<◌, ◌≤◌, min}
 use native.Mathlib.Omega.{arith}
 use borrow.Author.Tests.{le-ltb, eq-eqb, ne_eqb, eqb-true}
 use lib.ListN.{length}
-use Rattle.std.specs.Prelude.{if◌then◌else◌}
+use Rattle.std.specs.Prelude.{Some, Ok, is_some, if◌then◌else◌}
 use Rattle.common.proofs.Trials.{tries_at}
 use Rattle.keys.specs.declared.NetworkKeys.{NetworkKeys}
 use Rattle.network.specs.declared.header.Header.{Header}
-use Rattle.network.specs.declared.iv_index.IvIndex.TheVariants.{Index}
-use Rattle.network.specs.declared.opening.Answer.TheVariants.{Opened}
 use Rattle.network.specs.declared.trial.Found.{Found}
-use Rattle.network.specs.declared.trial.Trial.{Trial}
 use Rattle.network.specs.Address.{addresses_allowed}
 use Rattle.network.specs.Candidates.{network_key_places, key_at, candidates, opens, searched}
 use Rattle.network.specs.IvIndex.{iv_index_heard}
@@ -32,9 +29,9 @@ use Rattle.network.proofs.Sealed.{pdu_length, first_octet_law, within, room, tri
 module _ (keys : List NetworkKeys) (count nid iv : ℕ) (pdu : List ℕ) where
   opening_of_law :
       (current : ℕ) {trials : ℕ} {x : Header} → 14 ≤ length pdu → length pdu ≤ pdu_octets → octet0 pdu % 128 ≡ nid
-      → iv_index_heard current (octet0 pdu / 128) ≡ Index iv → 0 < trials
-      → searched keys count nid iv pdu ≡ record { ok = true; trials = trials; header = x } → addresses_allowed x.ctl x.src x.dst ≡ true
-      → opening keys count current pdu ≡ record { answer = Opened; trials = trials; header = x }
+      → iv_index_heard current (octet0 pdu / 128) ≡ Some iv → 0 < trials
+      → searched keys count nid iv pdu ≡ record { trials = trials; opened = Some x } → addresses_allowed x.ctl x.src x.dst ≡ true
+      → opening keys count current pdu ≡ record { trials = trials; opened = Ok x }
   unfolding opening under judged
   opening_of_law current {trials} l u en ei some es ea =
       let held : length (candidates keys count nid) ≡ 0 → ⊥ =
@@ -52,13 +49,13 @@ module _ (keys : List NetworkKeys) (count i iv : ℕ) (pdu : List ℕ) (held : i
   nid = (key_at keys i).nid
 
   searched_at :
-      {x : Header} → ((j : ℕ) → j < i → (key_at keys j).nid ≡ nid → opens keys iv pdu j ≡ false) → tried (key_at keys i) i iv pdu ≡ record { ok = true; header = x }
-      → searched keys count nid iv pdu ≡ record { ok = true; trials = length (candidates keys i nid) + 1; header = x }
+      {x : Header} → ((j : ℕ) → j < i → (key_at keys j).nid ≡ nid → opens keys iv pdu j ≡ false) → tried (key_at keys i) i iv pdu ≡ Some x
+      → searched keys count nid iv pdu ≡ record { trials = length (candidates keys i nid) + 1; opened = Some x }
   unfolding searched candidates opens
   searched_at none t =
       let n : min i network_key_places ≡ i = omega arith in
       let e =
-      tries_at (has_nid keys count nid) (opens keys iv pdu) (min count network_key_places) i held (eq-eqb nid nid refl) (ap (λ (x : Trial). x.ok) t)
+      tries_at (has_nid keys count nid) (opens keys iv pdu) (min count network_key_places) i held (eq-eqb nid nid refl) (ap is_some t)
       (λ j b e. none j b (eqb-true (key_at keys j).nid nid e)) in
       rw (e, t, n)
 

@@ -11,7 +11,7 @@ use borrow.Author.Tests.{le-ltb, le-leb, leb-true}
 use lib.Dec.{ltb}
 use lib.ListN.{length, get_or, take, drop, length-append}
 use lib.Seq.{take_at, drop_at, length-take-le}
-use Rattle.std.specs.Prelude.{if◌then◌else◌}
+use Rattle.std.specs.Prelude.{Some, if◌then◌else◌}
 use Rattle.common.specs.Lists.{padded}
 use Rattle.common.specs.Lent.{lent}
 use Rattle.common.proofs.Lists.{length_tab}
@@ -150,7 +150,7 @@ long_enough false len l = refl
 -- ---- the key is tried
 tried_of :
     (key : NetworkKeys) (place iv : ℕ) (pdu : List ℕ) {front m : List ℕ} → front ≡ front_of key iv pdu → lent true m ≡ body_tried key iv front pdu
-    → (ctl_of front && ltb (length pdu) 18) ≡ false → tried key place iv pdu ≡ record { ok = true; header = header_of place iv front m }
+    → (ctl_of front && ltb (length pdu) 18) ≡ false → tried key place iv pdu ≡ Some (header_of place iv front m)
 unfolding tried
 tried_of key place iv pdu ef eb et = rw (← ef, et, ← eb)
 
@@ -186,4 +186,4 @@ pub tried_sealed : TriedSealed
 tried_sealed key place h s f =
     let w = within key h s in
     tried_of key place h.iv (pdu_of key h) (front_shown key h) (body_same key h w f) (ctl_long key h w f)
-    ∙ ap (λ (x : Header). record { ok = true; header = x }) (header_same key h w f place)
+    ∙ ap Some (header_same key h w f place)

@@ -1,20 +1,19 @@
--- Sealing and forwarding from the code's steps: which test refuses a header, and how the body and then the front in place make the whole PDU.
--- Key laws: `sealable_..`, one for each test; `body_written`, `front_written`, `pdu_written`; the answers `seal_..` and `forward_..`.
+-- Sealing from the code's steps: how the body and then the front in place make the whole PDU.
+-- Key laws: `body_written`, `pdu_written`; the answers `seal_..`.
 -- Assumes nothing.
 use mathlib.Core.Path.{◌≡◌, refl, sym, ap, ap₂, ◌∙◌}
 use mathlib.Core.Bool.{Bool, true, false, not}
 use mathlib.Core.List.{List, [], ◌∷◌, ◌++◌, append-nil}
-use Prim.Native.Nat.{ℕ, ◌+◌, ◌-◌, ◌<◌, ◌≤◌}
+use Prim.Native.Nat.{ℕ, ◌+◌, ◌-◌, ◌≤◌}
 use native.Mathlib.Omega.{arith}
-use borrow.Author.Tests.{lt-leb, le-leb, lt-ltb, le-ltb, not-true, not-false}
-use lib.Dec.{eqb, leb}
+use borrow.Author.Tests.{le-ltb, not-false}
+use lib.Dec.{eqb}
 use lib.ListN.{length, get_or, take, drop, length-append, length-drop}
 use lib.Seq.{length-take-le, take_all, take-append-le, take-append-add, drop_at, drop-length}
-use Rattle.std.specs.Prelude.{if◌then◌else◌}
-use Rattle.common.specs.Lists.{padded, onto}
+use Rattle.std.specs.Prelude.{Result, Ok, Err, if◌then◌else◌}
+use Rattle.common.specs.Lists.{onto}
 use Rattle.common.specs.Lent.{Lent, lent}
 use Rattle.common.specs.Paper.{Paper, Refusal, Given}
-use Rattle.common.proofs.Lists.{padded_all}
 use Rattle.common.proofs.Onto.{onto_before}
 use Rattle.common.proofs.PaperLaws.{told_apart}
 use Rattle.aes.specs.KeyExpansion.{key_schedule}
@@ -23,48 +22,13 @@ use Rattle.modes.specs.Ccm as ccm
 use Rattle.modes.proofs.CcmLaws.{mic_octets_bounds, seal_done_law}
 use Rattle.keys.specs.declared.NetworkKeys.{NetworkKeys}
 use Rattle.network.specs.declared.header.Header.{Header}
-use Rattle.network.specs.Address.{addresses_allowed}
-use Rattle.network.specs.Candidates.{network_key_places, key_at}
 use Rattle.network.specs.Octets.{octets}
 use Rattle.network.specs.Pdu.{pdu_octets, net_mic, first_octet, clear_front, obfuscated, body_of, pdu_of}
-use Rattle.network.specs.declared.sealing.Answer.{Answer}
-use Rattle.network.specs.declared.sealing.Answer.TheVariants.{Sealed, OutsideRules, ShortBuffer}
-use Rattle.network.specs.Sealing.{Word, sealed, paper, PaperApart, most_transport, sealable, sealing, lowered, forwarding}
+use Rattle.network.specs.declared.sealing.Refusal as refusal
+use Rattle.network.specs.declared.sealing.Refusal.TheVariants.{OutsideRules, ShortBuffer}
+use Rattle.network.specs.Sealing.{Word, sealed, paper, PaperApart, most_transport, sealable, sealing}
 use Rattle.network.proofs.Front.{length_obfuscated}
 use Rattle.network.proofs.Sealed.{clear_body, nonce_for, length_clear, mic_octets_law, length_body, pdu_length, within}
-
--- ---- the tests, in order
-module _ (key : NetworkKeys) (h : Header) where
-  pub sealable_nid_high : 127 < key.nid → false ≡ sealable key h
-  unfolding sealable
-  sealable_nid_high l = simp (lt-leb key.nid 127 l)
-
-  module _ (n : key.nid ≤ 127) where
-    pub sealable_ttl_high : 127 < h.ttl → false ≡ sealable key h
-    unfolding sealable
-    sealable_ttl_high l = simp (le-leb key.nid 127 n, lt-leb h.ttl 127 l)
-
-    module _ (t : h.ttl ≤ 127) where
-      pub sealable_seq_high : 0xFFFFFF < h.seq → false ≡ sealable key h
-      unfolding sealable
-      sealable_seq_high l = simp (le-leb key.nid 127 n, le-leb h.ttl 127 t, lt-leb h.seq 0xFFFFFF l)
-
-      module _ (s : h.seq ≤ 0xFFFFFF) {ok : Bool} (e : ok ≡ addresses_allowed h.ctl h.src h.dst) where
-        pub sealable_address : not ok ≡ true → false ≡ sealable key h
-        unfolding sealable
-        sealable_address f = simp (le-leb key.nid 127 n, le-leb h.ttl 127 t, le-leb h.seq 0xFFFFFF s, ← e, not-true ok f)
-
-        module _ (f : not ok ≡ false) where
-          pub sealable_empty : h.len < 1 → false ≡ sealable key h
-          unfolding sealable
-          sealable_empty l = simp (le-leb key.nid 127 n, le-leb h.ttl 127 t, le-leb h.seq 0xFFFFFF s, ← e, not-false ok f, lt-leb 1 h.len l)
-
-          pub sealable_by_length : {m : ℕ} → 1 ≤ h.len → m ≡ most_transport h.ctl → leb h.len m ≡ sealable key h
-          unfolding sealable
-          sealable_by_length l em =
-              simp (le-leb key.nid 127 n, le-leb h.ttl 127 t, le-leb h.seq 0xFFFFFF s, ← e, not-false ok f, le-leb 1 h.len l, em)
-
-pub ruleset sealable_rules = (sealable_nid_high, sealable_ttl_high, sealable_seq_high, sealable_address, sealable_empty, sealable_by_length)
 
 -- ---- the body, written from octet 7 on, where it has 22 octets at most
 pub body_most : (ctl : Bool) (len : ℕ) → len ≤ most_transport ctl → (len ≤ 16) × (2 + len + (if ctl then 8 else 4) ≤ 22)
@@ -125,19 +89,6 @@ length_body_written key h out {x} room e =
       length-drop 7 out,
     )
 
--- ---- the front, written over octets 0-6
-pub front_written :
-    (key : NetworkKeys) (h : Header) (out : List ℕ) {front random hidden x : List ℕ} {f : ℕ} → 14 ≤ length out
-    → front ≡ clear_front h → random ≡ take 7 (drop 7 out) → hidden ≡ obfuscated key h.iv front random → f ≡ first_octet h.iv key.nid
-    → x ≡ onto (take (length out) (f ∷ padded 6 hidden)) out
-    → x ≡ onto (first_octet h.iv key.nid ∷ obfuscated key h.iv (clear_front h) (take 7 (drop 7 out))) out
-front_written key h out {front} {random} {hidden} {x} {f} room ec er eh ef e =
-    let six : length hidden ≡ 6 = ap length eh ∙ length_obfuscated key h.iv front random in
-    e
-    ∙ ap (λ (z : List ℕ). onto z out)
-    (take_all (length out) (f ∷ padded 6 hidden) (omega arith)
-    ∙ ap₂ ◌∷◌ ef (padded_all 6 hidden six ∙ eh ∙ ap₂ (obfuscated key h.iv) ec er))
-
 -- ---- both, in this order
 module _ (key : NetworkKeys) (h : Header) (sixteen : length h.transport ≡ 16) (ok : sealable key h ≡ true) where
   pub pdu_written :
@@ -162,35 +113,27 @@ module _ (key : NetworkKeys) (h : Header) (sixteen : length h.transport ≡ 16) 
       ∙ onto_before (f ∷ o) b out x 7 (omega arith) behind
 
 -- ---- the answers
-abbrev read : Paper Word → Answer
-read (Given sealed v) = Sealed (get_or v 0 0)
-read (Refusal n v) = if eqb n 14 then OutsideRules else ShortBuffer
+abbrev read : Paper Word → Result ℕ refusal.Refusal
+read (Given sealed v) = Ok (get_or v 0 0)
+read (Refusal n v) = Err (if eqb n 14 then OutsideRules else ShortBuffer)
 
-back : (a : Answer) → read (paper a) ≡ a
-back (Sealed len) = refl
-back OutsideRules = refl
-back ShortBuffer = refl
+back : (a : Result ℕ refusal.Refusal) → read (paper a) ≡ a
+back (Ok len) = refl
+back (Err OutsideRules) = refl
+back (Err ShortBuffer) = refl
 
 pub paper_apart : PaperApart
 paper_apart = told_apart paper read back
 
 module _ (key : NetworkKeys) (h : Header) (out : List ℕ) where
-  pub seal_short : length out < pdu_octets → lent ShortBuffer out ≡ sealing key h out
-  unfolding sealing
-  seal_short l = simp (lt-ltb (length out) pdu_octets l)
-
   module _ (room : pdu_octets ≤ length out) where
     pub seal_sealed :
         {n : ℕ} {y : List ℕ} → sealable key h ≡ true → n ≡ length (pdu_of key h) → y ≡ onto (pdu_of key h) out
-        → lent (Sealed n) y ≡ sealing key h out
+        → lent (Ok n) y ≡ sealing key h out
     unfolding sealing
-    seal_sealed e en ey = simp (le-ltb (length out) pdu_octets room, e) (ap₂ (λ (k : ℕ) (z : List ℕ). lent (Sealed k) z) en ey)
+    seal_sealed e en ey = simp (le-ltb (length out) pdu_octets room, e) (ap₂ (λ (k : ℕ) (z : List ℕ). lent (Ok k) z) en ey)
 
     module _ {may : Bool} (e : may ≡ sealable key h) where
-      pub seal_outside : not may ≡ true → lent OutsideRules out ≡ sealing key h out
-      unfolding sealing
-      seal_outside f = simp (le-ltb (length out) pdu_octets room, ← e, not-true may f)
-
       module _ (f : not may ≡ false) where
         allowed : sealable key h ≡ true
         allowed = sym e ∙ not-false may f
@@ -210,25 +153,7 @@ module _ (key : NetworkKeys) (h : Header) (out : List ℕ) where
             → x ≡ take 7 out ++ onto (body_of key h) (drop 7 out)
             → y ≡ onto (first_octet h.iv key.nid ∷ obfuscated key h.iv (clear_front h) (take 7 (drop 7 x))) x
             → n ≡ 9 + h.len + (if h.ctl then 8 else 4)
-            → lent (Sealed n) y ≡ sealing key h out
+            → lent (Ok n) y ≡ sealing key h out
         seal_written ec eighteen ex ey en =
             let sixteen = transport_sixteen h ec eighteen in
             seal_sealed allowed (en ∙ sym (pdu_length key h (transport_there h sixteen seal_most))) (pdu_written key h sixteen allowed out room ex ey)
-
--- ---- the answers of forwarding
-module _ (keys : List NetworkKeys) (h : Header) (out : List ℕ) where
-  pub forward_short : length out < pdu_octets → lent ShortBuffer out ≡ forwarding keys h out
-  unfolding forwarding
-  forward_short l = simp (lt-ltb (length out) pdu_octets l)
-
-  module _ (room : pdu_octets ≤ length out) where
-    pub forward_no_key : network_key_places ≤ h.key → lent OutsideRules out ≡ forwarding keys h out
-    unfolding forwarding
-    forward_no_key l = simp (le-ltb (length out) pdu_octets room, le-ltb h.key network_key_places l)
-
-    pub forward_sealed :
-        {r : Lent Answer} {low : Header} → h.key < network_key_places → low ≡ lowered h → r ≡ sealing (key_at keys h.key) low out → r ≡ forwarding keys h out
-    unfolding forwarding
-    forward_sealed l el er = simp (le-ltb (length out) pdu_octets room, lt-ltb h.key network_key_places l) (er ∙ ap (λ (z : Header). sealing (key_at keys h.key) z out) el)
-
-pub ruleset forward_rules = (forward_short, forward_no_key, forward_sealed)

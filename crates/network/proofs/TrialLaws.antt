@@ -1,18 +1,17 @@
 -- One key tried on one PDU, from the code's steps: fields are read octet by octet, and each answer of `tried` follows from the tests before it.
--- Key laws: `taken`, `number_two`, `number_three`, `onto_zeros`, `take_padded`; `front_taken`, `body_opened`, `header_read`, one for each step; the
--- answers `tried_short`, `tried_forged` and `tried_done`.
+-- Key laws: `taken`, `number_two`, `onto_zeros`, `take_padded`; `header_read`; the answers `tried_short`, `tried_forged` and `tried_done`.
 -- Assumes nothing.
 use mathlib.Core.Bool.{Bool, true, false, not, ◌&&◌}
-use mathlib.Core.List.{List, [], ◌∷◌}
-use mathlib.Core.Path.{◌≡◌, refl, sym, ap, ap₂, ◌∙◌}
+use mathlib.Core.List.{List}
+use mathlib.Core.Path.{◌≡◌, refl, sym, ap, ◌∙◌}
 use Prim.Native.Nat.{ℕ, ◌+◌, ◌*◌, ◌-◌, ◌≤◌, ◌<◌}
-use native.Mathlib.Nat.{zero-add, add-zero}
+use native.Mathlib.Nat.{zero-add}
 use native.Mathlib.Omega.{arith}
 use borrow.Author.Tests.{le-ltb, ltb-true, ltb-false, not-true, not-false}
 use lib.Dec.{ltb}
 use lib.ListN.{length, get_or, take, drop, replicate, length-append, length-drop, length-replicate, get_or-replicate, get_or-append, get_or-eq_default}
 use lib.Seq.{get_or-take, get_or-drop, get_or-append-add, length-take-le, take_all, take_at}
-use Rattle.std.specs.Prelude.{if◌then◌else◌}
+use Rattle.std.specs.Prelude.{Some, None, if◌then◌else◌}
 use Rattle.common.specs.Lists.{tab, padded, onto}
 use Rattle.common.specs.Lent.{Lent, lent}
 use Rattle.common.proofs.Lists.{tab_is, take_tab, padded_all}
@@ -23,10 +22,9 @@ use Rattle.modes.specs.Ccm.{mic_octets, longest, decrypted, opening}
 use Rattle.modes.proofs.CcmLaws.{length_decrypted}
 use Rattle.keys.specs.declared.NetworkKeys.{NetworkKeys}
 use Rattle.network.specs.declared.header.Header.{Header}
-use Rattle.network.specs.declared.trial.Trial.{Trial}
 use Rattle.network.specs.Octets.{number_from, number}
-use Rattle.network.specs.Pdu.{pdu_octets, net_mic, obfuscated, front_of}
-use Rattle.network.specs.Trial.{no_trial, ctl_of, ttl_of, seq_of, src_of, nonce_of, header_of, body_tried, tried}
+use Rattle.network.specs.Pdu.{pdu_octets, net_mic, front_of}
+use Rattle.network.specs.Trial.{ctl_of, ttl_of, seq_of, src_of, nonce_of, header_of, body_tried, tried}
 
 -- n octets read one by one from a place on
 pub taken : (n at : ℕ) (l : List ℕ) → at + n ≤ length l → tab (λ i. get_or l (at + i) 0) n ≡ take n (drop at l)
@@ -34,29 +32,10 @@ taken n at l h =
     sym (tab_is (λ i. get_or l (at + i) 0) 0 n (take n (drop at l)) (length-take-le n (drop at l) (omega (arith, length-drop at l)))
     (λ k m. get_or-take n (drop at l) k 0 m ∙ get_or-drop at l k 0))
 
-pub seven_taken :
-    (at : ℕ) (l : List ℕ) → at + 7 ≤ length l
-    → get_or l at 0 ∷ get_or l (at + 1) 0 ∷ get_or l (at + 2) 0 ∷ get_or l (at + 3) 0 ∷ get_or l (at + 4) 0 ∷ get_or l (at + 5) 0 ∷ get_or l (at + 6) 0 ∷ []
-    ≡ take 7 (drop at l)
-seven_taken at l h = simp add-zero at (taken 7 at l h)
-
--- the front read
-pub front_taken :
-    (key : NetworkKeys) (iv : ℕ) (pdu : List ℕ) {random r : List ℕ} → 14 ≤ length pdu → random ≡ take 7 (drop 7 pdu)
-    → r ≡ obfuscated key iv (tab (λ i. get_or pdu (1 + i) 0) 6) random → r ≡ front_of key iv pdu
-unfolding front_of
-front_taken key iv pdu h er e = e ∙ ap₂ (obfuscated key iv) (taken 6 1 pdu (omega arith)) er
-
--- the numbers of two and of three octets
+-- the number of two octets
 pub number_two : (at : ℕ) (l : List ℕ) → at + 2 ≤ length l → get_or l (at + 0) 0 * 256 + get_or l (at + 1) 0 ≡ number (take 2 (drop at l))
 unfolding number number_from
 number_two at l h = simp zero-add at (ap number (taken 2 at l h))
-
-pub number_three :
-    (at : ℕ) (l : List ℕ) → at + 3 ≤ length l
-    → (get_or l (at + 0) 0 * 256 + get_or l (at + 1) 0) * 256 + get_or l (at + 2) 0 ≡ number (take 3 (drop at l))
-unfolding number number_from
-number_three at l h = simp zero-add at (ap number (taken 3 at l h))
 
 -- octets copied onto zeros: behind the end of l both are zero
 zeros_behind : (n : ℕ) (l : List ℕ) (k : ℕ) → length l ≤ k → k < n → get_or (onto l (replicate n 0)) k 0 ≡ 0
@@ -104,15 +83,6 @@ unfolding header_of
 header_read place iv front body range ec es er ed et =
     rw (ec, es, er, ed ∙ number_two 0 body range.0, et ∙ transport_copied body range.1)
 
--- the body opened
-pub body_opened :
-    (key : NetworkKeys) (iv : ℕ) (front pdu buf : List ℕ) {ks : List (List ℕ)} {nonce : List ℕ} {ctl : Bool} {size : MicSize} {r : Lent Bool}
-    → ks ≡ key_schedule key.encryption → nonce ≡ nonce_of iv front → ctl ≡ ctl_of front → size ≡ net_mic ctl
-    → r ≡ opening ks nonce size (take (length pdu - 7) (drop 7 pdu)) buf
-    → r ≡ opening (key_schedule key.encryption) (nonce_of iv front) (net_mic (ctl_of front)) (drop 7 pdu) buf
-body_opened key iv front pdu buf ek en ec es e =
-    rw (ek, en, es ∙ ap net_mic ec, rest_all 7 pdu) at e
-
 -- ---- opening into a buffer that has room: the answer is that of decrypting, and where it is true its message goes onto the buffer
 choice_answer : (b : Bool) (x y : List ℕ) → (if b then lent true x else lent false y).answer ≡ b
 choice_answer true x y = refl
@@ -157,15 +127,15 @@ module _ (ctl : Bool) (n : ℕ) {short : Bool} (range : (14 ≤ n) × (n ≤ pdu
 
 module _ (key : NetworkKeys) (place iv : ℕ) (pdu : List ℕ) {front : List ℕ} {ctl short : Bool} (ef : front ≡ front_of key iv pdu)
     (ec : ctl ≡ ctl_of front) (es : short ≡ (ctl && ltb (length pdu) 18)) where
-  pub tried_short : {r : Trial} → short ≡ true → r ≡ no_trial → r ≡ tried key place iv pdu
+  pub tried_short : short ≡ true → None ≡ tried key place iv pdu
   unfolding tried
-  tried_short t er = rw (← ef, ← ec, ← es, t) er
+  tried_short t = rw (← ef, ← ec, ← es, t)
 
   module _ (range : (14 ≤ length pdu) × (length pdu ≤ pdu_octets)) (left : short ≡ false) {ok : Bool} {out : List ℕ}
       (eo : lent ok out ≡ opening (key_schedule key.encryption) (nonce_of iv front) (net_mic (ctl_of front)) (drop 7 pdu) (replicate 18 0)) where
     tried_long :
         tried key place iv pdu
-        ≡ (if (body_tried key iv front pdu).answer then record { ok = true; header = header_of place iv front (body_tried key iv front pdu).buffer } else no_trial)
+        ≡ (if (body_tried key iv front pdu).answer then Some (header_of place iv front (body_tried key iv front pdu).buffer) else None)
     unfolding tried
     tried_long = rw (← ef, ← ec, ← es, left)
 
@@ -180,8 +150,8 @@ module _ (key : NetworkKeys) (place iv : ℕ) (pdu : List ℕ) {front : List ℕ
         opening_answer (key_schedule key.encryption) (nonce_of iv front) (net_mic (ctl_of front)) (drop 7 pdu) (replicate 18 0)
         (omega arith) (omega arith) (omega arith) eo
 
-    pub tried_forged : {r : Trial} → not ok ≡ true → r ≡ no_trial → r ≡ tried key place iv pdu
-    tried_forged f er = er ∙ sym (rw (body_answer ∙ not-true ok f) at tried_long)
+    pub tried_forged : not ok ≡ true → None ≡ tried key place iv pdu
+    tried_forged f = sym (rw (body_answer ∙ not-true ok f) at tried_long)
 
     -- the first n octets of what was opened are the body
     body_taken : (n : ℕ) → ok ≡ true → n ≡ length pdu - 7 - mic_octets (net_mic (ctl_of front)) → take n out ≡ (body_tried key iv front pdu).buffer
@@ -199,7 +169,7 @@ module _ (key : NetworkKeys) (place iv : ℕ) (pdu : List ℕ) {front : List ℕ
 
     pub tried_done :
         {n : ℕ} {h : Header} → not ok ≡ false → n ≡ length pdu - 7 - mic_octets (net_mic ctl) → h ≡ header_of place iv front (take n out)
-        → record { ok = true; header = h } ≡ tried key place iv pdu
+        → Some h ≡ tried key place iv pdu
     tried_done {n} {h} f en eh =
         let t = not-false ok f in
         let k : h ≡ header_of place iv front (body_tried key iv front pdu).buffer =

@@ -1,11 +1,10 @@
 -- The candidates of a PDU, and the trials of them in order (document 01, "The Network PDU").
-use Rattle.std.specs.Prelude.{Bool, true, false, List, [], ℕ, min, eqb, get_or}
+use Rattle.std.specs.Prelude.{Bool, None, is_some, List, [], ℕ, min, eqb, get_or}
 use Rattle.common.specs.Lists.{tab}
 use Rattle.common.specs.Search.{picked}
 use Rattle.common.specs.Trials.{Outcome, Succeeded, Failed, tries}
 use Rattle.keys.specs.declared.NetworkKeys.{NetworkKeys}
 use Rattle.network.specs.declared.trial.Found.{Found}
-use Rattle.network.specs.Header.{no_header}
 use Rattle.network.specs.Trial.{tried}
 
 -- how many network keys can be held
@@ -26,12 +25,12 @@ candidates keys count nid = picked (λ i. eqb (key_at keys i).nid nid) (tab (λ 
 
 -- whether the key at place i authenticates the PDU
 unfoldable pub opens : List NetworkKeys → ℕ → List ℕ → ℕ → Bool
-opens keys iv pdu i = (tried (key_at keys i) i iv pdu).ok
+opens keys iv pdu i = is_some (tried (key_at keys i) i iv pdu)
 
 -- what their trials say: the header under the key that authenticates, and the number of trials
 abbrev pub found_by : List NetworkKeys → ℕ → List ℕ → Outcome ℕ → Found
-found_by keys iv pdu (Succeeded i trials) = record { ok = true; trials = trials; header = (tried (key_at keys i) i iv pdu).header }
-found_by keys iv pdu (Failed trials) = record { ok = false; trials = trials; header = no_header }
+found_by keys iv pdu (Succeeded i trials) = record { trials = trials; opened = tried (key_at keys i) i iv pdu }
+found_by keys iv pdu (Failed trials) = record { trials = trials; opened = None }
 
 -- they are tried one by one, stopping at the first that authenticates; the number of trials is that key's place among the candidates, from
 -- 1, or their number when none opens it

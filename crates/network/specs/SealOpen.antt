@@ -1,10 +1,8 @@
 -- Promises: obfuscation undoes itself; a sealed PDU is so long and names NID and IVI; its own key gives the header back; and opening does.
-use Rattle.std.specs.Prelude.{true, false, List, ◌⊎◌, ◌≡◌, ℕ, ◌+◌, ◌/◌, ◌%◌, ◌<◌, ◌≤◌, min, length, get_or, if◌then◌else◌}
+use Rattle.std.specs.Prelude.{true, false, Some, Ok, List, ◌⊎◌, ◌≡◌, ℕ, ◌+◌, ◌/◌, ◌%◌, ◌<◌, ◌≤◌, min, length, get_or, if◌then◌else◌}
 use Rattle.common.specs.Lists.{padded}
 use Rattle.keys.specs.declared.NetworkKeys.{NetworkKeys}
 use Rattle.network.specs.declared.header.Header.{Header}
-use Rattle.network.specs.declared.iv_index.IvIndex.TheVariants.{Index}
-use Rattle.network.specs.declared.opening.Answer.TheVariants.{Opened}
 use Rattle.network.specs.Candidates.{network_key_places, key_at, candidates, opens}
 use Rattle.network.specs.Header.{transport_of}
 use Rattle.network.specs.IvIndex.{iv_index_heard}
@@ -43,7 +41,7 @@ FirstOctet =
 abbrev pub OtherParity : Type 0
 OtherParity =
     (key : NetworkKeys) (h : Header) (current i : ℕ) → key.nid ≤ 127
-    → iv_index_heard current (octet0 (pdu_of key h) / 128) ≡ Index i → i % 2 ≡ h.iv % 2
+    → iv_index_heard current (octet0 (pdu_of key h) / 128) ≡ Some i → i % 2 ≡ h.iv % 2
 
 -- what a header has besides that sealing does not ask for
 pub record Formed (h : Header) : Type 0 where
@@ -61,7 +59,7 @@ placed place h =
 abbrev pub TriedSealed : Type 0
 TriedSealed =
     (key : NetworkKeys) (place : ℕ) (h : Header) → sealable key h ≡ true → Formed h
-    → tried key place h.iv (pdu_of key h) ≡ record { ok = true; header = placed place h }
+    → tried key place h.iv (pdu_of key h) ≡ Some (placed place h)
 
 -- a receiver, by the keys that it holds and its current IV Index, of a PDU that the key of h sealed
 pub record Receives (keys : List NetworkKeys) (count current : ℕ) (h : Header) (pdu : List ℕ) : Type 0 where
@@ -78,4 +76,4 @@ OpenSeal =
     (keys : List NetworkKeys) (count current : ℕ) (h : Header)
     → (let key = key_at keys h.key in
     sealable key h ≡ true → Formed h → Receives keys count current h (pdu_of key h)
-    → opening keys count current (pdu_of key h) ≡ record { answer = Opened; trials = length (candidates keys h.key key.nid) + 1; header = h })
+    → opening keys count current (pdu_of key h) ≡ record { trials = length (candidates keys h.key key.nid) + 1; opened = Ok h })

@@ -1,20 +1,14 @@
 -- One key tried on one PDU of 14 to 29 octets: the header that it gives, or that it does not authenticate.
-use Rattle.std.specs.Prelude.{Bool, true, false, ◌&&◌, List, ℕ, ◌-◌, ◌%◌, leb, ltb, length, get_or, take, drop, if◌then◌else◌}
+use Rattle.std.specs.Prelude.{Bool, ◌&&◌, Option, Some, None, List, ℕ, ◌-◌, ◌%◌, leb, ltb, length, get_or, take, drop, if◌then◌else◌}
 use Rattle.common.specs.Lists.{padded}
 use Rattle.common.specs.Lent.{Lent}
 use Rattle.aes.specs.KeyExpansion.{key_schedule}
 use Rattle.modes.specs.Ccm.{decrypted}
 use Rattle.keys.specs.declared.NetworkKeys.{NetworkKeys}
 use Rattle.network.specs.declared.header.Header.{Header}
-use Rattle.network.specs.declared.trial.Trial.{Trial}
-use Rattle.network.specs.Header.{no_header}
 use Rattle.network.specs.Nonce.{network_nonce}
 use Rattle.network.specs.Octets.{number}
 use Rattle.network.specs.Pdu.{net_mic, front_of}
-
--- it does not authenticate
-abbrev pub no_trial : Trial
-no_trial = record { ok = false; header = no_header }
 
 -- what octets 1-6 say in clear: CTL (1), TTL (7); SEQ; SRC
 abbrev pub ctl_of : List ℕ → Bool
@@ -53,10 +47,10 @@ unfoldable pub body_tried : NetworkKeys → ℕ → List ℕ → List ℕ → Le
 body_tried key iv front pdu = decrypted (key_schedule key.encryption) (nonce_of iv front) (net_mic (ctl_of front)) (drop 7 pdu)
 
 -- the key at a place of the list tried on a PDU; CTL 1 in fewer than 18 octets never authenticates
-unfoldable pub tried : NetworkKeys → ℕ → ℕ → List ℕ → Trial
+unfoldable pub tried : NetworkKeys → ℕ → ℕ → List ℕ → Option Header
 tried key place iv pdu =
     let front = front_of key iv pdu in
     let body = body_tried key iv front pdu in
-    if ctl_of front && ltb (length pdu) 18 then no_trial else
-    if body.answer then record { ok = true; header = header_of place iv front body.buffer } else
-    no_trial
+    if ctl_of front && ltb (length pdu) 18 then None else
+    if body.answer then Some (header_of place iv front body.buffer) else
+    None

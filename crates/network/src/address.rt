@@ -1,6 +1,6 @@
 // An address has its kind by its range, and the kinds say which addresses a Network PDU may have.
 ghost use Rattle.std.specs.Prelude.{◌≡◌};
-ghost use Rattle.network.specs.Address.{kind_of, unicast_kind, is_unicast, is_reserved, destination_kind, addresses_allowed};
+ghost use Rattle.network.specs.Address.{kind_of, is_unicast, is_reserved, destination_kind, addresses_allowed};
 
 // What an address names.
 #[derive(Clone, Copy)]
@@ -18,6 +18,7 @@ pub enum AddressKind {
 }
 
 // The kind of an address, by its range.
+#[tactic(auto, unfolding(crate::specs::Address::kind_of))]
 pub fn kind(address: u16) -> AddressKind
     ensures { result ≡ kind_of address }
 {
@@ -31,34 +32,20 @@ pub fn kind(address: u16) -> AddressKind
     }
 }
 
-// Whether a kind is unicast.
-fn unicast(kind: AddressKind) -> bool
-    ensures { result ≡ unicast_kind kind }
-{
-    match kind {
-        AddressKind::Unassigned => false,
-        AddressKind::Unicast => true,
-        AddressKind::Virtual => false,
-        AddressKind::Group => false,
-        AddressKind::Reserved => false,
-    }
-}
-
 // Whether an address is unicast.
+#[tactic(auto, unfolding(crate::specs::Address::is_unicast))]
 pub fn is_unicast(address: u16) -> bool
     ensures { result ≡ is_unicast address }
 {
-    unicast(kind(address))
+    matches!(kind(address), AddressKind::Unicast)
 }
 
 // Whether an address is reserved.
+#[tactic(auto, unfolding(crate::specs::Address::is_reserved))]
 pub fn is_reserved(address: u16) -> bool
     ensures { result ≡ is_reserved address }
 {
-    if let AddressKind::Reserved = kind(address) {
-        return true;
-    }
-    false
+    matches!(kind(address), AddressKind::Reserved)
 }
 
 // Whether a DST may be of this kind.
@@ -67,19 +54,15 @@ fn destination(ctl: bool, kind: AddressKind) -> bool
 {
     match kind {
         AddressKind::Unassigned => false,
-        AddressKind::Unicast => true,
         AddressKind::Virtual => !ctl,
-        AddressKind::Group => true,
-        AddressKind::Reserved => true,
+        AddressKind::Unicast | AddressKind::Group | AddressKind::Reserved => true,
     }
 }
 
 // Refusal 4's rule: SRC is unicast; DST is not unassigned, and not virtual if CTL is 1.
+#[tactic(auto, unfolding(crate::specs::Address::addresses_allowed))]
 pub fn allowed(ctl: bool, src: u16, dst: u16) -> bool
     ensures { result ≡ addresses_allowed ctl src dst }
 {
-    if is_unicast(src) {
-        return destination(ctl, kind(dst));
-    }
-    false
+    is_unicast(src) && destination(ctl, kind(dst))
 }

@@ -15,12 +15,12 @@ pub struct Header {
     pub seq: u32,
     pub src: u16,
     pub dst: u16,
-    // How many octets of transport there are; those behind them are zero.
+    // How many octets of transport there are; those behind them are zero. There is no heap, so they stand in an array.
     pub len: usize,
     pub transport: [u8; 16],
 }
 
-// The header of a PDU that was not opened: zeros.
+// The header of no PDU, whose fields are still to be written: zeros.
 pub fn none() -> Header
     ensures { result ≡ no_header }
 {

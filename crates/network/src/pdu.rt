@@ -4,6 +4,7 @@ ghost use Rattle.network.specs.Pdu.{net_mic, obfuscated};
 
 use keys::NetworkKeys;
 use modes::ccm::MicSize;
+use std::array;
 
 // The size of the NetMIC.
 pub(crate) fn net_mic(ctl: bool) -> MicSize
@@ -16,34 +17,11 @@ pub(crate) fn net_mic(ctl: bool) -> MicSize
 pub(crate) fn obfuscate(key: NetworkKeys, iv: u32, front: [u8; 6], random: [u8; 7]) -> [u8; 6]
     ensures { result ≡ obfuscated key iv front random }
 {
-    let privacy = key.privacy;
-    let block = [
-        0,
-        0,
-        0,
-        0,
-        0,
-        (iv / 256 / 256 / 256 % 256) as u8,
-        (iv / 256 / 256 % 256) as u8,
-        (iv / 256 % 256) as u8,
-        (iv % 256) as u8,
-        random[0],
-        random[1],
-        random[2],
-        random[3],
-        random[4],
-        random[5],
-        random[6],
-    ];
-    let b = aes::encrypt(aes::expand(privacy), block);
-    [
-        front[0] ^ b[0],
-        front[1] ^ b[1],
-        front[2] ^ b[2],
-        front[3] ^ b[3],
-        front[4] ^ b[4],
-        front[5] ^ b[5],
-    ]
+    let mut block = [0; 16];
+    block[5..9].copy_from_slice(&iv.to_be_bytes());
+    block[9..].copy_from_slice(&random);
+    let b = aes::encrypt(aes::expand(key.privacy), block);
+    array::from_fn(|i| front[i] ^ b[i])
 }
 
 // The seven octets of s from `at` on.
@@ -51,13 +29,7 @@ pub(crate) fn seven(s: &[u8], at: usize) -> [u8; 7]
     requires { at + 7 ≤ length s.now }
     ensures { result ≡ take 7 (drop at s.now) }
 {
-    [
-        s[at],
-        s[at + 1],
-        s[at + 2],
-        s[at + 3],
-        s[at + 4],
-        s[at + 5],
-        s[at + 6],
-    ]
+    let mut octets = [0; 7];
+    octets.copy_from_slice(&s[at..at + 7]);
+    octets
 }

@@ -10,10 +10,9 @@ ghost use Rattle.network.specs.Sealing.{paper, most_transport, sealable, sealing
 use super::header::Header;
 use keys::NetworkKeys;
 
+// Why a header is not sealed.
 #[derive(Clone, Copy)]
-pub enum Answer {
-    // The PDU stands in the first octets of the buffer, as many as named.
-    Sealed(usize),
+pub enum Refusal {
     // 14: outside the rules.
     OutsideRules,
     // 16: the buffer is shorter than 29.
@@ -21,13 +20,15 @@ pub enum Answer {
 }
 
 // Document 01's number of an answer; 0 where nothing is refused.
-pub fn number(answer: Answer) -> u32
-    ensures { result ≡ number_of (paper answer) }
+pub fn number(sealed: Result<usize, Refusal>) -> u32
+    ensures { result ≡ number_of (paper sealed) }
 {
-    match answer {
-        Answer::Sealed(_) => 0,
-        Answer::OutsideRules => 14,
-        Answer::ShortBuffer => 16,
+    let Err(refusal) = sealed else {
+        return 0;
+    };
+    match refusal {
+        Refusal::OutsideRules => 14,
+        Refusal::ShortBuffer => 16,
     }
 }
 
@@ -38,53 +39,27 @@ fn most_transport(ctl: bool) -> usize
 }
 
 // Whether a header is within the rules for a key.
+#[tactic(auto, unfolding(crate::specs::Sealing::sealable))]
 fn may_seal(key: NetworkKeys, h: Header) -> bool
     ensures { result ≡ sealable key h }
 {
-    if 127 < key.nid {
-        return false;
-    }
-    if 127 < h.ttl {
-        return false;
-    }
-    if 0xFFFFFF < h.seq {
-        return false;
-    }
-    if !super::address::allowed(h.ctl, h.src, h.dst) {
-        return false;
-    }
-    if h.len < 1 {
-        return false;
-    }
-    h.len <= most_transport(h.ctl)
+    key.nid <= 127
+        && h.ttl <= 127
+        && h.seq <= 0xFFFFFF
+        && super::address::allowed(h.ctl, h.src, h.dst)
+        && 1 <= h.len
+        && h.len <= most_transport(h.ctl)
 }
 
 // DST and all sixteen octets of transport.
+#[tactic(auto, unfolding(crate::specs::Octets::octets))]
 pub fn clear_body(h: Header) -> [u8; 18]
     ensures { result ≡ octets 2 h.dst ++ h.transport }
 {
-    let t = h.transport;
-    let dst = h.dst;
-    [
-        (dst / 256 % 256) as u8,
-        (dst % 256) as u8,
-        t[0],
-        t[1],
-        t[2],
-        t[3],
-        t[4],
-        t[5],
-        t[6],
-        t[7],
-        t[8],
-        t[9],
-        t[10],
-        t[11],
-        t[12],
-        t[13],
-        t[14],
-        t[15],
-    ]
+    let mut clear = [0; 18];
+    clear[..2].copy_from_slice(&h.dst.to_be_bytes());
+    clear[2..].copy_from_slice(&h.transport);
+    clear
 }
 
 // Writes DST and transport, which clear begins with, encrypted, and the NetMIC to out from octet 7 on.
@@ -93,29 +68,30 @@ fn write_body(key: NetworkKeys, h: Header, clear: [u8; 18], out: &mut [u8])
     ensures { out.new ≡ take 7 out.old ++ onto (body_of key h) (drop 7 out.old) }
 {
     let n = 2 + h.len;
-    let encryption = key.encryption;
     let nonce = super::nonce::network(h.ctl, h.ttl, h.seq, h.src, h.iv);
-    let ks = aes::expand(encryption);
+    let ks = aes::expand(key.encryption);
     let mic = super::pdu::net_mic(h.ctl);
     modes::ccm::seal(ks, nonce, mic, &clear[..n], &mut out[7..]);
 }
 
 // Octets 1-6 in clear.
+#[tactic(auto, unfolding(crate::specs::Octets::octets, crate::specs::Pdu::clear_front))]
 pub fn clear_front(h: Header) -> [u8; 6]
     ensures { result ≡ clear_front h }
 {
-    let seq = h.seq;
-    let src = h.src;
+    let seq = h.seq.to_be_bytes();
+    let src = h.src.to_be_bytes();
     [
         super::nonce::ctl_ttl(h.ctl, h.ttl),
-        (seq / 256 / 256 % 256) as u8,
-        (seq / 256 % 256) as u8,
-        (seq % 256) as u8,
-        (src / 256 % 256) as u8,
-        (src % 256) as u8,
+        seq[1],
+        seq[2],
+        seq[3],
+        src[0],
+        src[1],
     ]
 }
 
+#[tactic(auto, unfolding(crate::specs::Pdu::first_octet))]
 fn first_octet(iv: u32, nid: u8) -> u8
     requires { nid ≤ 127 }
     ensures { result ≡ first_octet iv nid }
@@ -129,16 +105,8 @@ fn write_front(key: NetworkKeys, h: Header, out: &mut [u8])
     ensures { out.new ≡ onto (first_octet h.iv key.nid ∷ obfuscated key h.iv (clear_front h) (take 7 (drop 7 out.old))) out.old }
 {
     let hidden = super::pdu::obfuscate(key, h.iv, clear_front(h), super::pdu::seven(out, 7));
-    let front = [
-        first_octet(h.iv, key.nid),
-        hidden[0],
-        hidden[1],
-        hidden[2],
-        hidden[3],
-        hidden[4],
-        hidden[5],
-    ];
-    common::copy(&front, out);
+    out[0] = first_octet(h.iv, key.nid);
+    out[1..7].copy_from_slice(&hidden);
 }
 
 // How many octets a PDU with `len` octets of transport has.
@@ -149,55 +117,54 @@ fn pdu_len(ctl: bool, len: usize) -> usize
     if ctl { 9 + len + 8 } else { 9 + len + 4 }
 }
 
-// Seals a header under a key into the first octets of out.
-pub fn seal(key: NetworkKeys, h: Header, out: &mut [u8]) -> Answer
+// Seals a header under a key into the first octets of out, and says how many the PDU has.
+#[tactic(auto, unfolding(crate::specs::Sealing::sealing))]
+pub fn seal(key: NetworkKeys, h: Header, out: &mut [u8]) -> Result<usize, Refusal>
     ensures { lent result out.new ≡ sealing key h out.old }
 {
     if out.len() < super::header::PDU {
-        return Answer::ShortBuffer;
+        return Err(Refusal::ShortBuffer);
     }
     if !may_seal(key, h) {
-        return Answer::OutsideRules;
+        return Err(Refusal::OutsideRules);
     }
     write_body(key, h, clear_body(h), out);
     write_front(key, h, out);
-    Answer::Sealed(pdu_len(h.ctl, h.len))
+    Ok(pdu_len(h.ctl, h.len))
 }
 
 // Whether an opened PDU is forwarded; local says that its DST is a local unicast address.
+#[tactic(auto, unfolding(crate::specs::Sealing::forwards))]
 pub fn is_forwarded(relay: bool, local: bool, h: Header) -> bool
     ensures { result ≡ forwards relay local h }
 {
-    if !relay {
-        return false;
-    }
-    if h.ttl < 2 {
-        return false;
-    }
-    !local
+    relay && 2 <= h.ttl && !local
 }
 
-// The header with TTL less 1.
+// The header with TTL less 1; a TTL of 0 stays.
 pub fn lower(h: Header) -> Header
     ensures { result ≡ lowered h }
 {
-    let mut next = h;
-    if 0 < h.ttl {
-        next.ttl = h.ttl - 1;
+    Header {
+        ttl: h.ttl.saturating_sub(1),
+        ..h
     }
-    next
 }
 
 // Seals an opened PDU again with TTL less 1, under the key that opened it and the same IV Index.
-pub fn forward(held: [NetworkKeys; super::opening::KEYS], h: Header, out: &mut [u8]) -> Answer
+#[tactic(auto, unfolding(crate::specs::Sealing::forwarding))]
+pub fn forward(
+    held: [NetworkKeys; super::opening::KEYS],
+    h: Header,
+    out: &mut [u8],
+) -> Result<usize, Refusal>
     ensures { lent result out.new ≡ forwarding held h out.old }
 {
     if out.len() < super::header::PDU {
-        return Answer::ShortBuffer;
+        return Err(Refusal::ShortBuffer);
     }
-    let place = h.key;
-    if super::opening::KEYS <= place {
-        return Answer::OutsideRules;
+    if super::opening::KEYS <= h.key {
+        return Err(Refusal::OutsideRules);
     }
-    seal(held[place], lower(h), out)
+    seal(held[h.key], lower(h), out)
 }

@@ -4,47 +4,24 @@ ghost use Rattle.common.specs.Lent.{lent};
 ghost use Rattle.aes.specs.KeyExpansion.{key_schedule};
 ghost use Rattle.modes.specs.Ccm.{mic_octets, opening};
 ghost use Rattle.network.specs.Pdu.{pdu_octets, net_mic, front_of};
-ghost use Rattle.network.specs.Trial.{no_trial, ctl_of, seq_of, src_of, nonce_of, header_of, tried};
+ghost use Rattle.network.specs.Trial.{ctl_of, seq_of, src_of, nonce_of, header_of, tried};
 ghost use Rattle.network.specs.Candidates.{searched};
 
 use super::header::Header;
 use keys::NetworkKeys;
 
-// What one key makes of a PDU: its header, or zeros where it does not authenticate.
-#[derive(Clone, Copy)]
-pub struct Trial {
-    pub ok: bool,
-    pub header: Header,
-}
-
-// What the candidates make of a PDU: the header under the first that authenticates, and the number of trials.
+// What the candidates make of a PDU: the number of trials, and the header under the first that authenticates.
 #[derive(Clone, Copy)]
 pub struct Found {
-    pub ok: bool,
     pub trials: usize,
-    pub header: Header,
+    pub opened: Option<Header>,
 }
 
-// Octets 1-6 of a PDU in clear.
-fn front_of(key: NetworkKeys, iv: u32, pdu: &[u8]) -> [u8; 6]
-    requires { 14 ≤ length pdu.now }
-    ensures { result ≡ front_of key iv pdu.now }
-{
-    let front = [pdu[1], pdu[2], pdu[3], pdu[4], pdu[5], pdu[6]];
-    super::pdu::obfuscate(key, iv, front, super::pdu::seven(pdu, 7))
-}
-
-// Octets as a number, high first.
-fn word(a: u8, b: u8) -> u16
-    ensures { result ≡ a * 256 + b }
-{
-    (a as u16) * 256 + b as u16
-}
-
-fn triple(a: u8, b: u8, c: u8) -> u32
-    ensures { result ≡ (a * 256 + b) * 256 + c }
-{
-    ((a as u32) * 256 + b as u32) * 256 + c as u32
+// A PDU of 14 to 29 octets: no other is tried.
+#[derive(Clone, Copy)]
+pub(crate) struct Pdu<'a> {
+    pub(crate) octets: &'a [u8],
+    ghost sized: { (14 ≤ length octets.now) × (length octets.now ≤ pdu_octets) },
 }
 
 // What octets 1-6 say in clear.
@@ -54,16 +31,18 @@ fn ctl_of(front: [u8; 6]) -> bool
     128 <= front[0]
 }
 
+#[tactic(auto, unfolding(crate::specs::Octets::number, crate::specs::Octets::number_from))]
 fn seq_of(front: [u8; 6]) -> u32
     ensures { result ≡ seq_of front }
 {
-    triple(front[1], front[2], front[3])
+    u32::from_be_bytes([0, front[1], front[2], front[3]])
 }
 
+#[tactic(auto, unfolding(crate::specs::Octets::number, crate::specs::Octets::number_from))]
 fn src_of(front: [u8; 6]) -> u16
     ensures { result ≡ src_of front }
 {
-    word(front[4], front[5])
+    u16::from_be_bytes([front[4], front[5]])
 }
 
 // The header of a clear front and a clear body.
@@ -80,13 +59,14 @@ fn header_of(place: usize, iv: u32, front: [u8; 6], body: &[u8]) -> Header
         ttl: front[0] % 128,
         seq: seq_of(front),
         src: src_of(front),
-        dst: word(body[0], body[1]),
+        dst: u16::from_be_bytes([body[0], body[1]]),
         len: body.len() - 2,
         transport,
     }
 }
 
 // The network nonce that a clear front gives.
+#[tactic(auto, unfolding(crate::specs::Trial::nonce_of))]
 fn nonce_of(iv: u32, front: [u8; 6]) -> [u8; 13]
     ensures { result ≡ nonce_of iv front }
 {
@@ -99,36 +79,12 @@ fn nonce_of(iv: u32, front: [u8; 6]) -> [u8; 13]
     )
 }
 
-// Opens the body of a PDU into out, with the nonce that its clear front gives.
-fn open_body(key: NetworkKeys, iv: u32, front: [u8; 6], pdu: &[u8], out: &mut [u8]) -> bool
-    requires { 14 ≤ length pdu.now }
-    ensures { lent result out.new ≡ opening (key_schedule key.encryption) (nonce_of iv front) (net_mic (ctl_of front)) (drop 7 pdu.now) out.old }
-{
-    let encryption = key.encryption;
-    modes::ccm::open(
-        aes::expand(encryption),
-        nonce_of(iv, front),
-        super::pdu::net_mic(ctl_of(front)),
-        &pdu[7..],
-        out,
-    )
-}
-
 // How many octets of DST and transport a PDU of n octets has.
 fn clear_len(ctl: bool, n: usize) -> usize
     requires { 7 + mic_octets (net_mic ctl) ≤ n }
     ensures { result ≡ n - 7 - mic_octets (net_mic ctl) }
 {
     if ctl { n - 7 - 8 } else { n - 7 - 4 }
-}
-
-fn none() -> Trial
-    ensures { result ≡ no_trial }
-{
-    Trial {
-        ok: false,
-        header: super::header::none(),
-    }
 }
 
 // Whether a PDU of n octets is too short for its CTL.
@@ -138,61 +94,80 @@ fn too_short(ctl: bool, n: usize) -> bool
     ctl && n < 18
 }
 
-// The key at a place of the list tried on a PDU.
-pub(crate) fn try_key(key: NetworkKeys, place: usize, iv: u32, pdu: &[u8]) -> Trial
-    requires { (14 ≤ length pdu.now) × (length pdu.now ≤ pdu_octets) }
-    ensures { result ≡ tried key place iv pdu.now }
-{
-    let front = front_of(key, iv, pdu);
-    let ctl = ctl_of(front);
-    if too_short(ctl, pdu.len()) {
-        return none();
+impl<'a> Pdu<'a> {
+    // Its octets 1-6 in clear. They go on as an array beside the IV Index, which is that of all keys: a struct of both would be made anew
+    // for each key.
+    #[tactic(auto, using(crate::proofs::TrialLaws::taken), unfolding(crate::specs::Pdu::front_of))]
+    fn front_of(&self, key: NetworkKeys, iv: u32) -> [u8; 6]
+        ensures { result ≡ front_of key iv self.now.octets.now }
+    {
+        let pdu = self.octets;
+        let front = [pdu[1], pdu[2], pdu[3], pdu[4], pdu[5], pdu[6]];
+        super::pdu::obfuscate(key, iv, front, super::pdu::seven(pdu, 7))
     }
-    let mut body = [0u8; 18];
-    if !open_body(key, iv, front, pdu, &mut body) {
-        return none();
-    }
-    let n = clear_len(ctl, pdu.len());
-    Trial {
-        ok: true,
-        header: header_of(place, iv, front, &body[..n]),
-    }
-}
 
-// The candidates are tried one by one, stopping at the first that authenticates.
-pub(crate) fn search(
-    held: [NetworkKeys; super::opening::KEYS],
-    count: usize,
-    nid: u8,
-    iv: u32,
-    pdu: &[u8],
-) -> Found
-    requires { (14 ≤ length pdu.now) × (length pdu.now ≤ pdu_octets) }
-    ensures { result ≡ searched held count nid iv pdu.now }
-{
-    let mut i: usize = 0;
-    let mut trials: usize = 0;
-    loop {
-        if super::opening::KEYS <= i || count <= i {
-            break Found {
-                ok: false,
-                trials,
-                header: super::header::none(),
-            };
+    // Opens its body into out, with the nonce that its clear front gives.
+    fn open_body(&self, key: NetworkKeys, iv: u32, front: [u8; 6], out: &mut [u8]) -> bool
+        ensures { lent result out.new ≡ opening (key_schedule key.encryption) (nonce_of iv front) (net_mic (ctl_of front)) (drop 7 self.now.octets.now) out.old }
+    {
+        let encryption = key.encryption;
+        modes::ccm::open(
+            aes::expand(encryption),
+            nonce_of(iv, front),
+            super::pdu::net_mic(ctl_of(front)),
+            &self.octets[7..],
+            out,
+        )
+    }
+
+    // The key at a place of the list tried on it: its header, if it authenticates.
+    fn try_key(&self, key: NetworkKeys, place: usize, iv: u32) -> Option<Header>
+        ensures { result ≡ tried key place iv self.now.octets.now }
+    {
+        let front = self.front_of(key, iv);
+        let ctl = ctl_of(front);
+        if too_short(ctl, self.octets.len()) {
+            return None;
         }
-        let key = held[i];
-        if key.nid == nid {
-            trials += 1;
-            let t = try_key(key, i, iv, pdu);
-            if t.ok {
-                let header = t.header;
+        let mut body = [0u8; 18];
+        if !self.open_body(key, iv, front, &mut body) {
+            return None;
+        }
+        let n = clear_len(ctl, self.octets.len());
+        Some(header_of(place, iv, front, &body[..n]))
+    }
+
+    // The candidates are tried one by one, stopping at the first that authenticates.
+    pub(crate) fn search(
+        &self,
+        held: [NetworkKeys; super::opening::KEYS],
+        count: usize,
+        nid: u8,
+        iv: u32,
+    ) -> Found
+        ensures { result ≡ searched held count nid iv self.now.octets.now }
+    {
+        let mut i: usize = 0;
+        let mut trials: usize = 0;
+        // A loop that ends by break: document 01 names this form for the candidate keys.
+        loop {
+            if super::opening::KEYS <= i || count <= i {
                 break Found {
-                    ok: true,
                     trials,
-                    header,
+                    opened: None,
                 };
             }
+            let key = held[i];
+            if key.nid == nid {
+                trials += 1;
+                if let Some(header) = self.try_key(key, i, iv) {
+                    break Found {
+                        trials,
+                        opened: Some(header),
+                    };
+                }
+            }
+            i += 1;
         }
-        i += 1;
     }
 }

@@ -8,7 +8,7 @@ use mathlib.Core.Bool.{Bool, true, false, ◌&&◌}
 use mathlib.Core.Path.{◌≡◌, refl}
 use Prim.Native.Nat.{ℕ, ◌+◌, ◌-◌, ◌≤◌, ◌<◌, min}
 use native.Mathlib.Omega.{arith}
-use borrow.Author.Tests.{lt-ltb, le-ltb, le-leb, lt-leb, ltb-true, ltb-false, leb-true, eq-eqb, ne_eqb}
+use borrow.Author.Tests.{lt-ltb, le-ltb, le-leb, lt-leb, ltb-true, ltb-false, leb-true, ne_eqb}
 use lib.Dec.{eqb, leb, ltb}
 use Rattle.common.proofs.Tests.{by_test, and_first, and_second}
 use Rattle.network.specs.Address.{is_reserved}
@@ -54,21 +54,9 @@ module _ (node : Node) (a : ℕ) where
     answers_local t = simp (← e, t)
 
     module _ (f : b ≡ false) where
-      pub answers_all : a ≡ 0xFFFF → true ≡ answers_to node a
-      unfolding answers_to
-      answers_all h = simp (← e, f, eq-eqb a 0xFFFF h)
-
       module _ (n : a ≡ 0xFFFF → ⊥) where
-        pub answers_relays : a ≡ 0xFFFE → node.relay ≡ true → true ≡ answers_to node a
-        unfolding answers_to
-        answers_relays h t = simp (← e, f, ne_eqb a 0xFFFF n, eq-eqb a 0xFFFE h, t)
-
         -- not 0xFFFE, or relay is off: groups and labels decide
         module _ (w : eqb a 0xFFFE && node.relay ≡ false) {l : Bool} (q : l ≡ listens node a) where
-          pub answers_listened : l ≡ true → true ≡ answers_to node a
-          unfolding answers_to
-          answers_listened t = simp (← e, f, ne_eqb a 0xFFFF n, w, ← q, t)
-
           pub answers_label : l ≡ false → {m : Bool} → m ≡ holds_label node a → m ≡ answers_to node a
           unfolding answers_to
           answers_label t p = rw (← e, f, ne_eqb a 0xFFFF n, w, ← q, t) p
@@ -76,9 +64,6 @@ module _ (node : Node) (a : ℕ) where
   -- the tests of 0xFFFE and relay
   pub no_relays : (a ≡ 0xFFFE → ⊥) → eqb a 0xFFFE && node.relay ≡ false
   no_relays h = rw (ne_eqb a 0xFFFE h)
-
-  pub relay_off : node.relay ≡ false → eqb a 0xFFFE && node.relay ≡ false
-  relay_off r = rw r (by_test (eqb a 0xFFFE) (λ t. rw t) (λ t. rw t))
 
   -- ---- whether a PDU is for this node
   module _ {s : Bool} (e : s ≡ is_reserved a) where

@@ -1,37 +1,34 @@
--- None of the first n fails: a loop that passes each keeps it that none before i fails, ends with the first that fails, and at n every one has passed.
--- Then each of the n passes. Assumes nothing.
-use mathlib.Core.Bool.{Bool, true, false, not}
-use mathlib.Core.List.{List}
-use mathlib.Core.Path.{◌≡◌, sym, ap}
-use Prim.Native.Nat.{ℕ, ◌+◌, ◌≤◌, ◌<◌}
+-- None of the first n fails: `all` over them says so, and then each of the n passes.
+-- Assumes nothing.
+use mathlib.Core.Bool.{Bool, true, not}
+use mathlib.Core.List.{List, [], ◌∷◌}
+use mathlib.Core.Path.{◌≡◌, sym, ◌∙◌}
+use Prim.Native.Nat.{ℕ, zero, suc, ◌≤◌, ◌<◌}
+use native.Mathlib.Nat.{le_of_suc-le-suc, not-suc-le-zero}
 use native.Mathlib.Omega.{arith}
-use borrow.Author.Tests.{le-leb, lt-leb, leb-true, not-false}
-use lib.ListN.{length, get_or}
+use borrow.Author.Tests.{le-leb, lt-leb, leb-true, leb-false, not-false}
+use lib.Dec.{leb}
+use lib.ListN.{length, get_or, take}
+use Rattle.std.specs.List.{list_all}
 use Rattle.common.specs.Search.{first}
-use Rattle.common.proofs.Search.{NoneBefore, first_start, first_on, first_below, first_not_below, first_before}
+use Rattle.common.proofs.Search.{first_before}
+use Rattle.common.proofs.Tests.{by_test}
 use Rattle.node.specs.Setup.{every}
 
--- the loop's invariant: l's elements before i pass
-pub record EachBefore {A : Type 0} (p : A → Bool) (l : List A) (i : ℕ) : Type 0 where
-  pub none : NoneBefore (λ x. not (p x)) l i
+on_suc : (a b : ℕ) → leb a b ≡ leb (suc a) (suc b)
+on_suc a b =
+    by_test (leb a b) (λ t. let h = leb-true a b t in rw t (sym (le-leb (suc a) (suc b) (omega arith))))
+    (λ t. let h = leb-false a b t in rw t (sym (lt-leb (suc a) (suc b) (omega arith))))
 
-module _ {A : Type 0} {p : A → Bool} {l : List A} where
-  -- the loop begins
-  pub every_start : EachBefore p l 0
-  every_start = record { none = first_start (λ x. not (p x)) l }
-
-  module _ {i : ℕ} (e : EachBefore p l i) where
-    -- the element at i passes
-    pub every_on : (d : A) → i < length l → p (get_or l i d) ≡ true → EachBefore p l (i + 1)
-    every_on d h t = record { none = first_on (λ x. not (p x)) l i d h (ap not t) e.none }
-
-    -- the element at i fails
-    pub every_fails : (n : ℕ) (d : A) → i < length l → i < n → p (get_or l i d) ≡ false → false ≡ every p n l
-    every_fails n d h b t = sym (lt-leb n (first (λ x. not (p x)) l) (first_below (λ x. not (p x)) l i n d h b (ap not t) e.none))
-
-    -- the loop has come to n
-    pub every_end : (n : ℕ) → n ≤ i → true ≡ every p n l
-    every_end n h = sym (le-leb n (first (λ x. not (p x)) l) (first_not_below (λ x. not (p x)) l i n h e.none))
+-- `all` over the first n
+pub all_every : {A : Type 0} (p : A → Bool) (l : List A) (n : ℕ) → n ≤ length l → list_all p (take n l) ≡ every p n l
+unfolding first
+all_every p l zero h = sym (le-leb 0 (first (λ x. not (p x)) l) (omega arith))
+all_every p [] (suc n) h = absurd (not-suc-le-zero h)
+all_every p (x ∷ l) (suc n) h =
+    by_test (p x)
+    (λ t. rw t (all_every p l n (le_of_suc-le-suc h) ∙ on_suc n (first (λ x. not (p x)) l)))
+    (λ t. rw t (sym (lt-leb (suc n) 0 (omega arith))))
 
 -- each of the first n passes
 pub every_each : {A : Type 0} (p : A → Bool) (n : ℕ) (l : List A) → every p n l ≡ true → (j : ℕ) (d : A) → j < n → p (get_or l j d) ≡ true

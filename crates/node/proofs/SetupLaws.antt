@@ -1,8 +1,9 @@
 -- `MakesWell` and `LocalIsUnicast`: what `valid` tests is what the table allows, each place of the node's arrays is what its setup's place gives, and an element's
 -- address lies between the first one's and 0x7FFF. Assumes nothing.
-use mathlib.Core.Bool.{Bool, true, ◌&&◌, not, false≢true}
+use mathlib.Core.Bool.{Bool, true, ◌&&◌, not}
 use mathlib.Core.List.{[]}
 use mathlib.Core.Path.{◌≡◌}
+use Rattle.std.specs.Prelude.{Some, None}
 use Prim.Native.Nat.{ℕ, ◌+◌, ◌≤◌, ◌<◌}
 use native.Mathlib.Omega.{arith}
 use borrow.Author.Tests.{lt-ltb, leb-true, ltb-true, eqb-false, not-true}
@@ -15,6 +16,7 @@ use Rattle.network.proofs.AddressLaws.{unicast_range}
 use Rattle.network.specs.Candidates.{network_key_places}
 use Rattle.transport.specs.Securing.{application_key_places, label_places}
 use Rattle.node.specs.declared.setup.BoundKey.{BoundKey}
+use Rattle.node.specs.declared.setup.Made.{Made}
 use Rattle.node.specs.declared.setup.Setup.{Setup}
 use Rattle.node.specs.Setup.{every, bound_within, keys_valid, next_within, elements_valid, is_group, groups_valid, index_valid, valid}
 use Rattle.node.specs.Setup.{network_key_at, material_at, bound_key_at, next_at, group_at, label_uuid_at, node_of, next_of, making}
@@ -144,17 +146,21 @@ module _ (s : Setup) where
         }
 
 -- ---- what setup makes
-made_valid : (s : Setup) → (making s).ok ≡ true → valid s ≡ true
-unfolding making
-made_valid s e = by_test (valid s) (λ t. t) (λ t. absurd (false≢true (rw t at e)))
+module _ (s : Setup) (m : Made) (e : making s ≡ Some m) where
+  pub made_valid : valid s ≡ true
+  unfolding making
+  made_valid = by_test (valid s) (λ t. t) (λ t. let none : None ≡ Some m = rw t at e in cc)
+
+  pub made_is : m ≡ record { node = node_of s; next = next_of s }
+  unfolding making
+  made_is = let some : Some (record { node = node_of s; next = next_of s }) ≡ Some m = rw made_valid at e in cc
 
 pub makes_well : MakesWell
-unfolding making
-makes_well s e = let v = made_valid s e in rw v (node_well_made s v, next_well s v)
+makes_well s m e = let v = made_valid s m e in rw (made_is s m e) (node_well_made s v, next_well s v)
 
 -- it was given group addresses
-pub groups_given : (s : Setup) → (making s).ok ≡ true → (i : ℕ) → i < s.listened → is_group (get_or s.groups i 0) ≡ true
-groups_given s e i h = every_each is_group s.listened s.groups (groups_allowed s (parts s (made_valid s e)).2).1 i 0 h
+pub groups_given : (s : Setup) (m : Made) → making s ≡ Some m → (i : ℕ) → i < s.listened → is_group (get_or s.groups i 0) ≡ true
+groups_given s m e i h = every_each is_group s.listened s.groups (groups_allowed s (parts s (made_valid s m e)).2).1 i 0 h
 
 pub local_is_unicast : LocalIsUnicast
 local_is_unicast node w a e =

@@ -1,10 +1,11 @@
 -- Promise: a node that setup makes holds what document 01's table allows, and its derived keys and addresses are derived from the keys and labels given; so a local address is unicast.
-use Rattle.std.specs.Prelude.{true, List, [], ◌≡◌, ℕ, ◌+◌, ◌≤◌, ◌<◌, length, get_or}
+use Rattle.std.specs.Prelude.{true, List, [], ◌≡◌, ℕ, ◌+◌, ◌≤◌, ◌<◌, Some, length, get_or}
 use Rattle.keys.specs.Derivation.{k2, k4, label_address}
 use Rattle.network.specs.Address.{is_unicast}
 use Rattle.network.specs.Candidates.{network_key_places, key_at}
 use Rattle.transport.specs.Securing.{application_key_places, application_key_at, label_places, label_at}
 use Rattle.node.specs.declared.addresses.Node.{Node}
+use Rattle.node.specs.declared.setup.Made.{Made}
 use Rattle.node.specs.declared.setup.Setup.{Setup}
 use Rattle.node.specs.Addresses.{group_places, element_places, is_local}
 use Rattle.node.specs.Setup.{is_group, making}
@@ -52,7 +53,7 @@ pub record NextWell (elements : ℕ) (next : List ℕ) : Type 0 where
 
 -- what setup makes is well made
 abbrev pub MakesWell : Type 0
-MakesWell = (s : Setup) → (making s).ok ≡ true → WellMade (making s).node × NextWell (making s).node.elements (making s).next
+MakesWell = (s : Setup) (m : Made) → making s ≡ Some m → WellMade m.node × NextWell m.node.elements m.next
 
 -- a local address is unicast
 abbrev pub LocalIsUnicast : Type 0

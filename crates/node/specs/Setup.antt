@@ -4,7 +4,7 @@
 --   node_of s   the node: unused places zero, derived keys worked out
 --   next_of s   each element's next SEQ
 --   making s    what a call leaves
-use Rattle.std.specs.Prelude.{Bool, true, false, ◌&&◌, not, List, [], ℕ, ◌+◌, eqb, leb, ltb, get_or, replicate, set, if◌then◌else◌}
+use Rattle.std.specs.Prelude.{Bool, true, false, ◌&&◌, not, List, [], ℕ, ◌+◌, eqb, leb, ltb, get_or, Option, Some, None, replicate, set, if◌then◌else◌}
 use Rattle.common.specs.Lists.{tab}
 use Rattle.common.specs.Search.{first}
 use Rattle.keys.specs.declared.NetworkKeys.{NetworkKeys}
@@ -22,12 +22,9 @@ use Rattle.node.specs.declared.addresses.Node.{Node}
 use Rattle.node.specs.declared.setup.BoundKey.{BoundKey}
 use Rattle.node.specs.declared.setup.Made.{Made}
 use Rattle.node.specs.declared.setup.Setup.{Setup}
-use Rattle.node.specs.Addresses.{group_places, element_places}
+use Rattle.node.specs.Addresses.{group_places, element_places, zero_key, zero_material, zero_application_key, zero_label_uuid}
 
 -- zeros
-abbrev pub zero_key : Key
-zero_key = record { octets = replicate 16 0 }
-
 abbrev pub zero_bound_key : BoundKey
 zero_bound_key = record { key = replicate 16 0; network = 0 }
 
@@ -212,16 +209,6 @@ index_valid s = not (s.flag && eqb s.iv 0)
 unfoldable pub valid : Setup → Bool
 valid s = keys_valid s && (elements_valid s && (groups_valid s && (leb s.labelled label_places && index_valid s)))
 
--- zeros
-abbrev pub zero_material : NetworkKeys
-zero_material = record { nid = 0; encryption = replicate 16 0; privacy = replicate 16 0 }
-
-abbrev pub zero_application_key : ApplicationKey
-zero_application_key = record { key = replicate 16 0; aid = 0; bound = 0 }
-
-abbrev pub zero_label_uuid : LabelUuid
-zero_label_uuid = record { octets = replicate 16 0; address = 0 }
-
 -- the places of each array: those used, and zeros behind them
 unfoldable pub network_key_at : Setup → ℕ → Key
 network_key_at s i = if ltb i s.networks then get_or s.netkeys i (record { octets = [] }) else zero_key
@@ -273,29 +260,6 @@ node_of s =
 unfoldable pub next_of : Setup → List ℕ
 next_of s = tab (next_at s) element_places
 
--- zeros
-abbrev pub no_node : Node
-no_node =
-    record {
-      networks = 0;
-      netkeys = replicate network_key_places zero_key;
-      materials = replicate network_key_places zero_material;
-      applications = 0;
-      appkeys = replicate application_key_places zero_application_key;
-      device = replicate 16 0;
-      first = 0;
-      elements = 0;
-      listened = 0;
-      groups = replicate group_places 0;
-      labelled = 0;
-      labels = replicate label_places zero_label_uuid;
-      iv = 0;
-      flag = false;
-      relay = false;
-    }
-
--- the node of a valid setup; of any other zeros
-unfoldable pub making : Setup → Made
-making s =
-    if valid s then record { ok = true; node = node_of s; next = next_of s } else
-    record { ok = false; node = no_node; next = replicate element_places 0 }
+-- the node of a valid setup; there is none of any other
+unfoldable pub making : Setup → Option Made
+making s = if valid s then Some (record { node = node_of s; next = next_of s }) else None

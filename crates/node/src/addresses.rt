@@ -1,6 +1,6 @@
 // The node: what is fixed at setup (keys, addresses, relay), the IV Index with its flag, and which addresses it answers to.
 ghost use Rattle.std.specs.Prelude.{◌≡◌};
-ghost use Rattle.node.specs.Addresses.{is_local, listens, holds_label, answers_to, for_node, held_by};
+ghost use Rattle.node.specs.Addresses.{no_node, is_local, listens, holds_label, answers_to, for_node, held_by};
 
 use keys::NetworkKeys;
 use transport::securing::{ApplicationKey, Held, LabelUuid};
@@ -10,7 +10,7 @@ pub const ELEMENTS: usize = 8;
 
 pub const GROUPS: usize = 8;
 
-// Sixteen octets of a key.
+// Sixteen octets of a key. A label is a type of its own: none is taken for a key.
 #[derive(Clone, Copy)]
 pub struct Key {
     pub octets: [u8; 16],
@@ -22,7 +22,8 @@ pub struct Label {
     pub octets: [u8; 16],
 }
 
-// Each number of keys, elements, groups or labels is read as at most the places that its array has.
+// Each number of keys, elements, groups or labels stands beside its array, since memory is fixed and a caller fills both in; it is read as at most the places
+// that the array has.
 #[derive(Clone, Copy)]
 pub struct Node {
     // How many network keys there are, in their fixed order; and the security material that is derived from each: NID, encryption key and privacy key.
@@ -48,6 +49,43 @@ pub struct Node {
     pub relay: bool,
 }
 
+// No node: zeros.
+pub fn none() -> Node
+    ensures { result ≡ no_node }
+{
+    let material = NetworkKeys {
+        nid: 0,
+        encryption: [0u8; 16],
+        privacy: [0u8; 16],
+    };
+    let application_key = ApplicationKey {
+        key: [0u8; 16],
+        aid: 0,
+        bound: 0,
+    };
+    let label = LabelUuid {
+        octets: [0u8; 16],
+        address: 0,
+    };
+    Node {
+        networks: 0,
+        netkeys: [Key { octets: [0u8; 16] }; network::opening::KEYS],
+        materials: [material; network::opening::KEYS],
+        applications: 0,
+        appkeys: [application_key; transport::securing::KEYS],
+        device: [0u8; 16],
+        first: 0,
+        elements: 0,
+        listened: 0,
+        groups: [0u16; GROUPS],
+        labelled: 0,
+        labels: [label; transport::securing::LABELS],
+        iv: 0,
+        flag: false,
+        relay: false,
+    }
+}
+
 // Whether an address is that of an element.
 pub fn is_local(node: Node, address: u16) -> bool
     ensures { result ≡ is_local node address }
@@ -63,60 +101,40 @@ pub fn is_local(node: Node, address: u16) -> bool
 fn is_listened(node: Node, address: u16) -> bool
     ensures { result ≡ listens node address }
 {
-    let groups = node.groups;
-    let mut i: usize = 0;
-    while i < GROUPS && i < node.listened {
-        if groups[i] == address {
-            return true;
-        }
-        i += 1;
-    }
-    false
+    node.groups
+        .iter()
+        .take(node.listened)
+        .any(|g| *g == address)
 }
 
 // Whether an address is that of a label held.
 fn is_held(node: Node, address: u16) -> bool
     ensures { result ≡ holds_label node address }
 {
-    let labels = node.labels;
-    let mut i: usize = 0;
-    while i < transport::securing::LABELS && i < node.labelled {
-        let label = labels[i];
-        if label.address == address {
-            return true;
-        }
-        i += 1;
-    }
-    false
+    node.labels
+        .iter()
+        .take(node.labelled)
+        .any(|l| l.address == address)
 }
 
 // Whether a DST is one that the node answers to.
+#[tactic(auto, unfolding(crate::specs::Addresses::answers_to))]
 fn is_answered(node: Node, dst: u16) -> bool
     ensures { result ≡ answers_to node dst }
 {
-    if is_local(node, dst) {
-        return true;
-    }
-    if dst == 0xFFFF {
-        return true;
-    }
-    if dst == 0xFFFE && node.relay {
-        return true;
-    }
-    if is_listened(node, dst) {
-        return true;
-    }
-    is_held(node, dst)
+    is_local(node, dst)
+        || dst == 0xFFFF
+        || (dst == 0xFFFE && node.relay)
+        || is_listened(node, dst)
+        || is_held(node, dst)
 }
 
 // Whether a PDU to this DST is for this node: never, where the DST is reserved.
+#[tactic(auto, unfolding(crate::specs::Addresses::for_node))]
 pub fn is_for(node: Node, dst: u16) -> bool
     ensures { result ≡ for_node node dst }
 {
-    if network::address::is_reserved(dst) {
-        return false;
-    }
-    is_answered(node, dst)
+    !network::address::is_reserved(dst) && is_answered(node, dst)
 }
 
 // What the node opens access messages by.

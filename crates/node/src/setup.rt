@@ -1,10 +1,10 @@
 // A node is made from keys, addresses and the IV Index: everything unused is zero, and what is derived from keys is worked out once.
-ghost use Rattle.std.specs.Prelude.{◌≡◌, ◌<◌, ◌≤◌};
+ghost use Rattle.std.specs.Prelude.{◌≡◌, ◌<◌, ◌≤◌, None, ltb, set, slice_get, if◌then◌else◌};
 ghost use Rattle.common.specs.Lists.{tab};
 ghost use Rattle.network.specs.Candidates.{network_key_places};
 ghost use Rattle.transport.specs.Securing.{application_key_places, label_places};
-ghost use Rattle.node.specs.Setup.{nothing as nothingGiven, counted as countedTo, with_network_key, with_application_key, with_label};
-ghost use Rattle.node.specs.Setup.{group_kind, bound_within, keys_valid, next_within, elements_valid, groups_valid, index_valid, valid, network_key_at, material_at, bound_key_at, next_at, group_at, label_uuid_at, node_of, next_of, no_node, making};
+ghost use Rattle.node.specs.Setup.{nothing as nothingGiven, counted as countedTo, with_network_key, with_application_key, with_group, with_label};
+ghost use Rattle.node.specs.Setup.{every, group_kind, is_group, bound_within, keys_valid, next_within, elements_valid, groups_valid, index_valid, valid, network_key_at, material_at, bound_key_at, next_at, group_at, label_uuid_at, node_of, next_of, making};
 ghost use Rattle.node.specs.Addresses.{group_places, element_places};
 
 use super::addresses::{Key, Label, Node};
@@ -19,6 +19,7 @@ pub struct BoundKey {
     pub network: usize,
 }
 
+// Each number stands beside its array, since memory is fixed: a caller fills both in.
 #[derive(Clone, Copy)]
 pub struct Setup {
     // How many network keys there are: 1 to 4.
@@ -46,8 +47,6 @@ pub struct Setup {
 // The node, with each element's next SEQ.
 #[derive(Clone, Copy)]
 pub struct Made {
-    // False where the setup is outside the rules: then all is zero.
-    pub ok: bool,
     pub node: Node,
     pub next: [u32; super::addresses::ELEMENTS],
 }
@@ -85,46 +84,59 @@ pub fn counted(n: usize, most: u8) -> usize
     if n <= most as usize { n + 1 } else { n }
 }
 
+// The places with one of them set; past the last nothing is.
+fn placed<T: Copy, const N: usize>(places: [T; N], n: usize, x: T) -> [T; N]
+    ensures { result ≡ set places n x }
+{
+    let mut after = places;
+    if n < N {
+        after[n] = x;
+    }
+    after
+}
+
 // The setup with the next network key.
 pub fn with_network_key(s: Setup, octets: [u8; 16]) -> Setup
     ensures { result ≡ with_network_key s octets }
 {
-    let n = s.networks;
-    let mut after = s;
-    after.networks = counted(n, 4);
-    if n < network::opening::KEYS {
-        after.netkeys[n] = Key { octets };
-        return after;
+    Setup {
+        networks: counted(s.networks, 4),
+        netkeys: placed(s.netkeys, s.networks, Key { octets }),
+        ..s
     }
-    after
 }
 
 // The setup with the next application key, bound to a network key.
 pub fn with_application_key(s: Setup, network: usize, key: [u8; 16]) -> Setup
     ensures { result ≡ with_application_key s network key }
 {
-    let n = s.applications;
-    let mut after = s;
-    after.applications = counted(n, 4);
-    if n < transport::securing::KEYS {
-        after.appkeys[n] = BoundKey { key, network };
-        return after;
+    Setup {
+        applications: counted(s.applications, 4),
+        appkeys: placed(s.appkeys, s.applications, BoundKey { key, network }),
+        ..s
     }
-    after
+}
+
+// The setup with one more group address.
+pub fn with_group(s: Setup, address: u16) -> Setup
+    ensures { result ≡ with_group s address }
+{
+    Setup {
+        listened: counted(s.listened, 8),
+        groups: placed(s.groups, s.listened, address),
+        ..s
+    }
 }
 
 // The setup with one more label.
 pub fn with_label(s: Setup, octets: [u8; 16]) -> Setup
     ensures { result ≡ with_label s octets }
 {
-    let n = s.labelled;
-    let mut after = s;
-    after.labelled = counted(n, 4);
-    if n < transport::securing::LABELS {
-        after.labels[n] = Label { octets };
-        return after;
+    Setup {
+        labelled: counted(s.labelled, 4),
+        labels: placed(s.labels, s.labelled, Label { octets }),
+        ..s
     }
-    after
 }
 
 // Whether each application key is bound to a network key that there is.
@@ -132,31 +144,20 @@ fn is_bound(s: Setup) -> bool
     requires { s.applications ≤ application_key_places }
     ensures { result ≡ bound_within s }
 {
-    let appkeys = s.appkeys;
-    let mut i: usize = 0;
-    while i < s.applications {
-        let b = appkeys[i];
-        if s.networks <= b.network {
-            return false;
-        }
-        i += 1;
-    }
-    true
+    s.appkeys
+        .iter()
+        .take(s.applications)
+        .all(|b| b.network < s.networks)
 }
 
+#[tactic(auto, unfolding(crate::specs::Setup::keys_valid))]
 fn keys_valid(s: Setup) -> bool
     ensures { result ≡ keys_valid s }
 {
-    if s.networks < 1 {
-        return false;
-    }
-    if network::opening::KEYS < s.networks {
-        return false;
-    }
-    if transport::securing::KEYS < s.applications {
-        return false;
-    }
-    is_bound(s)
+    1 <= s.networks
+        && s.networks <= network::opening::KEYS
+        && s.applications <= transport::securing::KEYS
+        && is_bound(s)
 }
 
 // Whether each element's next SEQ is at most 0x1000000: with that one no SEQ is left.
@@ -164,173 +165,148 @@ fn next_within(s: Setup) -> bool
     requires { s.elements ≤ element_places }
     ensures { result ≡ next_within s }
 {
-    let next = s.next;
-    let mut i: usize = 0;
-    while i < s.elements {
-        if 0x1000000 < next[i] {
-            return false;
-        }
-        i += 1;
-    }
-    true
+    s.next.iter().take(s.elements).all(|seq| *seq <= 0x1000000)
 }
 
+#[tactic(auto, unfolding(crate::specs::Setup::elements_valid))]
 fn elements_valid(s: Setup) -> bool
     ensures { result ≡ elements_valid s }
 {
-    if s.elements < 1 {
-        return false;
-    }
-    if super::addresses::ELEMENTS < s.elements {
-        return false;
-    }
-    if s.first < 1 {
-        return false;
-    }
-    if 0x8000 < s.first as usize + s.elements {
-        return false;
-    }
-    next_within(s)
+    1 <= s.elements
+        && s.elements <= super::addresses::ELEMENTS
+        && 1 <= s.first
+        && s.first as usize + s.elements <= 0x8000
+        && next_within(s)
 }
 
 fn group(kind: AddressKind) -> bool
     ensures { result ≡ group_kind kind }
 {
-    match kind {
-        AddressKind::Unassigned => false,
-        AddressKind::Unicast => false,
-        AddressKind::Virtual => false,
-        AddressKind::Group => true,
-        AddressKind::Reserved => false,
-    }
+    matches!(kind, AddressKind::Group)
 }
 
+// Whether what is listened to are group addresses.
+fn groups_within(s: Setup) -> bool
+    requires { s.listened ≤ group_places }
+    ensures { result ≡ every is_group s.listened s.groups }
+{
+    s.groups
+        .iter()
+        .take(s.listened)
+        .all(|g| group(network::address::kind(*g)))
+}
+
+#[tactic(auto, unfolding(crate::specs::Setup::groups_valid))]
 fn groups_valid(s: Setup) -> bool
     ensures { result ≡ groups_valid s }
 {
-    if super::addresses::GROUPS < s.listened {
-        return false;
-    }
-    let groups = s.groups;
-    let mut i: usize = 0;
-    while i < s.listened {
-        if !group(network::address::kind(groups[i])) {
-            return false;
-        }
-        i += 1;
-    }
-    true
+    s.listened <= super::addresses::GROUPS && groups_within(s)
 }
 
 // Flag 1 with IV Index 0 is refused.
+#[tactic(auto, unfolding(crate::specs::Setup::index_valid))]
 fn index_valid(s: Setup) -> bool
     ensures { result ≡ index_valid s }
 {
-    if s.flag {
-        return s.iv != 0;
-    }
-    true
+    !s.flag || s.iv != 0
 }
 
+#[tactic(auto, unfolding(crate::specs::Setup::valid))]
 fn is_valid(s: Setup) -> bool
     ensures { result ≡ valid s }
 {
-    if !keys_valid(s) {
-        return false;
-    }
-    if !elements_valid(s) {
-        return false;
-    }
-    if !groups_valid(s) {
-        return false;
-    }
-    if transport::securing::LABELS < s.labelled {
-        return false;
-    }
-    index_valid(s)
+    keys_valid(s)
+        && elements_valid(s)
+        && groups_valid(s)
+        && s.labelled <= transport::securing::LABELS
+        && index_valid(s)
 }
 
+// What stands at place i, where that is one of the first n; there is none at the others.
+fn held<T: Copy, const N: usize>(places: [T; N], n: usize, i: usize) -> Option<T>
+    ensures { result ≡ if ltb i n then slice_get places i else None }
+{
+    if i < n { places.get(i).copied() } else { None }
+}
+
+#[tactic(auto, unfolding(crate::specs::Setup::network_key_at))]
 fn network_key_at(s: Setup, i: usize) -> Key
     requires { i < network_key_places }
     ensures { result ≡ network_key_at s i }
 {
-    let netkeys = s.netkeys;
-    if i < s.networks {
-        return netkeys[i];
-    }
-    Key { octets: [0u8; 16] }
+    held(s.netkeys, s.networks, i).unwrap_or(Key { octets: [0u8; 16] })
 }
 
+#[tactic(auto, unfolding(crate::specs::Setup::material_at))]
 fn material_at(s: Setup, i: usize) -> NetworkKeys
     requires { i < network_key_places }
     ensures { result ≡ material_at s i }
 {
-    let netkeys = s.netkeys;
-    if i < s.networks {
-        let key = netkeys[i];
-        let octets = key.octets;
-        return keys::k2(octets);
-    }
-    NetworkKeys {
-        nid: 0,
-        encryption: [0u8; 16],
-        privacy: [0u8; 16],
+    match held(s.netkeys, s.networks, i) {
+        Some(key) => keys::k2(key.octets),
+        None => NetworkKeys {
+            nid: 0,
+            encryption: [0u8; 16],
+            privacy: [0u8; 16],
+        },
     }
 }
 
+#[tactic(auto, unfolding(crate::specs::Setup::bound_key_at))]
 fn application_key_at(s: Setup, i: usize) -> ApplicationKey
     requires { i < application_key_places }
     ensures { result ≡ bound_key_at s i }
 {
-    let appkeys = s.appkeys;
-    if i < s.applications {
-        let b = appkeys[i];
-        let key = b.key;
-        return ApplicationKey {
-            key,
-            aid: keys::k4(key),
-            bound: b.network,
-        };
-    }
-    ApplicationKey {
-        key: [0u8; 16],
-        aid: 0,
-        bound: 0,
+    match held(s.appkeys, s.applications, i) {
+        Some(b) => {
+            let key = b.key;
+            ApplicationKey {
+                key,
+                aid: keys::k4(key),
+                bound: b.network,
+            }
+        }
+        None => ApplicationKey {
+            key: [0u8; 16],
+            aid: 0,
+            bound: 0,
+        },
     }
 }
 
+#[tactic(auto, unfolding(crate::specs::Setup::next_at))]
 fn next_at(s: Setup, i: usize) -> u32
     requires { i < element_places }
     ensures { result ≡ next_at s i }
 {
-    let next = s.next;
-    if i < s.elements { next[i] } else { 0 }
+    held(s.next, s.elements, i).unwrap_or(0)
 }
 
+#[tactic(auto, unfolding(crate::specs::Setup::group_at))]
 fn group_at(s: Setup, i: usize) -> u16
     requires { i < group_places }
     ensures { result ≡ group_at s i }
 {
-    let groups = s.groups;
-    if i < s.listened { groups[i] } else { 0 }
+    held(s.groups, s.listened, i).unwrap_or(0)
 }
 
+#[tactic(auto, unfolding(crate::specs::Setup::label_uuid_at))]
 fn label_at(s: Setup, i: usize) -> LabelUuid
     requires { i < label_places }
     ensures { result ≡ label_uuid_at s i }
 {
-    let labels = s.labels;
-    if i < s.labelled {
-        let label = labels[i];
-        let octets = label.octets;
-        return LabelUuid {
-            octets,
-            address: keys::label_address(octets),
-        };
-    }
-    LabelUuid {
-        octets: [0u8; 16],
-        address: 0,
+    match held(s.labels, s.labelled, i) {
+        Some(label) => {
+            let octets = label.octets;
+            LabelUuid {
+                octets,
+                address: keys::label_address(octets),
+            }
+        }
+        None => LabelUuid {
+            octets: [0u8; 16],
+            address: 0,
+        },
     }
 }
 
@@ -338,62 +314,34 @@ fn label_at(s: Setup, i: usize) -> LabelUuid
 fn network_keys_of(s: Setup) -> [Key; network::opening::KEYS]
     ensures { result ≡ tab (network_key_at s) network_key_places }
 {
-    [
-        network_key_at(s, 0),
-        network_key_at(s, 1),
-        network_key_at(s, 2),
-        network_key_at(s, 3),
-    ]
+    std::array::from_fn(|i| network_key_at(s, i))
 }
 
 fn materials_of(s: Setup) -> [NetworkKeys; network::opening::KEYS]
     ensures { result ≡ tab (material_at s) network_key_places }
 {
-    [
-        material_at(s, 0),
-        material_at(s, 1),
-        material_at(s, 2),
-        material_at(s, 3),
-    ]
+    std::array::from_fn(|i| material_at(s, i))
 }
 
 fn application_keys_of(s: Setup) -> [ApplicationKey; transport::securing::KEYS]
     ensures { result ≡ tab (bound_key_at s) application_key_places }
 {
-    [
-        application_key_at(s, 0),
-        application_key_at(s, 1),
-        application_key_at(s, 2),
-        application_key_at(s, 3),
-    ]
+    std::array::from_fn(|i| application_key_at(s, i))
 }
 
 fn groups_of(s: Setup) -> [u16; super::addresses::GROUPS]
     ensures { result ≡ tab (group_at s) group_places }
 {
-    [
-        group_at(s, 0),
-        group_at(s, 1),
-        group_at(s, 2),
-        group_at(s, 3),
-        group_at(s, 4),
-        group_at(s, 5),
-        group_at(s, 6),
-        group_at(s, 7),
-    ]
+    std::array::from_fn(|i| group_at(s, i))
 }
 
 fn labels_of(s: Setup) -> [LabelUuid; transport::securing::LABELS]
     ensures { result ≡ tab (label_uuid_at s) label_places }
 {
-    [
-        label_at(s, 0),
-        label_at(s, 1),
-        label_at(s, 2),
-        label_at(s, 3),
-    ]
+    std::array::from_fn(|i| label_at(s, i))
 }
 
+#[tactic(auto, unfolding(crate::specs::Setup::node_of))]
 fn node_of(s: Setup) -> Node
     ensures { result ≡ node_of s }
 {
@@ -417,73 +365,23 @@ fn node_of(s: Setup) -> Node
     }
 }
 
-fn zero_node() -> Node
-    ensures { result ≡ no_node }
-{
-    let key = Key { octets: [0u8; 16] };
-    let material = NetworkKeys {
-        nid: 0,
-        encryption: [0u8; 16],
-        privacy: [0u8; 16],
-    };
-    let application_key = ApplicationKey {
-        key: [0u8; 16],
-        aid: 0,
-        bound: 0,
-    };
-    let label = LabelUuid {
-        octets: [0u8; 16],
-        address: 0,
-    };
-    Node {
-        networks: 0,
-        netkeys: [key; network::opening::KEYS],
-        materials: [material; network::opening::KEYS],
-        applications: 0,
-        appkeys: [application_key; transport::securing::KEYS],
-        device: [0u8; 16],
-        first: 0,
-        elements: 0,
-        listened: 0,
-        groups: [0u16; super::addresses::GROUPS],
-        labelled: 0,
-        labels: [label; transport::securing::LABELS],
-        iv: 0,
-        flag: false,
-        relay: false,
-    }
-}
-
+#[tactic(auto, unfolding(crate::specs::Setup::next_of))]
 fn next_of(s: Setup) -> [u32; super::addresses::ELEMENTS]
     ensures { result ≡ next_of s }
 {
-    [
-        next_at(s, 0),
-        next_at(s, 1),
-        next_at(s, 2),
-        next_at(s, 3),
-        next_at(s, 4),
-        next_at(s, 5),
-        next_at(s, 6),
-        next_at(s, 7),
-    ]
+    std::array::from_fn(|i| next_at(s, i))
 }
 
-// Makes the node of a setup.
-pub fn make(s: Setup) -> Made
+// Makes the node of a setup; there is none where the setup is outside the rules.
+#[tactic(auto, unfolding(crate::specs::Setup::making))]
+pub fn make(s: Setup) -> Option<Made>
     ensures { result ≡ making s }
 {
     if !is_valid(s) {
-        return Made {
-            ok: false,
-            node: zero_node(),
-            next: [0u32; super::addresses::ELEMENTS],
-        };
+        return None;
     }
-    let next = next_of(s);
-    Made {
-        ok: true,
+    Some(Made {
         node: node_of(s),
-        next,
-    }
+        next: next_of(s),
+    })
 }

@@ -1,6 +1,6 @@
 -- A credential from the code's steps: sixteen octets copied onto zeros, a piece read at its place in the list, the pieces read from a copy
--- (`pieces_copied`), a list whose pieces all have another NID (`all_foreign`, `piece_fits`), and the rules by which `gorephan_credentials` answers:
--- `bad_key`, `no_room`, `credential_written`.
+-- (`pieces_copied`), a list whose pieces all have another NID (`all_foreign`, `piece_fits`), and what `gorephan_credentials`
+-- writes: `credential_written`.
 -- Assumes nothing.
 use mathlib.Core.Bool.{Bool, true, false}
 use mathlib.Core.List.{List}
@@ -8,7 +8,7 @@ use mathlib.Core.Path.{◌≡◌, refl, sym, ap, ◌∙◌}
 use Prim.Native.Nat.{ℕ, ◌+◌, ◌-◌, ◌*◌, ◌≤◌, ◌<◌, min}
 use native.Mathlib.Nat.{add-zero}
 use native.Mathlib.Omega.{arith}
-use borrow.Author.Tests.{eq-eqb, ne_eqb, lt-ltb, le-ltb}
+use borrow.Author.Tests.{eq-eqb, le-ltb}
 use lib.Dec.{eqb}
 use lib.ListN.{length, get_or, take, drop, replicate, length-take, length-replicate, get_or-replicate, get_or-eq_default}
 use lib.Seq.{get_or-take, get_or-drop, take_all}
@@ -128,25 +128,14 @@ module _ (cs : List ℕ) (nid : ℕ) {count : ℕ} (e : count ≡ piece_count cs
       pub piece_fits : get_or cs (33 * i) 0 ≡ nid → false ≡ eqb (length (candidates (pieces cs) (piece_count cs) nid)) 0
       piece_fits c = told_of (some_candidate (pieces cs) count nid s held (nid_of_piece cs i (omega (arith, count_most)) ∙ c))
 
--- ---- the answers
-module _ (key out : List ℕ) where
-  pub bad_key : (length key ≡ 16 → ⊥) → lent 14 out ≡ credentials_done key out
+-- ---- what is written
+module _ (key out : List ℕ) (h : length key ≡ 16) where
+  -- k is the key, copied; left is the lent buffer at exit
+  pub credential_written :
+      {k c left : List ℕ} {d : NetworkKeys} → 33 ≤ length out → k ≡ padded 16 key → d ≡ k2 k → c ≡ credential_of d → length c ≡ 33
+      → left ≡ onto (take (length out) c) out → lent 0 left ≡ credentials_done key out
   unfolding credentials_done
-  bad_key h = simp (ne_eqb _ _ h)
-
-  module _ (h : length key ≡ 16) where
-    pub no_room : length out < 33 → lent 14 out ≡ credentials_done key out
-    unfolding credentials_done
-    no_room g = simp (eq-eqb _ _ h, lt-ltb _ _ g)
-
-    -- k is the key, copied; left is the lent buffer at exit
-    pub credential_written :
-        {k c left : List ℕ} {d : NetworkKeys} → 33 ≤ length out → k ≡ padded 16 key → d ≡ k2 k → c ≡ credential_of d → length c ≡ 33
-        → left ≡ onto (take (length out) c) out → lent 0 left ≡ credentials_done key out
-    unfolding credentials_done
-    credential_written {k} {c} {left} {d} g ek ed ec n el =
-        let e : c ≡ credential_of (k2 key) = ec ∙ ap credential_of (ed ∙ ap k2 (ek ∙ padded_all 16 key h)) in
-        simp (eq-eqb _ _ h, le-ltb _ _ g)
-        (ap (lent 0) (el ∙ ap (λ (z : List ℕ). onto z out) (take_all (length out) c (omega arith) ∙ e)))
-
-pub ruleset credentials_rules = (bad_key, no_room, credential_written)
+  credential_written {k} {c} {left} {d} g ek ed ec n el =
+      let e : c ≡ credential_of (k2 key) = ec ∙ ap credential_of (ed ∙ ap k2 (ek ∙ padded_all 16 key h)) in
+      simp (eq-eqb _ _ h, le-ltb _ _ g)
+      (ap (lent 0) (el ∙ ap (λ (z : List ℕ). onto z out) (take_all (length out) c (omega arith) ∙ e)))

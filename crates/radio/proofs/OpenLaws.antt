@@ -5,35 +5,40 @@ use mathlib.Core.List.{List}
 use mathlib.Core.Path.{◌≡◌, refl, sym, ap, ◌∙◌}
 use Prim.Native.Nat.{ℕ, ◌%◌, ◌≤◌, ◌<◌}
 use native.Mathlib.Omega.{arith}
-use borrow.Author.Tests.{eq-eqb, ne_eqb, lt-ltb, le-ltb}
+use borrow.Author.Tests.{lt-ltb, le-ltb}
 use lib.Dec.{eqb}
 use lib.ListN.{length, get_or}
+use Rattle.std.specs.Prelude.{Ok, Err}
 use Rattle.common.specs.Lent.{Lent, lent}
 use Rattle.common.specs.Lists.{onto}
 use Rattle.common.specs.Paper.{number_of}
 use Rattle.keys.specs.declared.NetworkKeys.{NetworkKeys}
-use Rattle.network.specs.declared.opening.Answer.{Answer}
-use Rattle.network.specs.declared.opening.Answer.TheVariants.{Opened, WrongLength, NoCandidate, NotAuthentic, WrongAddress}
+use Rattle.network.specs.declared.header.Header.{Header}
 use Rattle.network.specs.declared.opening.Opening.{Opening}
+use Rattle.network.specs.declared.opening.Refusal.{Refusal}
+use Rattle.network.specs.declared.opening.Refusal.TheVariants.{WrongLength, NoCandidate, NotAuthentic, WrongAddress}
 use Rattle.network.specs.Candidates.{candidates}
 use Rattle.network.specs.Opening.{paper, opening}
-use Rattle.network.proofs.OpeningBounds.{Bounded, opening_bounded}
+use Rattle.network.proofs.OpeningBounds.{LowHeader, Bounded, opening_bounded}
 use Rattle.network.proofs.OpeningLaws as network
 use Rattle.network.specs.Pdu.{pdu_octets}
 use Rattle.radio.specs.ClearPdu.{clear_pdu}
 use Rattle.radio.specs.Credential.{pieces, piece_count}
 use Rattle.radio.specs.Open.{packed, told, open_done}
 
-pub paper_most : (a : Answer) → number_of (paper a) ≤ 4
-paper_most Opened = omega arith
+pub paper_most : (r : Refusal) → number_of (paper (Err r)) ≤ 4
 paper_most WrongLength = omega arith
 paper_most NoCandidate = omega arith
 paper_most NotAuthentic = omega arith
 paper_most WrongAddress = omega arith
 
+-- and an opened header
+pub header_small : {o : Opening} {h : Header} → Bounded o → o.opened ≡ Ok h → LowHeader h
+header_small b e = rw e at b.header_most
+
 -- what an opening tells is small
 pub opened_small :
-    (held : List NetworkKeys) (count iv : ℕ) (pdu : List ℕ) {o : Opening} → o ≡ opening held count iv pdu → Bounded o.trials o.header
+    (held : List NetworkKeys) (count iv : ℕ) (pdu : List ℕ) {o : Opening} → o ≡ opening held count iv pdu → Bounded o
 opened_small held count iv pdu e = rw e (opening_bounded held count iv pdu)
 
 module _ (credentials : List ℕ) (iv : ℕ) (pdu out : List ℕ) where
@@ -70,21 +75,20 @@ module _ (credentials : List ℕ) (iv : ℕ) (pdu out : List ℕ) where
       open_told = simp (le-ltb _ _ room, eo, eh, ec)
 
       pub open_refused :
-          {n r : ℕ} → n ≡ number_of (paper o.answer) → (n ≡ 0 → ⊥) → r ≡ packed n o.trials 0 0 → lent r out ≡ open_done credentials iv pdu out
+          {refusal : Refusal} {n r : ℕ} → o.opened ≡ Err refusal → n ≡ number_of (paper (Err refusal)) → r ≡ packed n o.trials 0 0
+          → lent r out ≡ open_done credentials iv pdu out
       unfolding told
-      open_refused en z er =
-          let f : number_of (paper o.answer) ≡ 0 → ⊥ = λ e. z (en ∙ e) in
-          rw (er, en) (rw (ne_eqb (number_of (paper o.answer)) 0 f) at open_told)
+      open_refused e en er = rw (er, en) (rw e at open_told)
 
       -- left is the lent buffer at exit
       pub open_written :
-          {n first octets r : ℕ} {left : List ℕ} → n ≡ number_of (paper o.answer) → n ≡ 0 → first ≡ get_or pdu 0 0
-          → lent octets left ≡ lent (length (clear_pdu first o.header)) (onto (clear_pdu first o.header) out)
-          → r ≡ packed 0 o.trials octets o.header.key → lent r left ≡ open_done credentials iv pdu out
+          {h : Header} {first octets r : ℕ} {left : List ℕ} → o.opened ≡ Ok h → first ≡ get_or pdu 0 0
+          → lent octets left ≡ lent (length (clear_pdu first h)) (onto (clear_pdu first h) out)
+          → r ≡ packed 0 o.trials octets h.key → lent r left ≡ open_done credentials iv pdu out
       unfolding told
-      open_written {n} {first} {octets} {r} {left} en z ef ew er =
-          let el = ap (λ (w : Lent ℕ). w.answer) ew ∙ ap (λ (x : ℕ). length (clear_pdu x o.header)) ef in
-          let eb = ap (λ (w : Lent ℕ). w.buffer) ew ∙ ap (λ (x : ℕ). onto (clear_pdu x o.header) out) ef in
-          rw (er, el, eb) (rw (eq-eqb (number_of (paper o.answer)) 0 (sym en ∙ z)) at open_told)
+      open_written {h} {first} {octets} {r} {left} e ef ew er =
+          let el = ap (λ (w : Lent ℕ). w.answer) ew ∙ ap (λ (x : ℕ). length (clear_pdu x h)) ef in
+          let eb = ap (λ (w : Lent ℕ). w.buffer) ew ∙ ap (λ (x : ℕ). onto (clear_pdu x h) out) ef in
+          rw (er, el, eb) (rw e at open_told)
 
 pub ruleset open_rules = (open_short, pdu_short, pdu_long, pdu_foreign, open_refused, open_written)

@@ -1,20 +1,21 @@
--- The rules by which `gorephan_seal` answers: `seal_short`, `bad_credential`, `bad_ctl`, `seal_told`; and that a PDU's length fits its place.
+-- What `gorephan_seal` answers where it seals, `seal_told`; and that a PDU's length fits its place.
 -- Assumes nothing.
 use mathlib.Core.List.{List}
 use mathlib.Core.Path.{◌≡◌, ap, ◌∙◌}
-use Prim.Native.Nat.{ℕ, ◌≤◌, ◌<◌}
+use Prim.Native.Nat.{ℕ, ◌≤◌}
 use native.Mathlib.Omega.{arith}
-use borrow.Author.Tests.{eq-eqb, ne_eqb, lt-ltb, le-ltb}
+use borrow.Author.Tests.{eq-eqb, le-ltb}
 use lib.Dec.{eqb, ltb}
 use lib.ListN.{length}
+use Rattle.std.specs.Prelude.{Result, Err}
 use Rattle.common.specs.Lent.{Lent, lent}
 use Rattle.common.specs.Lists.{padded}
 use Rattle.common.specs.Paper.{number_of}
 use Rattle.common.proofs.Tests.{by_test}
 use Rattle.keys.specs.declared.NetworkKeys.{NetworkKeys}
 use Rattle.network.specs.declared.header.Header.{Header}
-use Rattle.network.specs.declared.sealing.Answer.{Answer}
-use Rattle.network.specs.declared.sealing.Answer.TheVariants.{Sealed, OutsideRules, ShortBuffer}
+use Rattle.network.specs.declared.sealing.Refusal.{Refusal}
+use Rattle.network.specs.declared.sealing.Refusal.TheVariants.{OutsideRules, ShortBuffer}
 use Rattle.network.specs.Sealing.{sealed_length, paper, sealable, sealing}
 use Rattle.network.proofs.Sealed.{within, pdu_length}
 use Rattle.network.proofs.SealingLaws.{body_most, transport_there}
@@ -23,8 +24,7 @@ use Rattle.radio.specs.Credential.{keys_of, piece_at}
 use Rattle.radio.specs.Seal.{header_for, seal_number, seal_done}
 use Rattle.radio.proofs.CredentialLaws.{piece_whole}
 
-pub paper_most : (a : Answer) → number_of (paper a) ≤ 16
-paper_most (Sealed len) = omega arith
+pub paper_most : (r : Refusal) → number_of (paper (Err r)) ≤ 16
 paper_most OutsideRules = omega arith
 paper_most ShortBuffer = omega arith
 
@@ -41,28 +41,16 @@ sealing_most key h out sixteen =
     (λ u. rw (t, u) (omega arith)))
 
 pub sealed_most :
-    (key : NetworkKeys) (h : Header) (out : List ℕ) {a : Answer} {left : List ℕ} → length h.transport ≡ 16 → lent a left ≡ sealing key h out
+    (key : NetworkKeys) (h : Header) (out : List ℕ) {a : Result ℕ Refusal} {left : List ℕ} → length h.transport ≡ 16 → lent a left ≡ sealing key h out
     → sealed_length a ≤ pdu_octets
-sealed_most key h out sixteen e = rw (ap (λ (s : Lent Answer). s.answer) e) (sealing_most key h out sixteen)
+sealed_most key h out sixteen e = rw (ap (λ (s : Lent (Result ℕ Refusal)). s.answer) e) (sealing_most key h out sixteen)
 
 module _ (credential : List ℕ) (iv ctl ttl seq src dst : ℕ) (transport out : List ℕ) where
-  pub seal_short : length out < pdu_octets → lent 16 out ≡ seal_done credential iv ctl ttl seq src dst transport out
-  unfolding seal_done
-  seal_short h = simp (lt-ltb _ _ h)
-
   module _ (room : pdu_octets ≤ length out) where
-    pub bad_credential : (length credential ≡ 33 → ⊥) → lent 14 out ≡ seal_done credential iv ctl ttl seq src dst transport out
-    unfolding seal_done
-    bad_credential h = simp (le-ltb _ _ room, ne_eqb _ _ h)
-
     module _ (whole : length credential ≡ 33) where
-      pub bad_ctl : 1 < ctl → lent 14 out ≡ seal_done credential iv ctl ttl seq src dst transport out
-      unfolding seal_done
-      bad_ctl h = simp (le-ltb _ _ room, eq-eqb _ _ whole, lt-ltb _ _ h)
-
       -- k is the credential, read; t the transport, copied; left the lent buffer at exit
       pub seal_told :
-          {k : NetworkKeys} {t left : List ℕ} {a : Answer} {r : ℕ} → ctl ≤ 1 → k ≡ piece_at credential 0 → t ≡ padded 16 transport
+          {k : NetworkKeys} {t left : List ℕ} {a : Result ℕ Refusal} {r : ℕ} → ctl ≤ 1 → k ≡ piece_at credential 0 → t ≡ padded 16 transport
           → lent a left
           ≡ sealing k
           (record { key = 0; iv = iv; ctl = eqb ctl 1; ttl = ttl; seq = seq; src = src; dst = dst; len = length transport; transport = t })
@@ -73,6 +61,4 @@ module _ (credential : List ℕ) (iv ctl ttl seq src dst : ℕ) (transport out :
           let s = sealing (keys_of credential) (header_for iv (eqb ctl 1) ttl seq src dst transport) out in
           let q : lent a left ≡ s = rw (ek ∙ piece_whole credential whole, et) at e in
           simp (le-ltb _ _ room, eq-eqb _ _ whole, le-ltb _ _ h)
-          (rw er (ap (λ (z : Lent Answer). lent (seal_number z.answer) z.buffer) q))
-
-pub ruleset seal_rules = (seal_short, bad_credential, bad_ctl, seal_told)
+          (rw er (ap (λ (z : Lent (Result ℕ Refusal)). lent (seal_number z.answer) z.buffer) q))

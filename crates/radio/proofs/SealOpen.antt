@@ -12,13 +12,13 @@ use borrow.Author.Tests.{eq-eqb, le-ltb, le-leb}
 use lib.Dec.{eqb}
 use lib.ListN.{length, get_or, take, length-take}
 use lib.Seq.{take_at}
+use Rattle.std.specs.Prelude.{Ok}
 use Rattle.common.specs.Lent.{Lent, lent}
 use Rattle.common.specs.Lists.{padded, onto}
 use Rattle.common.specs.Search.{picked}
 use Rattle.common.proofs.Lists.{length_tab, take_tab, padded_all}
 use Rattle.keys.specs.declared.NetworkKeys.{NetworkKeys}
 use Rattle.network.specs.declared.header.Header.{Header}
-use Rattle.network.specs.declared.opening.Answer.TheVariants.{Opened}
 use Rattle.network.specs.Candidates.{key_at, candidates}
 use Rattle.network.specs.Header.{transport_of}
 use Rattle.network.specs.Octets.{octets}
@@ -71,7 +71,7 @@ module _ (x : Asked) (w : WithinRules x) where
 
   -- ---- opening
   opened_by_law : (keys : List NetworkKeys) (count : ℕ) → key_at keys 0 ≡ key → 1 ≤ count
-      → opening keys count x.iv asked ≡ record { answer = Opened; trials = 1; header = header }
+      → opening keys count x.iv asked ≡ record { trials = 1; opened = Ok header }
   unfolding candidates picked
   opened_by_law keys count e c =
       let r : Receives keys count x.iv header (pdu_of (key_at keys 0) header) =

@@ -8,7 +8,7 @@ ghost use Rattle.radio.specs.ClearPdu.{clear_pdu};
 
 use network::header::Header;
 
-// Octet 0, CTL/TTL, SEQ, SRC, DST and all sixteen octets of transport.
+// Octet 0, CTL/TTL, SEQ, SRC, DST and all sixteen octets of transport. Written out: with two slices copied behind `first` the proof did not close.
 fn octets_of(first: u8, h: Header) -> [u8; 25]
     ensures { result ≡ first ∷ clear_front h ++ octets 2 h.dst ++ h.transport }
 {

@@ -17,7 +17,7 @@ pub(crate) fn sixteen(s: &[u8], at: usize) -> [u8; 16]
     r
 }
 
-// The octets of what a network key is used by.
+// The octets of what a network key is used by. Written out: with two slices copied behind the NID the proof did not close.
 pub(crate) fn octets_of(k: NetworkKeys) -> [u8; 33]
     ensures { result ≡ credential_of k }
 {
@@ -54,11 +54,11 @@ pub(crate) fn pieces(cs: &[u8]) -> [NetworkKeys; network::opening::KEYS]
 }
 
 // How many of them are there whole.
+#[tactic(auto, unfolding(crate::specs::Credential::piece_count))]
 pub(crate) fn piece_count(cs: &[u8]) -> usize
     ensures { result ≡ piece_count cs.now }
 {
-    let n = cs.len() / 33;
-    if n < 4 { n } else { 4 }
+    (cs.len() / 33).min(4)
 }
 
 // Whether none of them has that NID: told from the NIDs alone, so that a PDU of others costs no copy of the keys.
@@ -66,14 +66,10 @@ pub(crate) fn foreign(cs: &[u8], nid: u8) -> bool
     ensures { result ≡ eqb (length (candidates (pieces cs.now) (piece_count cs.now) nid)) 0 }
 {
     let count = piece_count(cs);
-    let mut i: usize = 0;
-    loop {
-        if count <= i {
-            break true;
-        }
+    for i in 0..count {
         if cs[33 * i] == nid {
-            break false;
+            return false;
         }
-        i += 1;
     }
+    true
 }

@@ -14,8 +14,10 @@ ghost use Rattle.network.specs.Pdu.{pdu_octets};
 ghost use Rattle.radio.specs.Seal.{seal_number, seal_done};
 
 use network::header::Header;
+use network::sealing::Refusal;
 
 // 0, and out's first 33 octets are the credential of the key; 14, and out stays, where key is not 16 octets or out is shorter than 33.
+#[tactic(auto, unfolding(crate::specs::Credential::credentials_done))]
 pub fn gorephan_credentials(key: &[u8], out: &mut [u8]) -> u32
     ensures { lent result out.new ≡ credentials_done key.now out.old }
 {
@@ -57,37 +59,29 @@ pub fn gorephan_open(credentials: &[u8], iv: u32, pdu: &[u8], out: &mut [u8]) ->
     let held = credential::pieces(credentials);
     let count = credential::piece_count(credentials);
     let o = network::opening::open(held, count, iv, pdu);
-    let answer = o.answer;
-    let trials = o.trials;
-    let refusal = network::opening::number(answer);
-    if refusal != 0 {
-        return pack(refusal, trials, 0, 0);
-    }
-    let h = o.header;
-    let n = clear_pdu::write(common::octet(pdu, 0), h, out);
-    pack(0, trials, n, h.key)
-}
-
-// The length of a PDU that was sealed; 0 of a refusal.
-fn sealed_length(answer: network::sealing::Answer) -> usize
-    ensures { result ≡ sealed_length answer }
-{
-    match answer {
-        network::sealing::Answer::Sealed(len) => len,
-        network::sealing::Answer::OutsideRules => 0,
-        network::sealing::Answer::ShortBuffer => 0,
+    match o.opened {
+        Ok(h) => {
+            let n = clear_pdu::write(common::octet(pdu, 0), h, out);
+            pack(0, o.trials, n, h.key)
+        }
+        Err(refusal) => pack(network::opening::number(Err(refusal)), o.trials, 0, 0),
     }
 }
 
 // Refusal and length in one number.
-fn seal_number(answer: network::sealing::Answer) -> u32
-    requires { sealed_length answer ≤ pdu_octets }
-    ensures { result ≡ seal_number answer }
+#[tactic(auto, unfolding(crate::specs::Seal::seal_number))]
+fn seal_number(sealed: Result<usize, Refusal>) -> u32
+    requires { sealed_length sealed ≤ pdu_octets }
+    ensures { result ≡ seal_number sealed }
 {
-    network::sealing::number(answer) + 65536 * (sealed_length(answer) as u32)
+    match sealed {
+        Ok(len) => 65536 * (len as u32),
+        Err(_) => network::sealing::number(sealed),
+    }
 }
 
 // Seals what the numbers and the transport say under one credential into out's first octets.
+#[tactic(auto, unfolding(crate::specs::Seal::seal_done))]
 pub fn gorephan_seal(
     credential: &[u8],
     iv: u32,

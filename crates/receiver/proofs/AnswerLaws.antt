@@ -5,7 +5,7 @@ use Prim.Native.Nat.{ℕ, ◌-◌}
 use native.Mathlib.Omega.{arith}
 use lib.Dec.{eqb}
 use lib.ListN.{get_or}
-use Rattle.std.specs.Prelude.{if◌then◌else◌}
+use Rattle.std.specs.Prelude.{Result, Ok, Err, if◌then◌else◌}
 use Rattle.common.specs.Paper.{Paper, Refusal, Given}
 use Rattle.common.proofs.PaperLaws.{told_apart}
 use Rattle.transport.specs.declared.securing.Opener.TheVariants.{Application, Labelled, Device}
@@ -16,11 +16,7 @@ use Rattle.memory.specs.declared.pair.Pair.{Pair}
 use Rattle.receiver.specs.declared.answer.Refusal as refusal
 use Rattle.receiver.specs.declared.answer.Refusal.TheVariants as refusals
 use Rattle.receiver.specs.declared.answer.Answer.{Answer}
-use Rattle.receiver.specs.declared.answer.Answer.TheVariants.{Refused, Stored, Repeated, Access, Control, Acknowledgement}
-use Rattle.receiver.specs.declared.fresh.Answer as fresh_answer
-use Rattle.receiver.specs.declared.fresh.Answer.TheVariants as fresh_answers
-use Rattle.receiver.specs.declared.give_up.Answer as ended_answer
-use Rattle.receiver.specs.declared.give_up.Answer.TheVariants as ended_answers
+use Rattle.receiver.specs.declared.answer.Answer.TheVariants.{Stored, Repeated, Access, Control, Acknowledgement}
 use Rattle.receiver.specs.Answer.{refusal_number, NumberApart, Word, stored, repeat, access, control, acknowledgement, paper, PaperApart}
 use Rattle.receiver.specs.Fresh as fresh
 use Rattle.receiver.specs.GiveUp as give_up
@@ -71,49 +67,50 @@ effect_of n = get_or (Nothing ∷ Marked ∷ Completed ∷ []) n Cancelled
 abbrev pair_at : List ℕ → ℕ → ℕ → Pair
 pair_at v i j = record { iv = get_or v i 0; seq = get_or v j 0 }
 
-abbrev read : Paper Word → Answer
-read (Refusal n v) = Refused (refusal_of n)
-read (Given stored v) = Stored (get_or v 0 0) (pair_at v 1 2) (get_or v 3 0)
-read (Given repeat v) = Repeated (get_or v 0 0) (pair_at v 1 2) (get_or v 3 0)
-read (Given access v) = Access (get_or v 0 0) (get_or v 1 0) (get_or v 2 0) (opener_as (get_or v 6 0) (get_or v 7 0) (get_or v 8 0)) (pair_at v 3 4) (get_or v 5 0)
-read (Given control v) = Control (get_or v 0 0) (get_or v 1 0) (get_or v 2 0) (get_or v 3 0) (pair_at v 4 5) (get_or v 6 0)
-read (Given acknowledgement v) = Acknowledgement (get_or v 0 0) (get_or v 1 0) (effect_of (get_or v 2 0))
+abbrev read : Paper Word → Result Answer refusal.Refusal
+read (Refusal n v) = Err (refusal_of n)
+read (Given stored v) = Ok (Stored (get_or v 0 0) (pair_at v 1 2) (get_or v 3 0))
+read (Given repeat v) = Ok (Repeated (get_or v 0 0) (pair_at v 1 2) (get_or v 3 0))
+read (Given access v) =
+    Ok (Access (get_or v 0 0) (get_or v 1 0) (get_or v 2 0) (opener_as (get_or v 6 0) (get_or v 7 0) (get_or v 8 0)) (pair_at v 3 4) (get_or v 5 0))
+read (Given control v) = Ok (Control (get_or v 0 0) (get_or v 1 0) (get_or v 2 0) (get_or v 3 0) (pair_at v 4 5) (get_or v 6 0))
+read (Given acknowledgement v) = Ok (Acknowledgement (get_or v 0 0) (get_or v 1 0) (effect_of (get_or v 2 0)))
 
-back : (a : Answer) → read (paper a) ≡ a
-back (Refused n) = ap Refused (refusal_back n)
-back (Stored src auth bits) = refl
-back (Repeated src auth bits) = refl
-back (Access src dst network (Application i) pair len) = refl
-back (Access src dst network (Labelled i j) pair len) = refl
-back (Access src dst network Device pair len) = refl
-back (Control src dst network opcode pair len) = refl
-back (Acknowledgement src bits Nothing) = refl
-back (Acknowledgement src bits Marked) = refl
-back (Acknowledgement src bits Completed) = refl
-back (Acknowledgement src bits Cancelled) = refl
+back : (a : Result Answer refusal.Refusal) → read (paper a) ≡ a
+back (Err n) = ap Err (refusal_back n)
+back (Ok (Stored src auth bits)) = refl
+back (Ok (Repeated src auth bits)) = refl
+back (Ok (Access src dst network (Application i) pair len)) = refl
+back (Ok (Access src dst network (Labelled i j) pair len)) = refl
+back (Ok (Access src dst network Device pair len)) = refl
+back (Ok (Control src dst network opcode pair len)) = refl
+back (Ok (Acknowledgement src bits Nothing)) = refl
+back (Ok (Acknowledgement src bits Marked)) = refl
+back (Ok (Acknowledgement src bits Completed)) = refl
+back (Ok (Acknowledgement src bits Cancelled)) = refl
 
 pub paper_apart : PaperApart
 paper_apart = told_apart paper read back
 
 -- ---- of setting up, and of giving up
-abbrev read_ready : Paper fresh.Word → fresh_answer.Answer
-read_ready (Refusal n v) = fresh_answers.Refused (refusal_of n)
-read_ready (Given fresh.ready v) = fresh_answers.Ready
+abbrev read_ready : Paper fresh.Word → Result Unit refusal.Refusal
+read_ready (Refusal n v) = Err (refusal_of n)
+read_ready (Given fresh.ready v) = Ok tt
 
-ready_back : (a : fresh_answer.Answer) → read_ready (fresh.paper a) ≡ a
-ready_back fresh_answers.Ready = refl
-ready_back (fresh_answers.Refused n) = ap fresh_answers.Refused (refusal_back n)
+ready_back : (a : Result Unit refusal.Refusal) → read_ready (fresh.paper a) ≡ a
+ready_back (Ok tt) = refl
+ready_back (Err n) = ap Err (refusal_back n)
 
 pub ready_apart : fresh.PaperApart
 ready_apart = told_apart fresh.paper read_ready ready_back
 
-abbrev read_ended : Paper give_up.Word → ended_answer.Answer
-read_ended (Refusal n v) = ended_answers.Refused (refusal_of n)
-read_ended (Given give_up.ended v) = ended_answers.Done
+abbrev read_ended : Paper give_up.Word → Result Unit refusal.Refusal
+read_ended (Refusal n v) = Err (refusal_of n)
+read_ended (Given give_up.ended v) = Ok tt
 
-ended_back : (a : ended_answer.Answer) → read_ended (give_up.paper a) ≡ a
-ended_back ended_answers.Done = refl
-ended_back (ended_answers.Refused n) = ap ended_answers.Refused (refusal_back n)
+ended_back : (a : Result Unit refusal.Refusal) → read_ended (give_up.paper a) ≡ a
+ended_back (Ok tt) = refl
+ended_back (Err n) = ap Err (refusal_back n)
 
 pub ended_apart : give_up.PaperApart
 ended_apart = told_apart give_up.paper read_ended ended_back

@@ -19,7 +19,6 @@ use Rattle.memory.proofs.ReplayMap.{kept_none}
 use Rattle.memory.proofs.Within.{same_last, Opens}
 use Rattle.node.specs.declared.addresses.Node.{Node}
 use Rattle.node.specs.Made.{WellMade, NextWell}
-use Rattle.node.specs.Setup.{making}
 use Rattle.node.proofs.SetupLaws.{makes_well}
 use Rattle.receiver.specs.declared.give_up.GivenUp.{GivenUp}
 use Rattle.receiver.specs.declared.state.Receiver.{Receiver}
@@ -30,9 +29,9 @@ use Rattle.receiver.specs.State.{with_session}
 use Rattle.receiver.specs.Whole.{admitted, opened_as_by, whole_control_up_by, acted_by}
 use Rattle.receiver.proofs.Gathered.{gathering_begun, gathering_stored}
 use Rattle.receiver.proofs.GoodState.{Left, good_caching, good_outgoing, good_admitted, good_upgraded, good_freed, good_opened}
-use Rattle.receiver.proofs.Laws.Fresh.{ready_made, fresh_is}
+use Rattle.receiver.proofs.Laws.Fresh.{made, ready_made, fresh_is}
 use Rattle.receiver.proofs.Laws.GiveUp.{by_giving_up}
-use Rattle.receiver.proofs.Laws.Heard.{opening_of, caching}
+use Rattle.receiver.proofs.Laws.Heard.{caching}
 use Rattle.receiver.proofs.Laws.Ways.{Goes, goes_opens, goes_key, Ways, walk_left}
 use Rattle.receiver.proofs.Opened.{Clear, opens_clear}
 
@@ -55,7 +54,7 @@ good_fresh_of node next w n =
     }
 
 pub good_fresh : GoodFresh
-good_fresh s e = let w = makes_well s (ready_made s e) in rw (fresh_is s) (good_fresh_of (making s).node (making s).next w.0 w.1)
+good_fresh s e = let w = makes_well s (made s) (ready_made s e) in rw (fresh_is s) (good_fresh_of (made s).node (made s).next w.0 w.1)
 
 -- ---- hearing
 module _ (q : Receiver) (g : Good q) (h : Header) (c : Clear h) where
@@ -106,9 +105,7 @@ module _ (q : Receiver) (g : Good q) (h : Header) (c : Clear h) where
 
 pub good_hear : GoodHear
 good_hear r pdu fwd msg g =
-    let o = opening_of r pdu in
-    walk_left r pdu fwd msg Good g
-    (λ p. ways (caching r o.header) (good_caching r g o.header) o.header (opens_clear p.opened) msg)
+    walk_left r pdu fwd msg Good g (λ h p. ways (caching r h) (good_caching r g h) h (opens_clear p.opened) msg)
 
 -- ---- giving up
 pub good_give_up : GoodGiveUp

@@ -80,7 +80,7 @@ module _ (r : Receiver) (g : Good r) where
 
   pub good_upgraded : (s : Session) → Good (upgraded r s)
   unfolding upgraded_by
-  good_upgraded s = good_replay _ (kept_handed_up r.replay g.replay_kept s.src s.auth s.terms.segn s.terms.dst)
+  good_upgraded s = good_replay _ (kept_handed_up r.replay g.replay_kept s.src _)
 
   -- ---- a slot is zeroed, or holds a session that gathers
   pub good_freed : (slot : ℕ) → Good (with_session r slot no_session)

@@ -5,24 +5,18 @@ use mathlib.Core.List.{List}
 use mathlib.Core.Path.{◌≡◌, subst}
 use Prim.Native.Nat.{ℕ, ◌/◌, ◌%◌}
 use lib.Dec.{eqb, ltb}
-use lib.ListN.{length, get_or, drop, length-replicate}
+use lib.ListN.{length, get_or, drop}
+use Rattle.std.specs.Prelude.{Option, Some, None, IfSome, IfOk}
 use Rattle.common.proofs.Lists.{length_tab}
 use Rattle.common.proofs.Tests.{by_choice}
 use Rattle.common.proofs.Trials.{tries_each}
 use Rattle.keys.specs.declared.NetworkKeys.{NetworkKeys}
 use Rattle.network.specs.declared.header.Header.{Header}
-use Rattle.network.specs.declared.iv_index.IvIndex.{IvIndex}
-use Rattle.network.specs.declared.iv_index.IvIndex.TheVariants.{Index, Nothing}
-use Rattle.network.specs.declared.opening.Answer.{Answer}
-use Rattle.network.specs.declared.opening.Answer.TheVariants.{Opened, WrongLength, NoCandidate, NotAuthentic, WrongAddress}
 use Rattle.network.specs.declared.opening.Opening.{Opening}
-use Rattle.network.specs.declared.trial.Found.{Found}
-use Rattle.network.specs.declared.trial.Trial.{Trial}
 use Rattle.network.specs.Address.{is_unicast, addresses_allowed}
 use Rattle.network.specs.Candidates.{key_at, candidates, opens, found_by, searched}
-use Rattle.network.specs.Header.{no_header}
 use Rattle.network.specs.IvIndex.{iv_index_heard}
-use Rattle.network.specs.Opening.{judged, under, opening}
+use Rattle.network.specs.Opening.{admitted, judged, under, opening}
 use Rattle.network.specs.Pdu.{pdu_octets, front_of}
 use Rattle.network.specs.Trial.{ctl_of, header_of, body_tried, tried}
 use Rattle.network.proofs.AddressLaws.{allowed_source}
@@ -34,64 +28,52 @@ pub record Clear (h : Header) : Type 0 where
   pub places : length h.transport ≡ 16
   pub unicast : is_unicast h.src ≡ true
 
--- a header is opened, or a refusal says why not
-abbrev ClearIn : Answer → Header → Type 0
-ClearIn Opened h = Clear h
-ClearIn WrongLength h = Unit {0}
-ClearIn NoCandidate h = Unit {0}
-ClearIn NotAuthentic h = Unit {0}
-ClearIn WrongAddress h = Unit {0}
-
 abbrev ClearOf : Opening → Type 0
-ClearOf o = ClearIn o.answer o.header
+ClearOf o = IfOk o.opened Clear
 
 -- ---- every header has 16 places
 abbrev Places : Header → Type 0
 Places h = length h.transport ≡ 16
 
-no_places : Places no_header
-no_places = length-replicate {A = ℕ} 16 0
-
 header_places : (place iv : ℕ) (front body : List ℕ) → Places (header_of place iv front body)
 unfolding header_of
 header_places place iv front body = length_tab (λ i. get_or (drop 2 body) i 0) 16
 
-tried_places : (key : NetworkKeys) (place iv : ℕ) (pdu : List ℕ) → Places (tried key place iv pdu).header
+abbrev PlacesIn : Option Header → Type 0
+PlacesIn o = IfSome o Places
+
+tried_places : (key : NetworkKeys) (place iv : ℕ) (pdu : List ℕ) → PlacesIn (tried key place iv pdu)
 unfolding tried
 tried_places key place iv pdu =
     let front = front_of key iv pdu in
     let body = body_tried key iv front pdu in
-    by_choice (λ (t : Trial). Places t.header) (ctl_of front && ltb (length pdu) 18) (λ t. no_places)
-    (λ t. by_choice (λ (t : Trial). Places t.header) body.answer (λ u. header_places place iv front body.buffer) (λ u. no_places))
+    by_choice PlacesIn (ctl_of front && ltb (length pdu) 18) (λ t. tt {0})
+    (λ t. by_choice PlacesIn body.answer (λ u. header_places place iv front body.buffer) (λ u. tt {0}))
 
-searched_places : (keys : List NetworkKeys) (count nid iv : ℕ) (pdu : List ℕ) → Places (searched keys count nid iv pdu).header
+searched_places : (keys : List NetworkKeys) (count nid iv : ℕ) (pdu : List ℕ) → PlacesIn (searched keys count nid iv pdu).opened
 unfolding searched
 searched_places keys count nid iv pdu =
     let cs = candidates keys count nid in
-    tries_each (opens keys iv pdu) 0 (λ t. Places (found_by keys iv pdu t).header) cs
-    (λ k _. let i = get_or cs k 0 in tried_places (key_at keys i) i iv pdu) (λ _. no_places)
+    tries_each (opens keys iv pdu) 0 (λ t. PlacesIn (found_by keys iv pdu t).opened) cs
+    (λ k _. let i = get_or cs k 0 in tried_places (key_at keys i) i iv pdu) (λ _. tt {0})
 
 -- ---- refusal 4 lets no other source pass
-judged_clear : (s : Found) → Places s.header → ClearOf (judged s)
-unfolding judged
-judged_clear s l =
-    let h = s.header in
-    by_choice ClearOf s.ok
-    (λ t. by_choice ClearOf (addresses_allowed h.ctl h.src h.dst)
+admitted_clear : (o : Option Header) → PlacesIn o → IfOk (admitted o) Clear
+admitted_clear None l = tt {0}
+admitted_clear (Some h) l =
+    by_choice (λ r. IfOk r Clear) (addresses_allowed h.ctl h.src h.dst)
     (λ u. record { places = l; unicast = allowed_source h.ctl h.src h.dst u })
-    (λ u. tt {0}))
-    (λ t. tt {0})
+    (λ u. tt {0})
 
 -- ---- the call
-under_clear : (keys : List NetworkKeys) (count : ℕ) (pdu : List ℕ) (i : IvIndex) → ClearOf (under keys count pdu i)
-unfolding under
-under_clear keys count pdu Nothing = tt {0}
-under_clear keys count pdu (Index iv) =
+under_clear : (keys : List NetworkKeys) (count : ℕ) (pdu : List ℕ) (i : Option ℕ) → ClearOf (under keys count pdu i)
+unfolding under judged
+under_clear keys count pdu None = tt {0}
+under_clear keys count pdu (Some iv) =
     let nid = get_or pdu 0 0 % 128 in
-    judged_clear (searched keys count nid iv pdu) (searched_places keys count nid iv pdu)
+    admitted_clear (searched keys count nid iv pdu).opened (searched_places keys count nid iv pdu)
 
-opening_clear :
-    (keys : List NetworkKeys) (count current : ℕ) (pdu : List ℕ) → ClearIn (opening keys count current pdu).answer (opening keys count current pdu).header
+opening_clear : (keys : List NetworkKeys) (count current : ℕ) (pdu : List ℕ) → ClearOf (opening keys count current pdu)
 unfolding opening
 opening_clear keys count current pdu =
     by_choice ClearOf (ltb (length pdu) 14) (λ t. tt {0})

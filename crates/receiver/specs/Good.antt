@@ -1,7 +1,7 @@
 -- What holds of a receiver that setup made, whatever it has heard since: the invariant that the theorems start from.
 --   Gathering s   an open session: some segment is missing, and none past SegN is marked
 --   Good r        the whole state
-use Rattle.std.specs.Prelude.{true, false, List, ◌≡◌, ℕ, ◌+◌, ◌^◌, ◌≤◌, ◌<◌, length}
+use Rattle.std.specs.Prelude.{true, false, Ok, List, ◌≡◌, ℕ, ◌+◌, ◌^◌, ◌≤◌, ◌<◌, length}
 use Rattle.transport.specs.Segment.{message_octets}
 use Rattle.memory.specs.declared.session.Session.{Session}
 use Rattle.memory.specs.Cache.{cache_entries}
@@ -9,7 +9,6 @@ use Rattle.memory.specs.Replay.{ReplayKept}
 use Rattle.memory.specs.Session.{session_slots, no_session, session_at, is_free, SessionsApart, complete}
 use Rattle.node.specs.Made.{WellMade, NextWell}
 use Rattle.node.specs.declared.setup.Setup.{Setup}
-use Rattle.receiver.specs.declared.fresh.Answer.TheVariants.{Ready}
 use Rattle.receiver.specs.declared.state.Receiver.{Receiver}
 use Rattle.receiver.specs.Fresh.{setting_up}
 use Rattle.receiver.specs.GiveUp.{giving_up}
@@ -51,7 +50,7 @@ pub record Good (r : Receiver) : Type 0 where
 
 -- true after setup
 abbrev pub GoodFresh : Type 0
-GoodFresh = (s : Setup) → (setting_up s).answer ≡ Ready → Good (setting_up s).receiver
+GoodFresh = (s : Setup) → (setting_up s).answer ≡ Ok tt → Good (setting_up s).receiver
 
 -- kept by hearing any octets, with any buffers
 abbrev pub GoodHear : Type 0

@@ -3,11 +3,10 @@
 --   relayed node h fwd        what forwarding leaves
 --   taken r h msg             6, then by the transport form: what a PDU in the cache leaves
 --   hearing r pdu fwd msg     what a call leaves
-use Rattle.std.specs.Prelude.{List, ℕ, ltb, length, if◌then◌else◌}
+use Rattle.std.specs.Prelude.{List, Option, Some, None, Result, Ok, Err, ℕ, ltb, length, if◌then◌else◌}
 use Rattle.common.specs.Lent.{Lent, lent}
 use Rattle.network.specs.declared.header.Header.{Header}
-use Rattle.network.specs.declared.opening.Answer.TheVariants as network
-use Rattle.network.specs.declared.opening.Answer.{Answer}
+use Rattle.network.specs.declared.opening.Refusal as network_refusal
 use Rattle.network.specs.Opening.{opening}
 use Rattle.network.specs.Sealing.{sealed_length, forwards, forwarding}
 use Rattle.network.specs.Pdu.{pdu_octets}
@@ -17,7 +16,6 @@ use Rattle.transport.specs.Form.{form_of}
 use Rattle.transport.specs.Segment.{message_octets}
 use Rattle.memory.specs.Cache.{seen, remembered}
 use Rattle.memory.specs.Replay.{Listing, ascending}
-use Rattle.receiver.specs.declared.answer.Answer.TheVariants.{Refused}
 use Rattle.receiver.specs.declared.answer.Heard.{Heard}
 use Rattle.receiver.specs.declared.answer.Refusal.{Refusal}
 use Rattle.receiver.specs.declared.answer.Refusal.TheVariants as refusal
@@ -25,6 +23,7 @@ use Rattle.receiver.specs.declared.answer.Taken.{Taken}
 use Rattle.node.specs.declared.addresses.Node.{Node}
 use Rattle.receiver.specs.declared.state.Receiver.{Receiver}
 use Rattle.node.specs.Addresses.{is_local, for_node}
+use Rattle.receiver.specs.Answer.{opening_refusal}
 use Rattle.receiver.specs.Segmented.{segmented_by}
 use Rattle.receiver.specs.State.{with_cache}
 use Rattle.receiver.specs.Whole.{refused_at, whole_access_by, whole_control_by, whole_acknowledgement_by}
@@ -40,7 +39,7 @@ outcome t fwd msg = record { heard = t; forward = fwd; message = msg }
 
 -- a refusal that leaves everything, with its number of trials
 abbrev pub refused_heard : Receiver → Refusal → ℕ → Heard
-refused_heard r n trials = record { answer = Refused n; network = trials; application = 0; forwarded = 0; receiver = r }
+refused_heard r n trials = record { answer = Err n; network = trials; application = 0; forwarded = 0; receiver = r }
 
 -- forwarded exactly when relay is on, TTL is at least 2 and DST is no local unicast address; else the forward buffer stays
 unfoldable pub relayed : Node → Header → List ℕ → Lent ℕ
@@ -52,13 +51,13 @@ relayed node h fwd =
 -- ---- by the operations of a replay list
 module _ (by : Listing) where
   -- 7: transport form is wrong; else by the form
-  unfoldable pub taken_as_by : Form → Receiver → Header → List ℕ → Lent Taken
-  taken_as_by form.Wrong r h msg = lent (refused_at r refusal.WrongForm 0) msg
-  taken_as_by (form.Access akf aid) r h msg = whole_access_by by r h akf aid msg
-  taken_as_by (form.AccessSegment akf aid fields) r h msg = segmented_by by r h fields msg
-  taken_as_by (form.Control opcode) r h msg = whole_control_by by r h opcode msg
-  taken_as_by (form.ControlSegment opcode fields) r h msg = segmented_by by r h fields msg
-  taken_as_by (form.Acknowledgement obo seq_zero bits) r h msg = lent (whole_acknowledgement_by by r h obo seq_zero bits) msg
+  unfoldable pub taken_as_by : Option Form → Receiver → Header → List ℕ → Lent Taken
+  taken_as_by None r h msg = lent (refused_at r refusal.WrongForm 0) msg
+  taken_as_by (Some (form.Access akf aid)) r h msg = whole_access_by by r h akf aid msg
+  taken_as_by (Some (form.AccessSegment akf aid fields)) r h msg = segmented_by by r h fields msg
+  taken_as_by (Some (form.Control opcode)) r h msg = whole_control_by by r h opcode msg
+  taken_as_by (Some (form.ControlSegment opcode fields)) r h msg = segmented_by by r h fields msg
+  taken_as_by (Some (form.Acknowledgement obo seq_zero bits)) r h msg = lent (whole_acknowledgement_by by r h obo seq_zero bits) msg
 
   -- 6: not for this node
   unfoldable pub taken_by : Receiver → Header → List ℕ → Lent Taken
@@ -94,12 +93,9 @@ module _ (by : Listing) where
       uncached_by r h trials fwd msg
 
   -- 1 to 4 are those of opening a Network PDU
-  unfoldable pub opened_as_by : Answer → Receiver → Header → ℕ → List ℕ → List ℕ → Outcome
-  opened_as_by network.WrongLength r h trials fwd msg = outcome (refused_heard r refusal.WrongLength trials) fwd msg
-  opened_as_by network.NoCandidate r h trials fwd msg = outcome (refused_heard r refusal.NoCandidate trials) fwd msg
-  opened_as_by network.NotAuthentic r h trials fwd msg = outcome (refused_heard r refusal.NotAuthentic trials) fwd msg
-  opened_as_by network.WrongAddress r h trials fwd msg = outcome (refused_heard r refusal.WrongAddress trials) fwd msg
-  opened_as_by network.Opened r h trials fwd msg = voiced_by r h trials fwd msg
+  unfoldable pub opened_as_by : Result Header network_refusal.Refusal → Receiver → ℕ → List ℕ → List ℕ → Outcome
+  opened_as_by (Err n) r trials fwd msg = outcome (refused_heard r (opening_refusal n) trials) fwd msg
+  opened_as_by (Ok h) r trials fwd msg = voiced_by r h trials fwd msg
 
   -- 16: a buffer lent for writing is shorter than 29 (PDU) or 384 (message)
   unfoldable pub hearing_by : Receiver → List ℕ → List ℕ → List ℕ → Outcome
@@ -107,10 +103,10 @@ module _ (by : Listing) where
       let o = opening r.node.materials r.node.networks r.node.iv pdu in
       if ltb (length fwd) pdu_octets then outcome (refused_heard r refusal.ShortBuffer 0) fwd msg else
       if ltb (length msg) message_octets then outcome (refused_heard r refusal.ShortBuffer 0) fwd msg else
-      opened_as_by o.answer r o.header o.trials fwd msg
+      opened_as_by o.opened r o.trials fwd msg
 
 -- ---- by the list that the receiver has
-abbrev pub taken_as : Form → Receiver → Header → List ℕ → Lent Taken
+abbrev pub taken_as : Option Form → Receiver → Header → List ℕ → Lent Taken
 taken_as f r h msg = taken_as_by ascending f r h msg
 
 abbrev pub taken : Receiver → Header → List ℕ → Lent Taken
@@ -125,8 +121,8 @@ uncached r h trials fwd msg = uncached_by ascending r h trials fwd msg
 abbrev pub voiced : Receiver → Header → ℕ → List ℕ → List ℕ → Outcome
 voiced r h trials fwd msg = voiced_by ascending r h trials fwd msg
 
-abbrev pub opened_as : Answer → Receiver → Header → ℕ → List ℕ → List ℕ → Outcome
-opened_as a r h trials fwd msg = opened_as_by ascending a r h trials fwd msg
+abbrev pub opened_as : Result Header network_refusal.Refusal → Receiver → ℕ → List ℕ → List ℕ → Outcome
+opened_as o r trials fwd msg = opened_as_by ascending o r trials fwd msg
 
 abbrev pub hearing : Receiver → List ℕ → List ℕ → List ℕ → Outcome
 hearing r pdu fwd msg = hearing_by ascending r pdu fwd msg

@@ -2,9 +2,8 @@
 --   Opens r pdu fwd msg trials h    refusals 16 and 1 to 4: it opens to header h, so many network keys being tried
 --   Ours r pdu fwd msg trials h     and is stopped by 22
 --   Passes r pdu fwd msg trials h   and passes 22 and 5
-use Rattle.std.specs.Prelude.{true, false, List, ◌≡◌, ℕ, ◌≤◌, length}
+use Rattle.std.specs.Prelude.{true, false, Ok, List, ◌≡◌, ℕ, ◌≤◌, length}
 use Rattle.network.specs.declared.header.Header.{Header}
-use Rattle.network.specs.declared.opening.Answer.TheVariants.{Opened}
 use Rattle.network.specs.Opening.{opening}
 use Rattle.network.specs.Pdu.{pdu_octets}
 use Rattle.transport.specs.Segment.{message_octets}
@@ -16,7 +15,7 @@ use Rattle.receiver.specs.declared.state.Receiver.{Receiver}
 pub record Opens (r : Receiver) (pdu fwd msg : List ℕ) (trials : ℕ) (h : Header) : Type 0 where
   pub wide : pdu_octets ≤ length fwd
   pub big : message_octets ≤ length msg
-  pub opens : opening r.node.materials r.node.networks r.node.iv pdu ≡ record { answer = Opened; trials = trials; header = h }
+  pub opens : opening r.node.materials r.node.networks r.node.iv pdu ≡ record { trials = trials; opened = Ok h }
 
 pub record Ours (r : Receiver) (pdu fwd msg : List ℕ) (trials : ℕ) (h : Header) : Type 0 where
   pub opened : Opens r pdu fwd msg trials h

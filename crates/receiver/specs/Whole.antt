@@ -4,32 +4,31 @@
 --   whole_access r h akf aid msg                  what an access message leaves
 --   whole_control r h opcode msg                  what a control message leaves
 --   whole_acknowledgement r h obo seq_zero bits   what an acknowledgement leaves
-use Rattle.std.specs.Prelude.{Bool, false, List, ℕ, length, drop, if◌then◌else◌}
+use Rattle.std.specs.Prelude.{Bool, false, List, Result, Ok, Err, ℕ, length, drop, if◌then◌else◌}
 use Rattle.common.specs.Lent.{Lent, lent}
 use Rattle.common.specs.Lists.{onto}
 use Rattle.network.specs.declared.header.Header.{Header}
 use Rattle.network.specs.Header.{transport_of}
 use Rattle.transport.specs.declared.securing.Envelope.{Envelope}
 use Rattle.transport.specs.declared.securing.Opened.{Opened}
-use Rattle.transport.specs.declared.securing.Opened.TheVariants.{Message, NotOpened, ShortBuffer}
+use Rattle.transport.specs.declared.securing.Unopened.{Unopened}
+use Rattle.transport.specs.declared.securing.Unopened.TheVariants.{NotOpened, ShortBuffer}
 use Rattle.transport.specs.Securing.{unsecuring}
 use Rattle.memory.specs.declared.pair.Pair.{Pair}
 use Rattle.memory.specs.declared.replay.Entry.{Entry}
 use Rattle.memory.specs.Replay.{stale, Listing, ascending, accepted_by}
 use Rattle.memory.specs.Outgoing.{acknowledging}
 use Rattle.node.specs.Addresses.{held_by}
-use Rattle.receiver.specs.declared.answer.Answer.TheVariants.{Refused, Access, Control, Acknowledgement}
+use Rattle.receiver.specs.declared.answer.Answer.TheVariants.{Access, Control, Acknowledgement}
 use Rattle.receiver.specs.declared.answer.Refusal.{Refusal}
 use Rattle.receiver.specs.declared.answer.Refusal.TheVariants as refusal
 use Rattle.receiver.specs.declared.answer.Taken.{Taken}
 use Rattle.receiver.specs.declared.state.Receiver.{Receiver}
-use Rattle.receiver.specs.declared.whole.Admission.{Admission}
-use Rattle.receiver.specs.declared.whole.Admission.TheVariants.{Admitted, Replayed, NoEntryLeft}
 use Rattle.receiver.specs.State.{with_replay, with_outgoing}
 
 -- a refusal that leaves r as it is
 abbrev pub refused_at : Receiver → Refusal → ℕ → Taken
-refused_at r n trials = record { answer = Refused n; trials = trials; receiver = r }
+refused_at r n trials = record { answer = Err n; trials = trials; receiver = r }
 
 -- the pair of a whole message
 abbrev pub pair_of : Header → Pair
@@ -41,32 +40,31 @@ whole_envelope h akf aid =
     record { network = h.key; akf = akf; aid = aid; szmic = false; iv = h.iv; seq = h.seq; src = h.src; dst = h.dst }
 
 -- 9 and 11, or what an admitted message leaves
-unfoldable pub unless : {A : Type 0} → Admission → (Refusal → A) → A → A
-unless Replayed refuse t = refuse refusal.Replayed
-unless NoEntryLeft refuse t = refuse refusal.NoEntryLeft
-unless Admitted refuse t = t
+unfoldable pub unless : {A : Type 0} → Result Unit Refusal → (Refusal → A) → A → A
+unless (Err n) refuse t = refuse n
+unless (Ok _) refuse t = t
 
 -- ---- by the operations of a replay list
 module _ (by : Listing) where
   -- 9: the replay entry is newer or equal; 11: the source has none and all 32 are used
-  unfoldable pub admission_by : List Entry → Header → Admission
+  unfoldable pub admission_by : List Entry → Header → Result Unit Refusal
   admission_by replay h =
-      if stale (by.look_up replay h.src) (pair_of h) then Replayed else
-      if by.has_room replay h.src then Admitted else
-      NoEntryLeft
+      if stale (by.look_up replay h.src) (pair_of h) then Err refusal.Replayed else
+      if by.has_room replay h.src then Ok tt else
+      Err refusal.NoEntryLeft
 
   -- when a message is accepted the entry becomes the greater of the two
   unfoldable pub admitted_by : Receiver → Header → Receiver
   admitted_by r h = with_replay r (accepted_by by r.replay h.src (pair_of h))
 
   -- 13: no pair opens the message; else it is handed up
-  unfoldable pub opened_as_by : Receiver → Header → Opened → Taken
-  opened_as_by r h (Message opener trials len) =
-      record { answer = Access h.src h.dst h.key opener (pair_of h) len; trials = trials; receiver = admitted_by r h }
-  opened_as_by r h (NotOpened trials) = refused_at r refusal.NotOpened trials
-  opened_as_by r h ShortBuffer = refused_at r refusal.ShortBuffer 0
+  unfoldable pub opened_as_by : Receiver → Header → Result Opened Unopened → Taken
+  opened_as_by r h (Ok o) =
+      record { answer = Ok (Access h.src h.dst h.key o.opener (pair_of h) o.len); trials = o.trials; receiver = admitted_by r h }
+  opened_as_by r h (Err (NotOpened trials)) = refused_at r refusal.NotOpened trials
+  opened_as_by r h (Err ShortBuffer) = refused_at r refusal.ShortBuffer 0
 
-  unfoldable pub opened_whole_by : Receiver → Header → Lent Opened → Lent Taken
+  unfoldable pub opened_whole_by : Receiver → Header → Lent (Result Opened Unopened) → Lent Taken
   opened_whole_by r h o = lent (opened_as_by r h o.answer) o.buffer
 
   -- an access message: SEG 0, AKF, AID; then the message
@@ -79,7 +77,7 @@ module _ (by : Listing) where
   unfoldable pub whole_control_up_by : Receiver → Header → ℕ → List ℕ → Lent Taken
   whole_control_up_by r h opcode msg =
       let m = drop 1 (transport_of h) in
-      lent (record { answer = Control h.src h.dst h.key opcode (pair_of h) (length m); trials = 0; receiver = admitted_by r h }) (onto m msg)
+      lent (record { answer = Ok (Control h.src h.dst h.key opcode (pair_of h) (length m)); trials = 0; receiver = admitted_by r h }) (onto m msg)
 
   -- a control message: SEG 0, opcode; then its parameters
   unfoldable pub whole_control_by : Receiver → Header → ℕ → List ℕ → Lent Taken
@@ -90,7 +88,7 @@ module _ (by : Listing) where
   unfoldable pub acted_by : Receiver → Header → Bool → ℕ → ℕ → Taken
   acted_by r h obo seq_zero bits =
       let a = acknowledging r.out h obo seq_zero bits in
-      record { answer = Acknowledgement h.src bits a.effect; trials = 0; receiver = with_outgoing (admitted_by r h) a.out }
+      record { answer = Ok (Acknowledgement h.src bits a.effect); trials = 0; receiver = with_outgoing (admitted_by r h) a.out }
 
   -- an acknowledgement counts as unsegmented
   unfoldable pub whole_acknowledgement_by : Receiver → Header → Bool → ℕ → ℕ → Taken
@@ -98,16 +96,16 @@ module _ (by : Listing) where
       unless (admission_by r.replay h) (λ n. refused_at r n 0) (acted_by r h obo seq_zero bits)
 
 -- ---- by the list that the receiver has
-abbrev pub admission : List Entry → Header → Admission
+abbrev pub admission : List Entry → Header → Result Unit Refusal
 admission replay h = admission_by ascending replay h
 
 abbrev pub admitted : Receiver → Header → Receiver
 admitted r h = admitted_by ascending r h
 
-abbrev pub opened_as : Receiver → Header → Opened → Taken
+abbrev pub opened_as : Receiver → Header → Result Opened Unopened → Taken
 opened_as r h o = opened_as_by ascending r h o
 
-abbrev pub opened_whole : Receiver → Header → Lent Opened → Lent Taken
+abbrev pub opened_whole : Receiver → Header → Lent (Result Opened Unopened) → Lent Taken
 opened_whole r h o = opened_whole_by ascending r h o
 
 abbrev pub whole_access : Receiver → Header → Bool → ℕ → List ℕ → Lent Taken

@@ -1,6 +1,6 @@
 // What the receiver answers: one of document 01's answers, with its values.
 ghost use Rattle.std.specs.Prelude.{◌≡◌};
-ghost use Rattle.receiver.specs.Answer.{refusal_number};
+ghost use Rattle.receiver.specs.Answer.{refusal_number, opening_refusal, decision_refusal};
 
 use super::state::Receiver;
 use memory::outgoing::Effect;
@@ -46,35 +46,64 @@ pub enum Refusal {
     NoSeqLeft,
 }
 
-// Document 01's number of a refusal.
-pub fn number(refusal: Refusal) -> u32
-    ensures { result ≡ refusal_number refusal }
-{
-    match refusal {
-        Refusal::ShortBuffer => 16,
-        Refusal::WrongLength => 1,
-        Refusal::NoCandidate => 2,
-        Refusal::NotAuthentic => 3,
-        Refusal::WrongAddress => 4,
-        Refusal::OwnSource => 22,
-        Refusal::Cached => 5,
-        Refusal::NotForNode => 6,
-        Refusal::WrongForm => 7,
-        Refusal::NoSeqAuth => 8,
-        Refusal::Replayed => 9,
-        Refusal::Differs => 10,
-        Refusal::NoEntryLeft => 11,
-        Refusal::NoSlotLeft => 12,
-        Refusal::NotOpened => 13,
-        Refusal::OutsideRules => 14,
-        Refusal::NoSeqLeft => 15,
+impl Refusal {
+    // Document 01's number of a refusal.
+    pub fn number(self) -> u32
+        ensures { result ≡ refusal_number self }
+    {
+        match self {
+            Refusal::ShortBuffer => 16,
+            Refusal::WrongLength => 1,
+            Refusal::NoCandidate => 2,
+            Refusal::NotAuthentic => 3,
+            Refusal::WrongAddress => 4,
+            Refusal::OwnSource => 22,
+            Refusal::Cached => 5,
+            Refusal::NotForNode => 6,
+            Refusal::WrongForm => 7,
+            Refusal::NoSeqAuth => 8,
+            Refusal::Replayed => 9,
+            Refusal::Differs => 10,
+            Refusal::NoEntryLeft => 11,
+            Refusal::NoSlotLeft => 12,
+            Refusal::NotOpened => 13,
+            Refusal::OutsideRules => 14,
+            Refusal::NoSeqLeft => 15,
+        }
+    }
+}
+
+// 1 to 4 are refusals of opening a Network PDU.
+impl From<network::opening::Refusal> for Refusal {
+    ghost from_gives = { λ n r. r ≡ opening_refusal n };
+
+    fn from(refusal: network::opening::Refusal) -> Refusal {
+        match refusal {
+            network::opening::Refusal::WrongLength => Refusal::WrongLength,
+            network::opening::Refusal::NoCandidate => Refusal::NoCandidate,
+            network::opening::Refusal::NotAuthentic => Refusal::NotAuthentic,
+            network::opening::Refusal::WrongAddress => Refusal::WrongAddress,
+        }
+    }
+}
+
+// 9 to 12 are those of the decision on a segment.
+impl From<memory::decision::Refusal> for Refusal {
+    ghost from_gives = { λ n r. r ≡ decision_refusal n };
+
+    fn from(refusal: memory::decision::Refusal) -> Refusal {
+        match refusal {
+            memory::decision::Refusal::Stale => Refusal::Replayed,
+            memory::decision::Refusal::Differs => Refusal::Differs,
+            memory::decision::Refusal::NoEntryLeft => Refusal::NoEntryLeft,
+            memory::decision::Refusal::NoSlotLeft => Refusal::NoSlotLeft,
+        }
     }
 }
 
 // What became of a PDU that was heard.
 #[derive(Clone, Copy)]
 pub enum Answer {
-    Refused(Refusal),
     // A segment was stored; the bits report the places filled.
     Stored {
         src: u16,
@@ -116,14 +145,14 @@ pub enum Answer {
 // What became of a PDU behind the network layer, with the number of pairs tried.
 #[derive(Clone, Copy)]
 pub struct Taken {
-    pub answer: Answer,
+    pub answer: Result<Answer, Refusal>,
     pub trials: usize,
     pub receiver: Receiver,
 }
 
 #[derive(Clone, Copy)]
 pub struct Heard {
-    pub answer: Answer,
+    pub answer: Result<Answer, Refusal>,
     // How many network keys were tried, and pairs of an application key and a label, or of a key alone.
     pub network: usize,
     pub application: usize,

@@ -7,16 +7,10 @@ use super::state::Receiver;
 use node::addresses::Node;
 use node::setup::Setup;
 
-#[derive(Clone, Copy)]
-pub enum Answer {
-    // The receiver stands beside.
-    Ready,
-    Refused(Refusal),
-}
-
+// The receiver stands beside the answer, whatever that is: one of zeros beside a refusal.
 #[derive(Clone, Copy)]
 pub struct Ready {
-    pub answer: Answer,
+    pub answer: Result<(), Refusal>,
     pub receiver: Receiver,
 }
 
@@ -24,33 +18,29 @@ pub struct Ready {
 fn receiver(node: Node, next: [u32; node::addresses::ELEMENTS]) -> Receiver
     ensures { result ≡ fresh node next }
 {
-    let replay = [memory::replay::none(); memory::replay::ENTRIES];
-    let sessions = [memory::session::none(); memory::session::SLOTS];
     Receiver {
         node,
         next,
         cache: memory::cache::none(),
-        replay,
-        sessions,
+        replay: [memory::replay::none(); memory::replay::ENTRIES],
+        sessions: [memory::session::none(); memory::session::SLOTS],
         out: memory::outgoing::none(),
     }
 }
 
 // Sets a receiver up; beside a refusal all is zero.
+#[tactic(auto, unfolding(crate::specs::Fresh::setting_up))]
 pub fn set_up(s: Setup) -> Ready
     ensures { result ≡ setting_up s }
 {
-    let m = node::setup::make(s);
-    let node = m.node;
-    let next = m.next;
-    if m.ok {
-        return Ready {
-            answer: Answer::Ready,
-            receiver: receiver(node, next),
-        };
-    }
-    Ready {
-        answer: Answer::Refused(Refusal::OutsideRules),
-        receiver: receiver(node, next),
+    match node::setup::make(s) {
+        Some(m) => Ready {
+            answer: Ok(()),
+            receiver: receiver(m.node, m.next),
+        },
+        None => Ready {
+            answer: Err(Refusal::OutsideRules),
+            receiver: receiver(node::addresses::none(), [0u32; node::addresses::ELEMENTS]),
+        },
     }
 }

@@ -6,39 +6,26 @@ use super::answer::Refusal;
 use super::state::Receiver;
 use memory::session::SessionKey;
 
-#[derive(Clone, Copy)]
-pub enum Answer {
-    // What was there is given up.
-    Done,
-    Refused(Refusal),
-}
-
+// Beside a refusal the receiver is as it was.
 #[derive(Clone, Copy)]
 pub struct GivenUp {
-    pub answer: Answer,
+    pub answer: Result<(), Refusal>,
     pub receiver: Receiver,
 }
 
 // Gives up the session of a source; its slot is zeroed.
+#[tactic(auto, unfolding(crate::specs::GiveUp::giving_up))]
 pub fn session(r: Receiver, src: u16) -> GivenUp
     ensures { result ≡ giving_up r src }
 {
-    if src == 0 {
-        return GivenUp {
-            answer: Answer::Refused(Refusal::OutsideRules),
+    match memory::session::place(r.sessions, SessionKey { src }) {
+        Some(slot) if src != 0 => GivenUp {
+            answer: Ok(()),
+            receiver: r.with_session(slot, memory::session::none()),
+        },
+        _ => GivenUp {
+            answer: Err(Refusal::OutsideRules),
             receiver: r,
-        };
-    }
-    let sessions = r.sessions;
-    let slot = memory::session::place(sessions, SessionKey { src });
-    if slot < memory::session::SLOTS {
-        return GivenUp {
-            answer: Answer::Done,
-            receiver: super::state::with_session(r, slot, memory::session::none()),
-        };
-    }
-    GivenUp {
-        answer: Answer::Refused(Refusal::OutsideRules),
-        receiver: r,
+        },
     }
 }

@@ -1,11 +1,10 @@
 // A segment of a longer message: stored, repeated, refused, or the last that was missing.
-ghost use Rattle.std.specs.Prelude.{◌≡◌, ◌≤◌, ◌<◌, length};
+ghost use Rattle.std.specs.Prelude.{◌≡◌, ◌≤◌, length};
 ghost use Rattle.common.specs.Lent.{lent};
 ghost use Rattle.common.specs.Lists.{onto};
 ghost use Rattle.transport.specs.Securing.{unsecuring};
 ghost use Rattle.node.specs.Addresses.{held_by};
 ghost use Rattle.transport.specs.Segment.{message_octets};
-ghost use Rattle.memory.specs.Session.{session_slots, session_at, stored};
 ghost use Rattle.receiver.specs.Segmented.{segment_of, session_envelope, message_of, upgraded, control_up, access_up, gathered, placed, segmented};
 
 use super::answer::{Answer, Refusal, Taken};
@@ -13,12 +12,12 @@ use super::state::Receiver;
 use super::whole::refuse;
 use memory::decision::Decision;
 use memory::pair::Pair;
+use memory::replay::Last;
 use memory::session::{Segment, Session, Terms};
 use network::header::Header;
 use node::addresses::Node;
 use transport::form::SegmentFields;
-use transport::securing::{Envelope, Held, Opened};
-use transport::seq_auth::SeqAuth;
+use transport::securing::{Envelope, Held, Opened, Unopened};
 
 // A segment as its header and form tell it.
 fn segment_of(h: Header, fields: SegmentFields, auth: u32) -> Segment
@@ -43,55 +42,53 @@ fn segment_of(h: Header, fields: SegmentFields, auth: u32) -> Segment
 }
 
 // The receiver after the message of a session was handed up.
+#[tactic(auto, unfolding(crate::specs::Segmented::upgraded_by))]
 fn hand_up(r: Receiver, s: Session) -> Receiver
     ensures { result ≡ upgraded r s }
 {
-    let terms = s.terms;
-    let auth = s.auth;
-    let before = r.replay;
-    let replay = memory::replay::hand_up(before, s.src, auth, terms.segn, terms.dst);
-    super::state::with_replay(r, replay)
+    let last = Last {
+        auth: s.auth,
+        segn: s.terms.segn,
+        dst: s.terms.dst,
+    };
+    r.with_replay(memory::replay::hand_up(r.replay, s.src, last))
 }
 
 // How many octets the message of a session has.
+#[tactic(auto, unfolding(crate::specs::Segmented::message_of))]
 fn octets(s: Session) -> usize
     ensures { result ≡ length (message_of s) }
 {
-    if transport::securing::MESSAGE < s.len {
-        transport::securing::MESSAGE
-    } else {
-        s.len
-    }
+    s.len.min(transport::securing::MESSAGE)
 }
 
 // Copies the message of a session to the message buffer, and gives its length.
+#[tactic(auto, unfolding(crate::specs::Segmented::message_of))]
 fn copy_message(s: Session, message: &mut [u8]) -> usize
     requires { message_octets ≤ length message.old }
     ensures { lent result message.new ≡ lent (length (message_of s)) (onto (message_of s) message.old) }
 {
-    let bytes = s.bytes;
     let n = octets(s);
-    common::copy(&bytes[..n], message);
+    common::copy(&s.bytes[..n], message);
     n
 }
 
 // A control message is handed up as it is.
+#[tactic(auto, unfolding(crate::specs::Segmented::control_up_by))]
 fn control_up(r: Receiver, s: Session, message: &mut [u8]) -> Taken
     requires { message_octets ≤ length message.old }
     ensures { lent result message.new ≡ control_up r s message.old }
 {
     let len = copy_message(s, message);
-    let terms = s.terms;
-    let auth = s.auth;
     Taken {
-        answer: Answer::Control {
+        answer: Ok(Answer::Control {
             src: s.src,
-            dst: terms.dst,
-            network: terms.key,
-            opcode: terms.first % 128,
-            pair: auth,
+            dst: s.terms.dst,
+            network: s.terms.key,
+            opcode: s.terms.first % 128,
+            pair: s.auth,
             len,
-        },
+        }),
         trials: 0,
         receiver: hand_up(r, s),
     }
@@ -116,113 +113,90 @@ fn envelope(s: Session) -> Envelope
 }
 
 // Opens the message of a session into the message buffer, by what a node holds.
-fn open_by(s: Session, held: Held, message: &mut [u8]) -> Opened
+#[tactic(auto, unfolding(crate::specs::Segmented::message_of))]
+fn open_by(s: Session, held: Held, message: &mut [u8]) -> Result<Opened, Unopened>
     ensures { lent result message.new ≡ unsecuring held (session_envelope s) (message_of s) message.old }
 {
-    let bytes = s.bytes;
     let n = octets(s);
-    transport::securing::open(held, envelope(s), &bytes[..n], message)
+    transport::securing::open(held, envelope(s), &s.bytes[..n], message)
 }
 
 // By what this node holds.
-fn open(s: Session, node: Node, message: &mut [u8]) -> Opened
+fn open(s: Session, node: Node, message: &mut [u8]) -> Result<Opened, Unopened>
     ensures { lent result message.new ≡ unsecuring (held_by node) (session_envelope s) (message_of s) message.old }
 {
     open_by(s, node::addresses::held_by(node), message)
 }
 
 // An access message is opened by the keys and labels that fit.
+#[tactic(auto, unfolding(crate::specs::Segmented::access_up_by, crate::specs::Segmented::access_up_as_by))]
 fn access_up(r: Receiver, s: Session, message: &mut [u8]) -> Taken
     ensures { lent result message.new ≡ access_up r s message.old }
 {
-    let terms = s.terms;
-    let auth = s.auth;
-    let node = r.node;
-    match open(s, node, message) {
-        Opened::Message {
-            opener,
-            trials,
-            len,
-        } => Taken {
-            answer: Answer::Access {
+    match open(s, r.node, message) {
+        Ok(o) => Taken {
+            answer: Ok(Answer::Access {
                 src: s.src,
-                dst: terms.dst,
-                network: terms.key,
-                opener,
-                pair: auth,
-                len,
-            },
-            trials,
+                dst: s.terms.dst,
+                network: s.terms.key,
+                opener: o.opener,
+                pair: s.auth,
+                len: o.len,
+            }),
+            trials: o.trials,
             receiver: hand_up(r, s),
         },
-        Opened::NotOpened { trials } => refuse(r, Refusal::NotOpened, trials),
-        Opened::ShortBuffer => refuse(r, Refusal::ShortBuffer, 0),
+        Err(Unopened::NotOpened { trials }) => refuse(r, Refusal::NotOpened, trials),
+        Err(Unopened::ShortBuffer) => refuse(r, Refusal::ShortBuffer, 0),
     }
 }
 
 // The session in a slot with one segment more: kept, or complete, and the slot is freed.
+#[tactic(auto, unfolding(crate::specs::Segmented::gathered_by))]
 fn gather(r: Receiver, slot: usize, s: Session, message: &mut [u8]) -> Taken
-    requires { (slot < session_slots) × (message_octets ≤ length message.old) }
+    requires { message_octets ≤ length message.old }
     ensures { lent result message.new ≡ gathered r slot s message.old }
 {
-    let auth = s.auth;
     if !memory::session::is_complete(s) {
         return Taken {
-            answer: Answer::Stored {
+            answer: Ok(Answer::Stored {
                 src: s.src,
-                auth,
+                auth: s.auth,
                 bits: s.filled,
-            },
+            }),
             trials: 0,
-            receiver: super::state::with_session(r, slot, s),
+            receiver: r.with_session(slot, s),
         };
     }
-    let q = super::state::with_session(r, slot, memory::session::none());
-    let terms = s.terms;
-    if terms.ctl {
+    let q = r.with_session(slot, memory::session::none());
+    if s.terms.ctl {
         return control_up(q, s, message);
     }
     access_up(q, s, message)
 }
 
-// A segment that joins the session in a slot.
-fn join(r: Receiver, h: Header, seg: Segment, slot: usize, message: &mut [u8]) -> Taken
-    requires { (slot < session_slots) × (message_octets ≤ length message.old) }
-    ensures { lent result message.new ≡ gathered r slot (stored (session_at r.sessions slot) h seg.sego) message.old }
-{
-    let sessions = r.sessions;
-    gather(
-        r,
-        slot,
-        memory::session::store(sessions[slot], h, seg.sego),
-        message,
-    )
-}
-
 // What becomes of a segment that has a SeqAuth.
+#[tactic(auto, using(memory::proofs::Within::join_within), unfolding(crate::specs::Segmented::placed_by, crate::specs::Segmented::placed_as_by))]
 fn place(r: Receiver, h: Header, seg: Segment, message: &mut [u8]) -> Taken
     requires { message_octets ≤ length message.old }
     ensures { lent result message.new ≡ placed r h seg message.old }
 {
-    let sessions = r.sessions;
-    let replay = r.replay;
-    let auth = seg.auth;
-    match memory::decision::decide(replay, sessions, h.src, seg) {
-        Decision::Stale => refuse(r, Refusal::Replayed, 0),
-        Decision::Differs => refuse(r, Refusal::Differs, 0),
-        Decision::NoEntryLeft => refuse(r, Refusal::NoEntryLeft, 0),
-        Decision::NoSlotLeft => refuse(r, Refusal::NoSlotLeft, 0),
-        Decision::Repeat(bits) => Taken {
-            answer: Answer::Repeated {
+    match memory::decision::decide(r.replay, r.sessions, h.src, seg) {
+        Err(refusal) => refuse(r, Refusal::from(refusal), 0),
+        Ok(Decision::Repeat(bits)) => Taken {
+            answer: Ok(Answer::Repeated {
                 src: h.src,
-                auth,
+                auth: seg.auth,
                 bits,
-            },
+            }),
             trials: 0,
             receiver: r,
         },
-        Decision::Join(slot) => join(r, h, seg, slot, message),
-        Decision::Open(slot) => {
+        Ok(Decision::Join(slot)) => {
+            let s = memory::session::store(r.sessions[slot], h, seg.sego);
+            gather(r, slot, s, message)
+        }
+        Ok(Decision::Open(slot)) => {
             let s = memory::session::begin(h.src, seg);
             gather(r, slot, memory::session::store(s, h, seg.sego), message)
         }
@@ -230,12 +204,13 @@ fn place(r: Receiver, h: Header, seg: Segment, message: &mut [u8]) -> Taken
 }
 
 // A segment: 8 where it has no SeqAuth.
+#[tactic(auto, unfolding(crate::specs::Segmented::segmented_by, crate::specs::Segmented::segmented_as_by))]
 pub(crate) fn segment(r: Receiver, h: Header, fields: SegmentFields, message: &mut [u8]) -> Taken
     requires { message_octets ≤ length message.old }
     ensures { lent result message.new ≡ segmented r h fields message.old }
 {
     match transport::seq_auth::find(h.seq, fields.seqzero) {
-        SeqAuth::Nowhere => refuse(r, Refusal::NoSeqAuth, 0),
-        SeqAuth::At(auth) => place(r, h, segment_of(h, fields, auth), message),
+        None => refuse(r, Refusal::NoSeqAuth, 0),
+        Some(auth) => place(r, h, segment_of(h, fields, auth), message),
     }
 }

@@ -1,6 +1,5 @@
 // The receiver's whole state, by value.
-ghost use Rattle.std.specs.Prelude.{◌≡◌, ◌<◌};
-ghost use Rattle.memory.specs.Session.{session_slots};
+ghost use Rattle.std.specs.Prelude.{◌≡◌};
 ghost use Rattle.receiver.specs.State.{with_cache, with_replay, with_session, with_outgoing};
 
 use memory::cache::Cache;
@@ -21,36 +20,34 @@ pub struct Receiver {
     pub out: Outgoing,
 }
 
-pub(crate) fn with_cache(r: Receiver, cache: Cache) -> Receiver
-    ensures { result ≡ with_cache r cache }
-{
-    let mut q = r;
-    q.cache = cache;
-    q
-}
+impl Receiver {
+    pub(crate) fn with_cache(self, cache: Cache) -> Receiver
+        ensures { result ≡ with_cache self cache }
+    {
+        Receiver { cache, ..self }
+    }
 
-pub(crate) fn with_replay(r: Receiver, replay: [Entry; ENTRIES]) -> Receiver
-    ensures { result ≡ with_replay r replay }
-{
-    let mut q = r;
-    q.replay = replay;
-    q
-}
+    pub(crate) fn with_replay(self, replay: [Entry; ENTRIES]) -> Receiver
+        ensures { result ≡ with_replay self replay }
+    {
+        Receiver { replay, ..self }
+    }
 
-pub(crate) fn with_session(r: Receiver, slot: usize, s: Session) -> Receiver
-    requires { slot < session_slots }
-    ensures { result ≡ with_session r slot s }
-{
-    let mut q = r;
-    q.sessions[slot] = s;
-    q
-}
+    // The receiver with another session in a slot; past the last slot none is set.
+    pub(crate) fn with_session(self, slot: usize, s: Session) -> Receiver
+        ensures { result ≡ with_session self slot s }
+    {
+        let mut sessions = self.sessions;
+        if slot < SLOTS {
+            sessions[slot] = s;
+        }
+        Receiver { sessions, ..self }
+    }
 
-// The receiver with another outgoing message.
-pub fn with_outgoing(r: Receiver, out: Outgoing) -> Receiver
-    ensures { result ≡ with_outgoing r out }
-{
-    let mut q = r;
-    q.out = out;
-    q
+    // The receiver with another outgoing message.
+    pub fn with_outgoing(self, out: Outgoing) -> Receiver
+        ensures { result ≡ with_outgoing self out }
+    {
+        Receiver { out, ..self }
+    }
 }

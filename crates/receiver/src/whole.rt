@@ -6,7 +6,7 @@ ghost use Rattle.network.specs.Header.{transport_of};
 ghost use Rattle.transport.specs.Securing.{unsecuring};
 ghost use Rattle.node.specs.Addresses.{held_by};
 ghost use Rattle.transport.specs.Segment.{message_octets};
-ghost use Rattle.receiver.specs.Whole.{refused_at, admission, admitted, whole_envelope, opened_whole, whole_access, whole_control_up, whole_control, acted, whole_acknowledgement};
+ghost use Rattle.receiver.specs.Whole.{refused_at, pair_of, admission, admitted, whole_envelope, opened_whole, whole_access, whole_control_up, whole_control, acted, whole_acknowledgement};
 
 use super::answer::{Answer, Refusal, Taken};
 use super::state::Receiver;
@@ -14,67 +14,55 @@ use memory::pair::Pair;
 use memory::replay::{ENTRIES, Entry};
 use network::header::Header;
 use node::addresses::Node;
-use transport::securing::{Envelope, Opened};
-
-// Whether a whole message may be accepted.
-#[derive(Clone, Copy)]
-pub enum Admission {
-    Admitted,
-    // 9: the replay entry is newer or equal.
-    Replayed,
-    // 11: source has no replay entry and all 32 are used.
-    NoEntryLeft,
-}
+use transport::securing::{Envelope, Opened, Unopened};
 
 pub(crate) fn refuse(r: Receiver, refusal: Refusal, trials: usize) -> Taken
     ensures { result ≡ refused_at r refusal trials }
 {
     Taken {
-        answer: Answer::Refused(refusal),
+        answer: Err(refusal),
         trials,
         receiver: r,
     }
 }
 
-fn admit(replay: [Entry; ENTRIES], h: Header) -> Admission
-    ensures { result ≡ admission replay h }
+// The pair of a whole message.
+fn pair_of(h: Header) -> Pair
+    ensures { result ≡ pair_of h }
 {
-    let pair = Pair {
+    Pair {
         iv: h.iv,
         seq: h.seq,
-    };
-    if memory::replay::is_stale(memory::replay::look_up(replay, h.src), pair) {
-        return Admission::Replayed;
     }
-    if memory::replay::has_room(replay, h.src) {
-        return Admission::Admitted;
+}
+
+// Whether a whole message may be accepted: 9 where the replay entry is newer or equal, 11 where the source has none and all 32 are used.
+#[tactic(auto, unfolding(crate::specs::Whole::admission_by))]
+fn admit(replay: [Entry; ENTRIES], h: Header) -> Result<(), Refusal>
+    ensures { result ≡ admission replay h }
+{
+    if memory::replay::is_stale(memory::replay::look_up(replay, h.src), pair_of(h)) {
+        return Err(Refusal::Replayed);
     }
-    Admission::NoEntryLeft
+    if !memory::replay::has_room(replay, h.src) {
+        return Err(Refusal::NoEntryLeft);
+    }
+    Ok(())
 }
 
 // The receiver after it accepted a whole message.
+#[tactic(auto, unfolding(crate::specs::Whole::admitted_by))]
 fn accept(r: Receiver, h: Header) -> Receiver
     ensures { result ≡ admitted r h }
 {
-    let replay = r.replay;
-    let pair = Pair {
-        iv: h.iv,
-        seq: h.seq,
-    };
-    super::state::with_replay(r, memory::replay::accept(replay, h.src, pair))
+    r.with_replay(memory::replay::accept(r.replay, h.src, pair_of(h)))
 }
 
 // How far the octets behind octet 0 of a transport PDU go.
 fn octets_end(h: Header) -> usize
     ensures { (result ≡ 1 + length (drop 1 (transport_of h))) × (result ≤ length h.transport) }
 {
-    if h.len < 1 {
-        return 1;
-    }
-    if 16 < h.len {
-        return 16;
-    }
-    h.len
+    h.len.clamp(1, 16)
 }
 
 // What the keys and the nonce of a whole access message rest on.
@@ -94,7 +82,7 @@ fn envelope(h: Header, akf: bool, aid: u8) -> Envelope
 }
 
 // Opens a whole access message into the message buffer.
-fn open(h: Header, node: Node, akf: bool, aid: u8, message: &mut [u8]) -> Opened
+fn open(h: Header, node: Node, akf: bool, aid: u8, message: &mut [u8]) -> Result<Opened, Unopened>
     ensures { lent result message.new ≡ unsecuring (held_by node) (whole_envelope h akf aid) (drop 1 (transport_of h)) message.old }
 {
     let t = h.transport;
@@ -104,44 +92,36 @@ fn open(h: Header, node: Node, akf: bool, aid: u8, message: &mut [u8]) -> Opened
 }
 
 // An access message that may be accepted.
+#[tactic(auto, unfolding(crate::specs::Whole::opened_whole_by, crate::specs::Whole::opened_as_by))]
 fn open_access(r: Receiver, h: Header, akf: bool, aid: u8, message: &mut [u8]) -> Taken
     ensures { lent result message.new ≡ opened_whole r h (unsecuring (held_by r.node) (whole_envelope h akf aid) (drop 1 (transport_of h)) message.old) }
 {
-    let node = r.node;
-    match open(h, node, akf, aid, message) {
-        Opened::Message {
-            opener,
-            trials,
-            len,
-        } => Taken {
-            answer: Answer::Access {
+    match open(h, r.node, akf, aid, message) {
+        Ok(o) => Taken {
+            answer: Ok(Answer::Access {
                 src: h.src,
                 dst: h.dst,
                 network: h.key,
-                opener,
-                pair: Pair {
-                    iv: h.iv,
-                    seq: h.seq,
-                },
-                len,
-            },
-            trials,
+                opener: o.opener,
+                pair: pair_of(h),
+                len: o.len,
+            }),
+            trials: o.trials,
             receiver: accept(r, h),
         },
-        Opened::NotOpened { trials } => refuse(r, Refusal::NotOpened, trials),
-        Opened::ShortBuffer => refuse(r, Refusal::ShortBuffer, 0),
+        Err(Unopened::NotOpened { trials }) => refuse(r, Refusal::NotOpened, trials),
+        Err(Unopened::ShortBuffer) => refuse(r, Refusal::ShortBuffer, 0),
     }
 }
 
-// A whole access message.
+// A whole access message. It is admitted as control messages and acknowledgements are; what follows goes with its own lent buffer, so no closure is handed on.
+#[tactic(auto, unfolding(crate::specs::Whole::whole_access_by, crate::specs::Whole::unless))]
 pub(crate) fn access(r: Receiver, h: Header, akf: bool, aid: u8, message: &mut [u8]) -> Taken
     ensures { lent result message.new ≡ whole_access r h akf aid message.old }
 {
-    let replay = r.replay;
-    match admit(replay, h) {
-        Admission::Replayed => refuse(r, Refusal::Replayed, 0),
-        Admission::NoEntryLeft => refuse(r, Refusal::NoEntryLeft, 0),
-        Admission::Admitted => open_access(r, h, akf, aid, message),
+    match admit(r.replay, h) {
+        Ok(()) => open_access(r, h, akf, aid, message),
+        Err(refusal) => refuse(r, refusal, 0),
     }
 }
 
@@ -157,69 +137,62 @@ fn copy_parameters(h: Header, message: &mut [u8]) -> usize
 }
 
 // A whole control message is handed up as it is.
+#[tactic(auto, unfolding(crate::specs::Whole::whole_control_up_by))]
 fn hand_up_control(r: Receiver, h: Header, opcode: u8, message: &mut [u8]) -> Taken
     requires { message_octets ≤ length message.old }
     ensures { lent result message.new ≡ whole_control_up r h opcode message.old }
 {
     let len = copy_parameters(h, message);
     Taken {
-        answer: Answer::Control {
+        answer: Ok(Answer::Control {
             src: h.src,
             dst: h.dst,
             network: h.key,
             opcode,
-            pair: Pair {
-                iv: h.iv,
-                seq: h.seq,
-            },
+            pair: pair_of(h),
             len,
-        },
+        }),
         trials: 0,
         receiver: accept(r, h),
     }
 }
 
 // A whole control message.
+#[tactic(auto, unfolding(crate::specs::Whole::whole_control_by, crate::specs::Whole::unless))]
 pub(crate) fn control(r: Receiver, h: Header, opcode: u8, message: &mut [u8]) -> Taken
     requires { message_octets ≤ length message.old }
     ensures { lent result message.new ≡ whole_control r h opcode message.old }
 {
-    let replay = r.replay;
-    match admit(replay, h) {
-        Admission::Replayed => refuse(r, Refusal::Replayed, 0),
-        Admission::NoEntryLeft => refuse(r, Refusal::NoEntryLeft, 0),
-        Admission::Admitted => hand_up_control(r, h, opcode, message),
+    match admit(r.replay, h) {
+        Ok(()) => hand_up_control(r, h, opcode, message),
+        Err(refusal) => refuse(r, refusal, 0),
     }
 }
 
 // An acknowledgement that may be accepted acts on the outgoing message.
+#[tactic(auto, unfolding(crate::specs::Whole::acted_by))]
 fn act(r: Receiver, h: Header, obo: bool, seqzero: u16, bits: u32) -> Taken
     ensures { result ≡ acted r h obo seqzero bits }
 {
-    let out = r.out;
-    let a = memory::outgoing::acknowledge(out, h, obo, seqzero, bits);
-    let effect = a.effect;
-    let after = a.out;
-    let q = super::state::with_outgoing(accept(r, h), after);
+    let a = memory::outgoing::acknowledge(r.out, h, obo, seqzero, bits);
     Taken {
-        answer: Answer::Acknowledgement {
+        answer: Ok(Answer::Acknowledgement {
             src: h.src,
             bits,
-            effect,
-        },
+            effect: a.effect,
+        }),
         trials: 0,
-        receiver: q,
+        receiver: accept(r, h).with_outgoing(a.out),
     }
 }
 
 // An acknowledgement counts as unsegmented.
+#[tactic(auto, unfolding(crate::specs::Whole::whole_acknowledgement_by, crate::specs::Whole::unless))]
 pub(crate) fn acknowledgement(r: Receiver, h: Header, obo: bool, seqzero: u16, bits: u32) -> Taken
     ensures { result ≡ whole_acknowledgement r h obo seqzero bits }
 {
-    let replay = r.replay;
-    match admit(replay, h) {
-        Admission::Replayed => refuse(r, Refusal::Replayed, 0),
-        Admission::NoEntryLeft => refuse(r, Refusal::NoEntryLeft, 0),
-        Admission::Admitted => act(r, h, obo, seqzero, bits),
+    match admit(r.replay, h) {
+        Ok(()) => act(r, h, obo, seqzero, bits),
+        Err(refusal) => refuse(r, refusal, 0),
     }
 }

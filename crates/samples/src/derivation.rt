@@ -1,50 +1,45 @@
 // The requests on key derivation (MP 3.8.2).
 //
-// Each writes its answer to the first octets of out and says how many they are: none where the line is not of its form.
-use text::hex::Octets;
+// Each writes its answer: nothing where the line is not of its form.
+use text::writer::Writer;
 use text::{field, hex};
 
 // Answers a request of this file.
-pub(crate) fn request(line: &[u8], out: &mut [u8]) -> usize {
-    let word = field::nth(line, 0);
-    if common::equal(word, b"s1") {
-        return salt(line, out);
+pub(crate) fn request(line: &[u8], w: &mut Writer) {
+    match field::nth(line, 0) {
+        b"s1" => salt(line, w),
+        b"k2" => netkeys(line, w),
+        b"k4" => aid(line, w),
+        _ => (),
     }
-    if common::equal(word, b"k2") {
-        return netkeys(line, out);
-    }
-    if common::equal(word, b"k4") {
-        return aid(line, out);
-    }
-    0
 }
 
 // `s1 MESSAGE`: the salt.
-fn salt(line: &[u8], out: &mut [u8]) -> usize {
+fn salt(line: &[u8], w: &mut Writer) {
     let mut message = [0u8; modes::ccm::LONGEST];
-    let Octets::Count(n) = hex::read(field::last(line, 1), &mut message) else {
-        return 0;
+    let Some(n) = hex::read(field::last(line, 1), &mut message) else {
+        return;
     };
-    hex::put(&keys::s1(text::first(&message, n)), out, 0)
+    w.hex(&keys::s1(text::first(&message, n)));
 }
 
 // `k2 KEY`: NID, encryption key and privacy key.
-fn netkeys(line: &[u8], out: &mut [u8]) -> usize {
+fn netkeys(line: &[u8], w: &mut Writer) {
     let mut key = [0u8; 16];
     if !hex::fill(field::last(line, 1), &mut key) {
-        return 0;
+        return;
     }
     let k = keys::k2(key);
-    let nid = hex::put(&[k.nid], out, 0);
-    let encryption = super::part::put_field(&k.encryption, out, nid);
-    super::part::put_field(&k.privacy, out, encryption)
+    w.hex(&[k.nid]);
+    super::part::put_field(&k.encryption, w);
+    super::part::put_field(&k.privacy, w);
 }
 
 // `k4 KEY`: the AID.
-fn aid(line: &[u8], out: &mut [u8]) -> usize {
+fn aid(line: &[u8], w: &mut Writer) {
     let mut key = [0u8; 16];
     if !hex::fill(field::last(line, 1), &mut key) {
-        return 0;
+        return;
     }
-    hex::put(&[keys::k4(key)], out, 0)
+    w.hex(&[keys::k4(key)]);
 }

@@ -10,6 +10,8 @@ mod derivation;
 mod part;
 mod pdu;
 
+use text::writer::Writer;
+
 // Reads standard input, its first 65,536 octets, and answers it.
 fn main() {
     let mut input = io::large_buffer();
@@ -19,48 +21,39 @@ fn main() {
 
 // Answers each line, with its newline if it has one.
 fn answer_all(input: &[u8]) {
-    let mut at: usize = 0;
-    while at < input.len() {
-        let end = text::until(input, at, b'\n');
-        if end < input.len() {
-            answer(&input[at..end + 1]);
-            at = end + 1;
-        } else {
-            answer(&input[at..]);
-            at = input.len();
-        }
+    for line in input.split_inclusive(|&c| c == b'\n') {
+        answer(line);
     }
 }
 
 // Answers one line, which ends with its newline if it has one.
 fn answer(line: &[u8]) {
-    if 0 < line.len() && line[0] == b'#' {
+    if line.starts_with(b"#") {
         io::write_all(1, line);
         return;
     }
     let mut out = io::buffer();
-    let n = respond(text::first(line, text::until(line, 0, b'\n')), &mut out);
-    io::write_all(1, text::first(&out, n));
+    let mut w = Writer::new(&mut out, 0);
+    respond(line.strip_suffix(b"\n").unwrap_or(line), &mut w);
+    io::write_all(1, w.text());
 }
 
-// Writes the answer to a request, and a newline, to the first octets of out, and says how many they are.
-fn respond(line: &[u8], out: &mut [u8]) -> usize {
-    let n = request(line, out);
-    if n == 0 {
-        return text::put(b"unread\n", out, 0);
+// Writes the answer to a request, and a newline.
+fn respond(line: &[u8], w: &mut Writer) {
+    request(line, w);
+    if w.text().is_empty() {
+        w.put(b"unread");
     }
-    text::put(b"\n", out, n)
+    w.put(b"\n");
 }
 
-// Writes the answer to a request to the first octets of out, and says how many they are: none where the line is no request.
-fn request(line: &[u8], out: &mut [u8]) -> usize {
-    let n = ciphers::request(line, out);
-    if 0 < n {
-        return n;
+// Writes the answer to a request: nothing where the line is no request.
+fn request(line: &[u8], w: &mut Writer) {
+    ciphers::request(line, w);
+    if w.text().is_empty() {
+        derivation::request(line, w);
     }
-    let n = derivation::request(line, out);
-    if 0 < n {
-        return n;
+    if w.text().is_empty() {
+        pdu::request(line, w);
     }
-    pdu::request(line, out)
 }

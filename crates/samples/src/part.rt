@@ -1,7 +1,8 @@
-// A field of an answer, put into a buffer.
+// A field of an answer.
+use text::writer::Writer;
 
-// Puts a space and then octets into out at `at`, and says where they end.
-pub(crate) fn put_field(octets: &[u8], out: &mut [u8], at: usize) -> usize {
-    let from = text::put(b" ", out, at);
-    text::hex::put(octets, out, from)
+// Writes a space and then octets.
+pub(crate) fn put_field(octets: &[u8], w: &mut Writer) {
+    w.put(b" ");
+    w.hex(octets);
 }

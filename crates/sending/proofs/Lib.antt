@@ -1,10 +1,6 @@
 -- The laws about the definitions of specs/.
 pub mod AnswerLaws
-pub mod RequestLaws
-pub mod TransmissionLaws
-pub mod SegmentLaws
-pub mod AccessLaws
-pub mod ControlLaws
-pub mod AcknowledgeLaws
+pub mod Octets
+pub mod Secured
 pub mod NewSeq
 pub mod Laws

@@ -10,29 +10,26 @@ use borrow.Author.Tests.{ltb-true, ltb-false, eqb-true, eqb-false}
 use lib.Dec.{ltb, eqb}
 use lib.ListN.{length, get_or-eq_default}
 use lib.Seq.{get_or-set_same, get_or-set_other}
+use Rattle.std.specs.Prelude.{Result, Ok, Err, is_ok}
 use Rattle.common.specs.Lent.{Lent, lent}
 use Rattle.common.proofs.Tests.{by_test, by_choice}
 use Rattle.network.specs.declared.header.Header.{Header}
-use Rattle.network.specs.declared.sealing.Answer as sealing_answer
-use Rattle.network.specs.declared.sealing.Answer.TheVariants as sealed
+use Rattle.network.specs.declared.sealing.Refusal as sealing_refusal
 use Rattle.network.specs.Candidates.{network_key_places, key_at}
 use Rattle.network.specs.Sealing.{sealing}
 use Rattle.receiver.specs.declared.state.Receiver.{Receiver}
-use Rattle.sending.specs.declared.transmission.Transmission.{Transmission}
-use Rattle.sending.specs.declared.transmission.Transmission.TheVariants.{Sent, NoSeqLeft, Unsealed}
 use Rattle.sending.specs.declared.transmission.Transmitted.{Transmitted}
-use Rattle.sending.specs.NewSeq.{is_sent, UsesNext, RaisesNext, RefusalKeeps, OthersKeep, NeverFalls}
+use Rattle.sending.specs.NewSeq.{UsesNext, RaisesNext, RefusalKeeps, OthersKeep, NeverFalls}
 use Rattle.sending.specs.Transmission.{next_seq, with_next, stamped, sent_as, transmitted}
 
 -- ---- a transmission is sent, and one next SEQ is written; or it is not, and nothing is
 Sides : Receiver → ℕ → Transmitted → Type 0
-Sides r element t = ((is_sent t.answer ≡ true) × (t.receiver ≡ with_next r element)) ⊎ ((is_sent t.answer ≡ false) × (t.receiver ≡ r))
+Sides r element t = ((is_ok t.sent ≡ true) × (t.receiver ≡ with_next r element)) ⊎ ((is_ok t.sent ≡ false) × (t.receiver ≡ r))
 
-sides_sealed : (a : sealing_answer.Answer) (r : Receiver) (element : ℕ) → Sides r element (sent_as a r element)
+sides_sealed : (a : Result ℕ sealing_refusal.Refusal) (r : Receiver) (element : ℕ) → Sides r element (sent_as a r element)
 unfolding sent_as Sides
-sides_sealed (sealed.Sealed n) r element = inl (refl, refl)
-sides_sealed sealed.OutsideRules r element = inr (refl, refl)
-sides_sealed sealed.ShortBuffer r element = inr (refl, refl)
+sides_sealed (Ok n) r element = inl (refl, refl)
+sides_sealed (Err e) r element = inr (refl, refl)
 
 sides : (r : Receiver) (element : ℕ) (h : Header) (buf : List ℕ) → Sides r element (transmitted r element h buf).answer
 unfolding transmitted Sides
@@ -95,35 +92,29 @@ never_falls r element h buf any =
     (sides r element h buf)
 
 -- ---- what is sent was sealed
-sealed_as : Transmission → sealing_answer.Answer
-sealed_as (Sent len) = sealed.Sealed len
-sealed_as NoSeqLeft = sealed.OutsideRules
-sealed_as Unsealed = sealed.OutsideRules
-
-sealed_of : (a : sealing_answer.Answer) (r : Receiver) (element len : ℕ) → (sent_as a r element).answer ≡ Sent len → a ≡ sealed.Sealed len
-unfolding sent_as sealed_as
-sealed_of (sealed.Sealed n) r element len e = ap sealed_as e
-sealed_of sealed.OutsideRules r element len e = absurd (false≢true (ap is_sent e))
-sealed_of sealed.ShortBuffer r element len e = absurd (false≢true (ap is_sent e))
+sealed_of : (a : Result ℕ sealing_refusal.Refusal) (r : Receiver) (element len : ℕ) → (sent_as a r element).sent ≡ Ok len → a ≡ Ok len
+unfolding sent_as
+sealed_of (Ok n) r element len e = let same : n ≡ len = cc in ap Ok same
+sealed_of (Err x) r element len e = absurd (false≢true (ap is_ok e))
 
 module _ (r : Receiver) (element : ℕ) (h : Header) (buf : List ℕ) (len : ℕ) where
-  sealing_made : Lent sealing_answer.Answer
+  sealing_made : Lent (Result ℕ sealing_refusal.Refusal)
   sealing_made = sealing (key_at r.node.materials h.key) (stamped r element h) buf
 
   Made : Lent Transmitted → Type 0
-  Made t = t.answer.answer ≡ Sent len → (next_seq r element ≤ 0xFFFFFF) × (sealing_made ≡ lent (sealed.Sealed len) t.buffer)
+  Made t = t.answer.sent ≡ Ok len → (next_seq r element ≤ 0xFFFFFF) × (sealing_made ≡ lent (Ok len) t.buffer)
 
   made_by_law : Made (transmitted r element h buf)
   unfolding transmitted Made sealing_made
   made_by_law =
-      by_choice Made (ltb 0xFFFFFF (next_seq r element)) (λ t e. absurd (false≢true (ap is_sent e)))
+      by_choice Made (ltb 0xFFFFFF (next_seq r element)) (λ t e. absurd (false≢true (ap is_ok e)))
       (λ t.
       by_choice Made (ltb h.key network_key_places)
       (λ u e. (
         ltb-false 0xFFFFFF (next_seq r element) t,
-        ap (λ (a : sealing_answer.Answer). lent a sealing_made.buffer) (sealed_of sealing_made.answer r element len e),
+        ap (λ (a : Result ℕ sealing_refusal.Refusal). lent a sealing_made.buffer) (sealed_of sealing_made.answer r element len e),
       ))
-      (λ u e. absurd (false≢true (ap is_sent e))))
+      (λ u e. absurd (false≢true (ap is_ok e))))
 
 stamped_next : (r : Receiver) (element : ℕ) (h : Header) → (stamped r element h).seq ≡ next_seq r element
 unfolding stamped

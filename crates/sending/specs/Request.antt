@@ -4,7 +4,7 @@
 --   additional_for node d     the additional data that a message to it is secured with
 --   destination_allowed n d   it may be sent to
 --   request_allowed n q       element, destination, TTL and network key are within the rules
-use Rattle.std.specs.Prelude.{Bool, true, false, ◌&&◌, not, List, [], ℕ, min, eqb, leb, ltb}
+use Rattle.std.specs.Prelude.{Bool, true, false, ◌&&◌, not, Option, None, Some, List, [], ℕ, min, eqb, leb, ltb}
 use Rattle.network.specs.declared.address.AddressKind.{AddressKind}
 use Rattle.network.specs.declared.address.AddressKind.TheVariants.{Unassigned, Unicast, Virtual, Group, Reserved}
 use Rattle.network.specs.Address.{kind_of, is_unicast}
@@ -15,22 +15,20 @@ use Rattle.node.specs.Addresses.{element_places}
 use Rattle.sending.specs.declared.request.Destination.{Destination}
 use Rattle.sending.specs.declared.request.Destination.TheVariants.{Address, Label}
 use Rattle.sending.specs.declared.request.Request.{Request}
-use Rattle.sending.specs.declared.request.Ttl.{Ttl}
-use Rattle.sending.specs.declared.request.Ttl.TheVariants.{Unnamed, Named}
 
 -- a TTL left unnamed
 abbrev pub unnamed_ttl : ℕ
 unnamed_ttl = 4
 
 -- the TTL of a PDU
-abbrev pub ttl_of : Ttl → ℕ
-ttl_of Unnamed = unnamed_ttl
-ttl_of (Named n) = n
+abbrev pub ttl_of : Option ℕ → ℕ
+ttl_of None = unnamed_ttl
+ttl_of (Some n) = n
 
 -- TTL 1 is refused; a TTL has 7 bits
-abbrev pub ttl_allowed : Ttl → Bool
-ttl_allowed Unnamed = true
-ttl_allowed (Named n) = not (eqb n 1) && leb n 127
+abbrev pub ttl_allowed : Option ℕ → Bool
+ttl_allowed None = true
+ttl_allowed (Some n) = not (eqb n 1) && leb n 127
 
 -- refusal 4's rule, and neither virtual nor reserved
 abbrev pub sendable_kind : AddressKind → Bool

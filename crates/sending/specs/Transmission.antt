@@ -3,18 +3,17 @@
 --   address_of node element       an element's address
 --   next_seq r element            its next SEQ
 --   transmitted r element h buf   what a transmission leaves
-use Rattle.std.specs.Prelude.{List, ℕ, ◌+◌, ◌%◌, ltb, get_or, set, if◌then◌else◌}
+use Rattle.std.specs.Prelude.{Result, Ok, Err, List, ℕ, ◌+◌, ◌%◌, ltb, get_or, set, if◌then◌else◌}
 use Rattle.common.specs.Lent.{Lent, lent}
 use Rattle.network.specs.declared.header.Header.{Header}
-use Rattle.network.specs.declared.sealing.Answer.{Answer}
-use Rattle.network.specs.declared.sealing.Answer.TheVariants.{Sealed, OutsideRules, ShortBuffer}
+use Rattle.network.specs.declared.sealing.Refusal as sealing_refusal
 use Rattle.network.specs.Candidates.{network_key_places, key_at}
 use Rattle.network.specs.IvIndex.{iv_index_sent}
 use Rattle.network.specs.Sealing.{sealing}
 use Rattle.node.specs.declared.addresses.Node.{Node}
+use Rattle.receiver.specs.declared.answer.Refusal.{Refusal}
+use Rattle.receiver.specs.declared.answer.Refusal.TheVariants as refusal
 use Rattle.receiver.specs.declared.state.Receiver.{Receiver}
-use Rattle.sending.specs.declared.transmission.Transmission.{Transmission}
-use Rattle.sending.specs.declared.transmission.Transmission.TheVariants.{Sent, NoSeqLeft, Unsealed}
 use Rattle.sending.specs.declared.transmission.Transmitted.{Transmitted}
 
 -- the current one, or with the flag set the one before
@@ -49,19 +48,19 @@ stamped r element h =
       transport = h.transport;
     }
 
-abbrev pub no_transmission : Transmission → Receiver → Transmitted
-no_transmission a r = record { answer = a; receiver = r }
+-- a refusal
+abbrev pub no_transmission : Refusal → Receiver → Transmitted
+no_transmission n r = record { sent = Err n; receiver = r }
 
 -- sent, and the SEQ is used; or nothing is
-unfoldable pub sent_as : Answer → Receiver → ℕ → Transmitted
-sent_as (Sealed n) r element = record { answer = Sent n; receiver = with_next r element }
-sent_as OutsideRules r element = no_transmission Unsealed r
-sent_as ShortBuffer r element = no_transmission Unsealed r
+unfoldable pub sent_as : Result ℕ sealing_refusal.Refusal → Receiver → ℕ → Transmitted
+sent_as (Ok n) r element = record { sent = Ok n; receiver = with_next r element }
+sent_as (Err e) r element = no_transmission refusal.OutsideRules r
 
 -- 15: the transmission needs an SEQ above 0xFFFFFF; else the PDU fills the first octets of the buffer
 unfoldable pub transmitted : Receiver → ℕ → Header → List ℕ → Lent Transmitted
 transmitted r element h buf =
     let s = sealing (key_at r.node.materials h.key) (stamped r element h) buf in
-    if ltb 0xFFFFFF (next_seq r element) then lent (no_transmission NoSeqLeft r) buf else
+    if ltb 0xFFFFFF (next_seq r element) then lent (no_transmission refusal.NoSeqLeft r) buf else
     if ltb h.key network_key_places then lent (sent_as s.answer r element) s.buffer else
-    lent (no_transmission Unsealed r) buf
+    lent (no_transmission refusal.OutsideRules r) buf

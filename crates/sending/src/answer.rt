@@ -2,7 +2,7 @@
 ghost use Rattle.std.specs.Prelude.{◌≡◌};
 ghost use Rattle.sending.specs.Answer.{refused_at, spoken};
 
-use super::transmission::{Transmission, Transmitted};
+use super::transmission::Transmitted;
 use receiver::answer::Refusal;
 use receiver::state::Receiver;
 
@@ -16,12 +16,12 @@ pub enum Answer {
         // SegN.
         segn: u8,
     },
-    Refused(Refusal),
 }
 
+// Beside a refusal the receiver is as it was.
 #[derive(Clone, Copy)]
 pub struct Spoken {
-    pub answer: Answer,
+    pub answer: Result<Answer, Refusal>,
     pub receiver: Receiver,
 }
 
@@ -30,23 +30,18 @@ pub(crate) fn refuse(r: Receiver, refusal: Refusal) -> Spoken
     ensures { result ≡ refused_at r refusal }
 {
     Spoken {
-        answer: Answer::Refused(refusal),
+        answer: Err(refusal),
         receiver: r,
     }
 }
 
 // What a transmission of one PDU is answered.
+#[tactic(auto, unfolding(crate::specs::Answer::spoken))]
 pub(crate) fn speak(t: Transmitted) -> Spoken
     ensures { result ≡ spoken t }
 {
-    let receiver = t.receiver;
-    let answer = t.answer;
-    match answer {
-        Transmission::Sent(n) => Spoken {
-            answer: Answer::Sent(n),
-            receiver,
-        },
-        Transmission::NoSeqLeft => refuse(receiver, Refusal::NoSeqLeft),
-        Transmission::Unsealed => refuse(receiver, Refusal::OutsideRules),
+    Spoken {
+        answer: t.sent.map(Answer::Sent),
+        receiver: t.receiver,
     }
 }

@@ -1,11 +1,14 @@
 // A control message is sent, whole or in segments.
 ghost use Rattle.std.specs.Prelude.{◌≡◌, ◌<◌, ◌≤◌, length};
 ghost use Rattle.common.specs.Lent.{lent};
+ghost use Rattle.common.specs.Lists.{padded};
+ghost use Rattle.transport.specs.Segment.{message_octets};
 ghost use Rattle.node.specs.Addresses.{element_places};
 ghost use Rattle.sending.specs.Control.{control_allowed, whole_header, outgoing_of, saying_control, sending_control};
 
 use super::answer::Spoken;
 use super::request::Request;
+use super::transmission::Element;
 use memory::outgoing::Outgoing;
 use memory::pair::Pair;
 use memory::session::Terms;
@@ -13,105 +16,107 @@ use network::header::Header;
 use receiver::answer::Refusal;
 use receiver::state::Receiver;
 
+#[tactic(auto, unfolding(crate::specs::Control::control_allowed))]
 fn is_allowed(r: Receiver, q: Request, opcode: u8, len: usize) -> bool
     ensures { result ≡ control_allowed r q opcode len }
 {
-    let node = r.node;
-    let o = r.out;
-    if !super::request::is_allowed(node, q) {
-        return false;
-    }
-    let d = q.dst;
-    if !super::request::to_address(d) {
-        return false;
-    }
-    if opcode < 1 {
-        return false;
-    }
-    if 0x7F < opcode {
-        return false;
-    }
-    if 256 < len {
-        return false;
-    }
-    if len <= 11 {
-        return true;
-    }
-    o.src == 0
+    super::request::is_allowed(r.node, q)
+        && super::request::to_address(q.dst)
+        && 1 <= opcode
+        && opcode <= 0x7F
+        && len <= 256
+        && (len <= 11 || r.out.src == 0)
 }
 
-// The header of a whole control message; its SEQ and SRC are stamped on when it is sent.
-fn whole_header(iv: u32, q: Request, dst: u16, opcode: u8, parameters: &[u8]) -> Header
-    requires { length parameters.now ≤ 11 }
-    ensures { result ≡ whole_header iv q dst opcode parameters.now }
-{
-    let mut t = [0u8; 16];
-    t[0] = transport::segment::control_octet(false, opcode);
-    common::copy(parameters, &mut t[1..]);
-    let ttl = q.ttl;
-    Header {
-        key: q.network,
-        iv,
-        ctl: true,
-        ttl: super::request::ttl_of(ttl),
-        seq: 0,
-        src: 0,
-        dst,
-        len: 1 + parameters.len(),
-        transport: t,
-    }
+// A control message that may be sent.
+#[derive(Clone, Copy)]
+struct Message<'a> {
+    request: Request,
+    opcode: u8,
+    parameters: &'a [u8],
+    ghost held: { request.element < element_places },
+    ghost fits: { length parameters.now ≤ 256 },
 }
 
-// The segmented message that is kept.
-fn outgoing(r: Receiver, q: Request, opcode: u8, parameters: &[u8]) -> Outgoing
-    requires { (q.element < element_places) × (length parameters.now ≤ 256) }
-    ensures { result ≡ outgoing_of r q opcode parameters.now }
-{
-    let node = r.node;
-    let next = r.next;
-    let element = q.element;
-    let mut bytes = [0u8; transport::securing::MESSAGE];
-    common::copy(parameters, &mut bytes);
-    let ttl = q.ttl;
-    let d = q.dst;
-    Outgoing {
-        src: super::transmission::address_of(node, element),
-        auth: Pair {
-            iv: super::transmission::iv_of(node),
-            seq: next[element],
-        },
-        terms: Terms {
-            ctl: true,
-            first: transport::segment::control_octet(true, opcode),
-            szmic: false,
-            segn: super::access::last_segment(true, parameters.len()),
-            dst: super::request::dst_of(node, d),
+impl Message<'_> {
+    // Its header where it goes whole; SEQ and SRC are stamped on when it is sent.
+    #[tactic(auto, using(crate::proofs::Octets::copied), unfolding(crate::specs::Control::whole_header))]
+    fn whole_header(&self, iv: u32, dst: u16) -> Header
+        requires { length self.now.parameters.now ≤ 11 }
+        ensures { result ≡ whole_header iv self.now.request dst self.now.opcode self.now.parameters.now }
+    {
+        let q = self.request;
+        let mut t = [0u8; 16];
+        t[0] = transport::segment::control_octet(false, self.opcode);
+        common::copy(self.parameters, &mut t[1..]);
+        Header {
             key: q.network,
-        },
-        ttl: super::request::ttl_of(ttl),
-        heard: 0,
-        len: parameters.len(),
-        bytes,
+            iv,
+            ctl: true,
+            ttl: super::request::ttl_of(q.ttl),
+            seq: 0,
+            src: 0,
+            dst,
+            len: 1 + self.parameters.len(),
+            transport: t,
+        }
     }
-}
 
-// Sends a control message that may be sent.
-fn say(r: Receiver, q: Request, opcode: u8, parameters: &[u8], out: &mut [u8]) -> Spoken
-    requires { (q.element < element_places) × (length parameters.now ≤ 256) }
-    ensures { lent result out.new ≡ saying_control r q opcode parameters.now out.old }
-{
-    let node = r.node;
-    let element = q.element;
-    if parameters.len() <= 11 {
-        let d = q.dst;
-        let dst = super::request::dst_of(node, d);
-        let h = whole_header(super::transmission::iv_of(node), q, dst, opcode, parameters);
-        return super::answer::speak(super::transmission::transmit(r, element, h, out));
+    // The parameters as they are kept, with zeros behind them.
+    fn kept(&self) -> [u8; transport::securing::MESSAGE]
+        ensures { result ≡ padded message_octets self.now.parameters.now }
+    {
+        let mut bytes = [0u8; transport::securing::MESSAGE];
+        common::copy(self.parameters, &mut bytes);
+        bytes
     }
-    super::segment::start(r, element, outgoing(r, q, opcode, parameters), out)
+
+    // The segmented message that is kept.
+    fn outgoing(&self, r: Receiver) -> Outgoing
+        ensures { result ≡ outgoing_of r self.now.request self.now.opcode self.now.parameters.now }
+    {
+        let q = self.request;
+        Outgoing {
+            src: super::transmission::address_of(r.node, q.element),
+            auth: Pair {
+                iv: super::transmission::iv_of(r.node),
+                seq: r.next[q.element],
+            },
+            terms: Terms {
+                ctl: true,
+                first: transport::segment::control_octet(true, self.opcode),
+                szmic: false,
+                segn: super::access::last_segment(true, self.parameters.len()),
+                dst: super::request::dst_of(r.node, q.dst),
+                key: q.network,
+            },
+            ttl: super::request::ttl_of(q.ttl),
+            heard: 0,
+            len: self.parameters.len(),
+            bytes: self.kept(),
+        }
+    }
+
+    // Sends it.
+    #[tactic(auto, unfolding(crate::specs::Control::saying_control))]
+    fn say(&self, r: Receiver, out: &mut [u8]) -> Spoken
+        ensures { lent result out.new ≡ saying_control r self.now.request self.now.opcode self.now.parameters.now out.old }
+    {
+        let element = Element {
+            place: self.request.element,
+        };
+        if self.parameters.len() <= 11 {
+            let iv = super::transmission::iv_of(r.node);
+            let dst = super::request::dst_of(r.node, self.request.dst);
+            let h = self.whole_header(iv, dst);
+            return super::answer::speak(super::transmission::transmit(r, element, h, out));
+        }
+        super::segment::start(r, element, self.outgoing(r), out)
+    }
 }
 
 // Sends a control message; one that goes in segments is kept, and its segment 0 is sent.
+#[tactic(auto, using(crate::proofs::Octets::element_within, crate::proofs::Octets::parameters_within), unfolding(crate::specs::Control::sending_control))]
 pub fn send(r: Receiver, q: Request, opcode: u8, parameters: &[u8], out: &mut [u8]) -> Spoken
     ensures { lent result out.new ≡ sending_control r q opcode parameters.now out.old }
 {
@@ -121,5 +126,10 @@ pub fn send(r: Receiver, q: Request, opcode: u8, parameters: &[u8], out: &mut [u
     if !is_allowed(r, q, opcode, parameters.len()) {
         return super::answer::refuse(r, Refusal::OutsideRules);
     }
-    say(r, q, opcode, parameters, out)
+    let message = Message {
+        request: q,
+        opcode,
+        parameters,
+    };
+    message.say(r, out)
 }

@@ -5,13 +5,6 @@ ghost use Rattle.sending.specs.Request.{ttl_of, ttl_allowed, sendable_kind, dst_
 use network::address::AddressKind;
 use node::addresses::Node;
 
-// A TTL, or none named.
-#[derive(Clone, Copy)]
-pub enum Ttl {
-    Unnamed,
-    Named(u8),
-}
-
 // Where a message goes.
 #[derive(Clone, Copy)]
 pub enum Destination {
@@ -26,58 +19,40 @@ pub struct Request {
     // The element's number, from 0.
     pub element: usize,
     pub dst: Destination,
-    pub ttl: Ttl,
+    // The TTL that is named, or none.
+    pub ttl: Option<u8>,
     // The network key's number, from 0.
     pub network: usize,
 }
 
 // The TTL that a PDU goes out with.
-pub fn ttl_of(ttl: Ttl) -> u8
+pub fn ttl_of(ttl: Option<u8>) -> u8
     ensures { result ≡ ttl_of ttl }
 {
-    match ttl {
-        Ttl::Unnamed => 4,
-        Ttl::Named(n) => n,
-    }
+    ttl.unwrap_or(4)
 }
 
 // TTL 1 is refused, and one above 127 is none.
-fn ttl_allowed(ttl: Ttl) -> bool
+fn ttl_allowed(ttl: Option<u8>) -> bool
     ensures { result ≡ ttl_allowed ttl }
 {
-    match ttl {
-        Ttl::Unnamed => true,
-        Ttl::Named(n) => n != 1 && n <= 127,
-    }
+    ttl.is_none_or(|n| n != 1 && n <= 127)
 }
 
 // A DST is unicast or a group, and not reserved.
 fn sendable(kind: AddressKind) -> bool
     ensures { result ≡ sendable_kind kind }
 {
-    match kind {
-        AddressKind::Unassigned => false,
-        AddressKind::Unicast => true,
-        AddressKind::Virtual => false,
-        AddressKind::Group => true,
-        AddressKind::Reserved => false,
-    }
+    matches!(kind, AddressKind::Unicast | AddressKind::Group)
 }
 
 // The DST that a PDU goes out with; past the places of labels there is none.
 pub(crate) fn dst_of(node: Node, d: Destination) -> u16
     ensures { result ≡ dst_of node d }
 {
-    let labels = node.labels;
     match d {
         Destination::Address(a) => a,
-        Destination::Label(j) => {
-            if j < transport::securing::LABELS {
-                let l = labels[j];
-                return l.address;
-            }
-            0
-        }
+        Destination::Label(j) => node.labels.get(j).map_or(0, |l| l.address),
     }
 }
 
@@ -87,12 +62,7 @@ fn destination_allowed(node: Node, d: Destination) -> bool
 {
     match d {
         Destination::Address(a) => sendable(network::address::kind(a)),
-        Destination::Label(j) => {
-            if transport::securing::LABELS <= j {
-                return false;
-            }
-            j < node.labelled
-        }
+        Destination::Label(j) => j < node.labelled.min(transport::securing::LABELS),
     }
 }
 
@@ -110,32 +80,16 @@ pub(crate) fn to_unicast(d: Destination) -> bool
 pub(crate) fn to_address(d: Destination) -> bool
     ensures { result ≡ to_address d }
 {
-    match d {
-        Destination::Address(_) => true,
-        Destination::Label(_) => false,
-    }
+    matches!(d, Destination::Address(_))
 }
 
 // Whether a request is within the rules that all of them share.
+#[tactic(auto, unfolding(crate::specs::Request::request_allowed))]
 pub fn is_allowed(node: Node, q: Request) -> bool
     ensures { result ≡ request_allowed node q }
 {
-    if node::addresses::ELEMENTS <= q.element {
-        return false;
-    }
-    if node.elements <= q.element {
-        return false;
-    }
-    if network::opening::KEYS <= q.network {
-        return false;
-    }
-    if node.networks <= q.network {
-        return false;
-    }
-    let d = q.dst;
-    if !destination_allowed(node, d) {
-        return false;
-    }
-    let ttl = q.ttl;
-    ttl_allowed(ttl)
+    q.element < node.elements.min(node::addresses::ELEMENTS)
+        && q.network < node.networks.min(network::opening::KEYS)
+        && destination_allowed(node, q.dst)
+        && ttl_allowed(q.ttl)
 }

@@ -3,22 +3,22 @@ ghost use Rattle.std.specs.Prelude.{◌≡◌};
 ghost use Rattle.sending.specs.Stop.{stopping};
 
 use receiver::answer::Refusal;
-use receiver::give_up::{Answer, GivenUp};
+use receiver::give_up::GivenUp;
 use receiver::state::Receiver;
 
 // Gives up the message that is kept; 14 where none is.
+#[tactic(auto, unfolding(crate::specs::Stop::stopping))]
 pub fn stop(r: Receiver) -> GivenUp
     ensures { result ≡ stopping r }
 {
-    let o = r.out;
-    if o.src == 0 {
+    if r.out.src == 0 {
         return GivenUp {
-            answer: Answer::Refused(Refusal::OutsideRules),
+            answer: Err(Refusal::OutsideRules),
             receiver: r,
         };
     }
     GivenUp {
-        answer: Answer::Done,
-        receiver: receiver::state::with_outgoing(r, memory::outgoing::none()),
+        answer: Ok(()),
+        receiver: r.with_outgoing(memory::outgoing::none()),
     }
 }

@@ -5,27 +5,26 @@ ghost use Rattle.node.specs.Addresses.{element_places};
 ghost use Rattle.sending.specs.Transmission.{sending_iv, address_of, next_seq, with_next, stamped, transmitted};
 
 use network::header::Header;
-use network::sealing::Answer as Sealing;
 use node::addresses::Node;
+use receiver::answer::Refusal;
 use receiver::state::Receiver;
 
+// An element that the receiver has a place for, by its number from 0.
 #[derive(Clone, Copy)]
-pub enum Transmission {
-    // The PDU stands in the first octets of the buffer, as many as named.
-    Sent(usize),
-    // 15: it needs an SEQ above 0xFFFFFF.
-    NoSeqLeft,
-    // 14: a network key cannot seal it.
-    Unsealed,
+pub(crate) struct Element {
+    pub(crate) place: usize,
+    ghost held: { place < element_places },
 }
 
 #[derive(Clone, Copy)]
 pub struct Transmitted {
-    pub answer: Transmission,
+    // The PDU stands in the first octets of the buffer, as many as named. Or 15: it needs an SEQ above 0xFFFFFF; 14: a network key cannot seal it.
+    pub sent: Result<usize, Refusal>,
     pub receiver: Receiver,
 }
 
 // The IV Index that is sent with.
+#[tactic(auto, unfolding(crate::specs::Transmission::sending_iv))]
 pub fn iv_of(node: Node) -> u32
     ensures { result ≡ sending_iv node }
 {
@@ -33,6 +32,7 @@ pub fn iv_of(node: Node) -> u32
 }
 
 // An element's address; of a number past 16 bits the low ones.
+#[tactic(auto, unfolding(crate::specs::Transmission::address_of))]
 pub fn address_of(node: Node, element: usize) -> u16
     ensures { result ≡ address_of node element }
 {
@@ -40,62 +40,52 @@ pub fn address_of(node: Node, element: usize) -> u16
 }
 
 // The header with the element's next SEQ and address.
-fn stamp(r: Receiver, element: usize, h: Header) -> Header
-    requires { element < element_places }
-    ensures { result ≡ stamped r element h }
+#[tactic(auto, unfolding(crate::specs::Transmission::stamped))]
+fn stamp(r: Receiver, element: Element, h: Header) -> Header
+    ensures { result ≡ stamped r element.place h }
 {
-    let next = r.next;
-    let node = r.node;
-    let mut s = h;
-    s.seq = next[element];
-    s.src = address_of(node, element);
-    s
+    Header {
+        seq: r.next[element.place],
+        src: address_of(r.node, element.place),
+        ..h
+    }
 }
 
 // The receiver after an element used a SEQ.
-fn advance(r: Receiver, element: usize) -> Receiver
-    requires { (element < element_places) × (next_seq r element ≤ 0xFFFFFF) }
-    ensures { result ≡ with_next r element }
+#[tactic(auto, unfolding(crate::specs::Transmission::with_next))]
+fn advance(r: Receiver, element: Element) -> Receiver
+    requires { next_seq r element.place ≤ 0xFFFFFF }
+    ensures { result ≡ with_next r element.place }
 {
-    let mut q = r;
-    let next = r.next;
-    let seq = next[element];
-    q.next[element] = seq + 1;
-    q
+    let mut next = r.next;
+    next[element.place] += 1;
+    Receiver { next, ..r }
 }
 
 // Seals the header, stamped, into out; the element's SEQ is used only where the PDU is made.
-pub(crate) fn transmit(r: Receiver, element: usize, h: Header, out: &mut [u8]) -> Transmitted
-    requires { element < element_places }
-    ensures { lent result out.new ≡ transmitted r element h out.old }
+#[tactic(auto, unfolding(crate::specs::Transmission::transmitted, crate::specs::Transmission::sent_as))]
+pub(crate) fn transmit(r: Receiver, element: Element, h: Header, out: &mut [u8]) -> Transmitted
+    ensures { lent result out.new ≡ transmitted r element.place h out.old }
 {
-    let next = r.next;
-    let node = r.node;
-    let held = node.materials;
-    let place = h.key;
-    if 0xFFFFFF < next[element] {
+    if 0xFFFFFF < r.next[element.place] {
         return Transmitted {
-            answer: Transmission::NoSeqLeft,
+            sent: Err(Refusal::NoSeqLeft),
             receiver: r,
         };
     }
-    if network::opening::KEYS <= place {
+    if network::opening::KEYS <= h.key {
         return Transmitted {
-            answer: Transmission::Unsealed,
+            sent: Err(Refusal::OutsideRules),
             receiver: r,
         };
     }
-    match network::sealing::seal(held[place], stamp(r, element, h), out) {
-        Sealing::Sealed(n) => Transmitted {
-            answer: Transmission::Sent(n),
+    match network::sealing::seal(r.node.materials[h.key], stamp(r, element, h), out) {
+        Ok(n) => Transmitted {
+            sent: Ok(n),
             receiver: advance(r, element),
         },
-        Sealing::OutsideRules => Transmitted {
-            answer: Transmission::Unsealed,
-            receiver: r,
-        },
-        Sealing::ShortBuffer => Transmitted {
-            answer: Transmission::Unsealed,
+        Err(_) => Transmitted {
+            sent: Err(Refusal::OutsideRules),
             receiver: r,
         },
     }

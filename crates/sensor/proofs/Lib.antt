@@ -1,10 +1,8 @@
 -- Laws that the proofs of the functions cite, and the promises.
-pub mod PropertiesRules
 pub mod Hundred
 pub mod Halves
 pub mod Near
 pub mod Numbers
-pub mod HeaderRules
 pub mod HeaderLaws
 pub mod ListRules
 pub mod ListLaws

@@ -1,2 +1,1 @@
 -- Laws of the definitions in specs/.
-pub mod WordsLaws

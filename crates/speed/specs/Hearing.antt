@@ -6,10 +6,10 @@
 --   heard_all keys first iv pdus msg               what a call of `speed_hear_row` leaves
 --   opened_over node pdu n                         how many of n openings open the PDU
 --   opened_times keys first iv pdu times           what a call of `speed_open_pdu` answers
-use Rattle.std.specs.Prelude.{false, not, List, ℕ, zero, suc, ◌+◌, ◌*◌, ◌/◌, ◌%◌, eqb, length, take, drop, replicate, if◌then◌else◌}
+use Rattle.std.specs.Prelude.{false, not, Result, Ok, Err, List, ℕ, zero, suc, ◌+◌, ◌*◌, ◌/◌, ◌%◌, eqb, length, take, drop, replicate, if◌then◌else◌}
 use Rattle.common.specs.Lent.{Lent, lent}
-use Rattle.network.specs.declared.opening.Answer.TheVariants as network
-use Rattle.network.specs.declared.opening.Answer as opening_answer
+use Rattle.network.specs.declared.header.Header.{Header}
+use Rattle.network.specs.declared.opening.Refusal as network
 use Rattle.network.specs.Opening.{opening}
 use Rattle.network.specs.Pdu.{pdu_octets}
 use Rattle.node.specs.declared.addresses.Node.{Node}
@@ -17,7 +17,7 @@ use Rattle.node.specs.declared.setup.Setup.{Setup}
 use Rattle.memory.specs.Session.{session_at}
 use Rattle.node.specs.Setup.{nothing, with_network_key, with_application_key, with_device_key, with_elements, with_index}
 use Rattle.receiver.specs.declared.answer.Answer.{Answer}
-use Rattle.receiver.specs.declared.answer.Answer.TheVariants.{Refused, Stored, Repeated, Access, Control, Acknowledgement}
+use Rattle.receiver.specs.declared.answer.Refusal.{Refusal}
 use Rattle.receiver.specs.declared.state.Receiver.{Receiver}
 use Rattle.receiver.specs.Fresh.{setting_up}
 use Rattle.receiver.specs.Hearing.{hearing}
@@ -37,13 +37,9 @@ abbrev pub receiver_of : List ℕ → ℕ → ℕ → Receiver
 receiver_of keys first iv = (setting_up (setup_of keys first iv)).receiver
 
 -- 1 for an answer that is no refusal
-abbrev pub accepted : Answer → ℕ
-accepted (Refused n) = 0
-accepted (Stored src auth bits) = 1
-accepted (Repeated src auth bits) = 1
-accepted (Access src dst network opener pair len) = 1
-accepted (Control src dst network opcode pair len) = 1
-accepted (Acknowledgement src bits effect) = 1
+abbrev pub accepted : Result Answer Refusal → ℕ
+accepted (Err n) = 0
+accepted (Ok a) = 1
 
 -- 1 for a session slot that its source holds
 abbrev pub held : ℕ → ℕ
@@ -97,18 +93,15 @@ heard_all keys first iv pdus msg =
     counted_row (receiver_of keys first iv) pdus msg (length pdus / pdu_octets)
 
 -- 1 for a PDU that was opened
-abbrev pub opened : opening_answer.Answer → ℕ
-opened network.Opened = 1
-opened network.WrongLength = 0
-opened network.NoCandidate = 0
-opened network.NotAuthentic = 0
-opened network.WrongAddress = 0
+abbrev pub opened : Result Header network.Refusal → ℕ
+opened (Ok h) = 1
+opened (Err e) = 0
 
 -- how many of n openings open the PDU
 unfoldable pub opened_over : Node → List ℕ → ℕ → ℕ
 opened_over node pdu zero = 0
 opened_over node pdu (suc n) =
-    opened_over node pdu n + opened (opening node.materials node.networks node.iv pdu).answer
+    opened_over node pdu n + opened (opening node.materials node.networks node.iv pdu).opened
 
 -- none where keys is not 48 octets
 unfoldable pub opened_times : List ℕ → ℕ → ℕ → List ℕ → ℕ → ℕ

@@ -5,6 +5,7 @@ use node::addresses::Node;
 use receiver::state::Receiver;
 use sending::answer::Answer;
 use sending::request::Destination;
+use text::writer::Writer;
 use transport::securing::MessageKey;
 
 // The sender: it sends message #6, hears what a friend of the destination acknowledges (#7, #9), and sends segment 0 again (#8).
@@ -26,7 +27,6 @@ pub(crate) fn send_all(node: Receiver) {
 
 // Begins message #6: its segment 0.
 fn begin(node: Receiver) -> Receiver {
-    let next = node.next;
     let mut pdu = [0u8; network::header::PDU];
     let spoken = sending::access::send(
         node,
@@ -36,31 +36,29 @@ fn begin(node: Receiver) -> Receiver {
         b"\x00\x56\x34\x12\x63\x96\x47\x71\x73\x4f\xbd\x76\xe3\xb4\x05\x19\xd1\xd9\x4a\x48",
         &mut pdu,
     );
-    let answer = spoken.answer;
-    say(next[0], answer, &pdu);
+    say(node.next[0], spoken.answer, &pdu);
     spoken.receiver
 }
 
 // Sends a segment of the message that the node keeps.
 fn segment(node: Receiver, n: u8) -> Receiver {
-    let next = node.next;
     let mut pdu = [0u8; network::header::PDU];
     let spoken = sending::segment::send(node, n, &mut pdu);
-    let answer = spoken.answer;
-    say(next[0], answer, &pdu);
+    say(node.next[0], spoken.answer, &pdu);
     spoken.receiver
 }
 
+// Beside its like in other programs: what writes to standard output stays in the program, since no equation could be its contract.
 // A node hears a PDU; a message that it hands up is written.
 fn hear(node: Receiver, pdu: &[u8]) -> Receiver {
     let mut forward = [0u8; network::header::PDU];
     let mut message = [0u8; transport::securing::MESSAGE];
     let heard = receiver::hear::hear(node, pdu, &mut forward, &mut message);
-    let answer = heard.answer;
     let mut line = [0u8; 128];
-    let told = site::words::put_answer(answer, &mut line, 0);
-    io::write_all(1, text::first(&line, told));
-    let n = site::words::handed_up(answer);
+    let mut w = Writer::new(&mut line, 0);
+    site::words::put_answer(heard.answer, &mut w);
+    io::write_all(1, w.text());
+    let n = site::words::handed_up(heard.answer);
     if 0 < n {
         write_octets(text::first(&message, n));
     }
@@ -84,22 +82,22 @@ pub(crate) fn acknowledge_all() {
     acknowledge(whole);
 }
 
+// Beside its like in other programs: what writes to standard output stays in the program, since no equation could be its contract.
 // Writes octets as a line of hex pairs.
 fn write_octets(octets: &[u8]) {
     let mut line = [0u8; 1024];
-    let end = text::hex::put(octets, &mut line, 0);
-    let n = text::put(b"\n", &mut line, end);
-    io::write_all(1, text::first(&line, n));
+    let mut w = Writer::new(&mut line, 0);
+    w.hex(octets);
+    w.put(b"\n");
+    io::write_all(1, w.text());
 }
 
 // A node acknowledges the sender of message #6, and the transport PDU is written.
 fn acknowledge(node: Receiver) -> Receiver {
     let mut pdu = [0u8; network::header::PDU];
     let spoken = sending::acknowledge::send(node, 0, 0x0003, &mut pdu);
-    let answer = spoken.answer;
-    let Answer::Sent(len) = answer else {
-        let next = node.next;
-        say(next[0], answer, &pdu);
+    let Ok(Answer::Sent(len)) = spoken.answer else {
+        say(node.next[0], spoken.answer, &pdu);
         return node;
     };
     show_transport(node.node, text::first(&pdu, len));
@@ -108,13 +106,12 @@ fn acknowledge(node: Receiver) -> Receiver {
 
 // Opens a PDU under the network keys of a node, and writes its transport PDU.
 fn show_transport(node: Node, pdu: &[u8]) {
-    let keys = node.materials;
-    let opened = network::opening::open(keys, node.networks, node.iv, pdu);
-    write_transport(opened.header);
+    if let Ok(header) = network::opening::open(node.materials, node.networks, node.iv, pdu).opened {
+        write_transport(header);
+    }
 }
 
 // Writes the transport PDU of a header.
 fn write_transport(header: Header) {
-    let transport = header.transport;
-    write_octets(text::first(&transport, header.len));
+    write_octets(text::first(&header.transport, header.len));
 }

@@ -5,9 +5,11 @@
 
 mod exchange;
 
+use receiver::answer::Refusal;
 use receiver::state::Receiver;
 use sending::answer::Answer;
-use sending::request::{Destination, Request, Ttl};
+use sending::request::{Destination, Request};
+use text::writer::Writer;
 use transport::securing::MessageKey;
 
 // Sends all with MP's IV Index, then in an update to the next one, in which the one before is still sent with.
@@ -27,17 +29,20 @@ fn main() {
 // Writes a line that begins with #.
 pub(crate) fn title(words: &[u8]) {
     let mut line = [0u8; 128];
-    let mark = text::put(b"# ", &mut line, 0);
-    let end = text::put(words, &mut line, mark);
-    let n = text::put(b"\n", &mut line, end);
-    io::write_all(1, text::first(&line, n));
+    let mut w = Writer::new(&mut line, 0);
+    w.put(b"# ");
+    w.put(words);
+    w.put(b"\n");
+    io::write_all(1, w.text());
 }
 
+// Beside its like in other programs: what writes to standard output stays in the program, since no equation could be its contract.
 // Writes what was sent with a SEQ, or why nothing was.
-pub(crate) fn say(seq: u32, answer: Answer, pdu: &[u8]) {
+pub(crate) fn say(seq: u32, answer: Result<Answer, Refusal>, pdu: &[u8]) {
     let mut line = [0u8; 128];
-    let n = site::words::put_said(seq, answer, pdu, &mut line, 0);
-    io::write_all(1, text::first(&line, n));
+    let mut w = Writer::new(&mut line, 0);
+    site::words::put_said(seq, answer, pdu, &mut w);
+    io::write_all(1, w.text());
 }
 
 // What a request to send names.
@@ -45,7 +50,7 @@ pub(crate) fn request(dst: Destination, ttl: u8) -> Request {
     Request {
         element: 0,
         dst,
-        ttl: Ttl::Named(ttl),
+        ttl: Some(ttl),
         network: 0,
     }
 }
@@ -81,7 +86,6 @@ fn send_all(iv: u32, flag: bool) {
 
 // A node sends a control message with TTL 0.
 fn control(node: Receiver, dst: u16, opcode: u8, parameters: &[u8]) {
-    let next = node.next;
     let mut pdu = [0u8; network::header::PDU];
     let spoken = sending::control::send(
         node,
@@ -90,8 +94,7 @@ fn control(node: Receiver, dst: u16, opcode: u8, parameters: &[u8]) {
         parameters,
         &mut pdu,
     );
-    let answer = spoken.answer;
-    say(next[0], answer, &pdu);
+    say(node.next[0], spoken.answer, &pdu);
 }
 
 // The label of message #22, whose address is 0xB529.
@@ -104,7 +107,6 @@ fn send_hello(dst: Destination) {
     let setup = site::setting::setup(0x1234, 0x07080B, 0x12345677, false);
     let ready = receiver::fresh::set_up(node::setup::with_label(setup, LABEL));
     let node = ready.receiver;
-    let next = node.next;
     let mut pdu = [0u8; network::header::PDU];
     let spoken = sending::access::send(
         node,
@@ -114,6 +116,5 @@ fn send_hello(dst: Destination) {
         b"\xd5\x0a\x00Hello",
         &mut pdu,
     );
-    let answer = spoken.answer;
-    say(next[0], answer, &pdu);
+    say(node.next[0], spoken.answer, &pdu);
 }

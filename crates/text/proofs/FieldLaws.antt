@@ -4,13 +4,16 @@
 use mathlib.Core.Path.{◌≡◌, refl, sym, ap, ap₂, ◌∙◌}
 use mathlib.Core.List.{List, [], ◌∷◌}
 use Prim.Native.Nat.{ℕ, zero, suc, ◌+◌, ◌-◌, ◌≤◌, ◌<◌}
-use native.Mathlib.Nat.{add-zero}
 use native.Mathlib.Numerals.{add-one}
 use native.Mathlib.Omega.{arith}
 use borrow.Author.Tests.{eq-eqb, ne_eqb, eqb-true, eqb-false}
 use lib.Dec.{eqb}
 use lib.ListN.{length, get_or, take, drop, length-drop}
 use lib.Seq.{drop-cons, drop-drop, get_or-drop}
+use Rattle.std.specs.Prelude.{Bool, true, false, not, unwrap_or}
+use Rattle.std.specs.List.{position, position_or_len, slice_split, onto_first}
+use Rattle.std.proofs.lemmas.List.Sums.{prefix_len-le-length}
+use Rattle.std.proofs.lemmas.Grind.{common_steps}
 use Rattle.common.specs.Lists.{tab_from}
 use Rattle.common.specs.Search.{first, picked}
 use Rattle.common.proofs.Search.{first_passes}
@@ -24,19 +27,16 @@ drop_past [] (suc i) h = refl
 drop_past (x ∷ l) zero h = absurd (omega arith)
 drop_past (x ∷ l) (suc i) h = drop_past l i (omega arith)
 
--- ---- the place of a mark, from i on
-module _ (mark : ℕ) (l : List ℕ) (i : ℕ) where
-  pub mark_here : i < length l → get_or l i 0 ≡ mark → i + first (is mark) (drop i l) ≡ i
-  unfolding first
-  mark_here h e = rw (drop-cons l i 0 h, eq-eqb (get_or l i 0) mark e) (add-zero i)
+-- ---- the place of the first that passes, or the end, as std says it
+first_is : (p : ℕ → Bool) (l : List ℕ) → first p l ≡ position_or_len p l
+unfolding first
+first_is p [] = refl
+first_is p (x ∷ l) = by_test (p x) (λ t. rw t) (λ t. rw t (let rest : first p l ≡ position_or_len p l = first_is p l in omega arith))
 
-  pub mark_on : i < length l → (get_or l i 0 ≡ mark → ⊥) → i + first (is mark) (drop i l) ≡ (i + 1) + first (is mark) (drop (i + 1) l)
-  unfolding first
-  mark_on h e = rw (drop-cons l i 0 h, ne_eqb (get_or l i 0) mark e, add-one) (omega arith)
+pub place_or_end : (p : ℕ → Bool) (l : List ℕ) → unwrap_or (position p l) (length l) ≡ first p l
+place_or_end p l = rw (first_is p l) (grind (arith, common_steps, prefix_len-le-length (λ x. not (p x)) l))
 
-  pub mark_past : length l ≤ i → i + first (is mark) (drop i l) ≡ i
-  unfolding first
-  mark_past h = rw (drop_past l i h) (add-zero i)
+pub ruleset until_rules = (place_or_end, drop_past)
 
 -- what is found before the end is the mark
 pub mark_found : (mark from r : ℕ) (l : List ℕ) → r ≡ from + first (is mark) (drop from l) → r < length l → get_or l r 0 ≡ mark
@@ -69,6 +69,8 @@ unfolding behind
 behind_other l i zero h more e = absurd (omega arith)
 behind_other l i (suc n) h more e = rw (drop-cons l i 0 h, ne_eqb (get_or l i 0) 32 e, add-one i)
 
+pub ruleset behind_rules = (behind_none, behind_first, behind_space, behind_other, drop_past)
+
 -- ---- the fields in order: the first, and those behind each space
 -- f from i + 1 on
 tab_from_suc : {A : Type 0} (f g : ℕ → A) (i n : ℕ) → ((k : ℕ) → f (suc k) ≡ g k) → tab_from f (suc i) n ≡ tab_from g i n
@@ -90,32 +92,38 @@ unfolding fields field_of behind picked
 fields_other x l e = rw (ne_eqb x 32 e) (tab_from_ext (λ n. field_of n (x ∷ l)) (λ n. field_of n l) 0 (length (picked (is 32) l)) (λ k. rw (ne_eqb x 32 e)))
 
 -- the first ends at the first space
-pub fields_rest : (l : List ℕ) → drop 1 (fields l) ≡ drop 1 (fields (drop (first (is 32) l) l))
-unfolding first
-fields_rest [] = refl
-fields_rest (x ∷ l) = by_test (eqb x 32) (λ t. rw t) (λ t. rw t (fields_other x l (eqb-false x 32 t) ∙ fields_rest l))
-
-pub fields_first : (l : List ℕ) → fields l ≡ take (first (is 32) l) l ∷ drop 1 (fields (drop (first (is 32) l) l))
+fields_first : (l : List ℕ) → fields l ≡ take (first (is 32) l) l ∷ drop 1 (fields l)
 unfolding fields field_of behind
-fields_first l = ap (λ (r : List (List ℕ)). take (first (is 32) l) l ∷ r) (fields_rest l)
+fields_first l = refl
 
 -- behind the end there is none
 pub fields_past : (l : List ℕ) (i : ℕ) → length l ≤ i → drop 1 (fields (drop i l)) ≡ []
 unfolding fields picked
 fields_past l i h = rw (drop_past l i h)
 
--- behind a space at i stands the field that ends at r, and those behind that
-pub fields_on :
-    (l : List ℕ) (i r : ℕ) → i < length l → get_or l i 0 ≡ 32 → r ≡ (i + 1) + first (is 32) (drop (i + 1) l)
-    → drop 1 (fields (drop i l)) ≡ take (r - (i + 1)) (drop (i + 1) l) ∷ drop 1 (fields (drop r l))
-fields_on l i r h s e =
-    let rest = drop (i + 1) l in
-    let k = first (is 32) rest in
-    let many : k ≡ r - (i + 1) = omega arith in
-    ap (λ (m : List ℕ). drop 1 (fields m)) (drop-cons l i 0 h ∙ ap (λ (j : ℕ). get_or l i 0 ∷ drop j l) (sym (add-one i)))
-    ∙ fields_space (get_or l i 0) rest s
-    ∙ fields_first rest
-    ∙ ap₂ (λ (j : ℕ) (m : List ℕ). take j rest ∷ drop 1 (fields m)) many (drop-drop k (i + 1) l ∙ ap (λ (j : ℕ). drop j l) (sym e))
+fields_none : [] ∷ [] ≡ fields []
+unfolding fields field_of behind picked first
+fields_none = refl
+
+-- they are the parts between the spaces, as std cuts a list
+fields_of_space : (x : ℕ) (l : List ℕ) → eqb x 32 ≡ true → fields (x ∷ l) ≡ [] ∷ fields l
+unfolding first
+fields_of_space x l t =
+    let none : take (first (is 32) (x ∷ l)) (x ∷ l) ≡ [] = rw t in
+    fields_first (x ∷ l) ∙ ap₂ ◌∷◌ none (fields_space x l (eqb-true x 32 t))
+
+fields_of_other : (x : ℕ) (l : List ℕ) → eqb x 32 ≡ false → fields (x ∷ l) ≡ onto_first x (fields l)
+unfolding first
+fields_of_other x l t =
+    let more : take (first (is 32) (x ∷ l)) (x ∷ l) ≡ x ∷ take (first (is 32) l) l = rw t in
+    fields_first (x ∷ l) ∙ ap₂ ◌∷◌ more (fields_other x l (eqb-false x 32 t)) ∙ ap (onto_first x) (sym (fields_first l))
+
+pub fields_are_parts : (l : List ℕ) → slice_split (is 32) l ≡ fields l
+fields_are_parts [] = fields_none
+fields_are_parts (x ∷ l) =
+    by_test (eqb x 32)
+    (λ t. rw t (ap (λ (parts : List (List ℕ)). [] ∷ parts) (fields_are_parts l) ∙ sym (fields_of_space x l t)))
+    (λ t. rw t (ap (onto_first x) (fields_are_parts l) ∙ sym (fields_of_other x l t)))
 
 -- the first field is left out, and the next
 fields_twice : (l : List ℕ) → drop 1 (drop 1 (fields l)) ≡ drop 1 (fields (behind 1 l))

@@ -3,9 +3,11 @@
 // A line of output is a PDU that was sent, with its SEQ, or what the node that hears it answers.
 #![tactic(auto)]
 
+use receiver::answer::Refusal;
 use receiver::state::Receiver;
 use sending::answer::{Answer, Spoken};
-use sending::request::{Destination, Request, Ttl};
+use sending::request::{Destination, Request};
+use text::writer::Writer;
 use transport::securing::MessageKey;
 
 // The two nodes, side by side.
@@ -37,13 +39,12 @@ fn send_message(bench: Bench) -> Bench {
     let request = Request {
         element: 0,
         dst: Destination::Address(STATION),
-        ttl: Ttl::Named(TTL),
+        ttl: Some(TTL),
         network: 0,
     };
-    let sender = bench.sender;
     let mut pdu = [0u8; network::header::PDU];
     let spoken = sending::access::send(
-        sender,
+        bench.sender,
         request,
         MessageKey::Application(0),
         false,
@@ -51,8 +52,7 @@ fn send_message(bench: Bench) -> Bench {
         &mut pdu,
     );
     let begun = carry(bench, spoken, &pdu);
-    let answer = spoken.answer;
-    let Answer::Started { segn, .. } = answer else {
+    let Ok(Answer::Started { segn, .. }) = spoken.answer else {
         return begun;
     };
     send_rest(begun, segn)
@@ -61,73 +61,72 @@ fn send_message(bench: Bench) -> Bench {
 // Sends the segments behind segment 0.
 fn send_rest(begun: Bench, segn: u8) -> Bench {
     let mut bench = begun;
-    let mut n: u8 = 0;
-    while n < segn {
-        n += 1;
-        let after = send_segment(bench, n);
-        bench = after;
+    for n in 1..=segn {
+        bench = send_segment(bench, n);
     }
     bench
 }
 
 // Sends one segment.
 fn send_segment(bench: Bench, n: u8) -> Bench {
-    let sender = bench.sender;
     let mut pdu = [0u8; network::header::PDU];
-    let spoken = sending::segment::send(sender, n, &mut pdu);
+    let spoken = sending::segment::send(bench.sender, n, &mut pdu);
     carry(bench, spoken, &pdu)
 }
 
 // What the box said is carried to the receiver.
 fn carry(bench: Bench, spoken: Spoken, pdu: &[u8]) -> Bench {
-    let before = bench.sender;
-    let next = before.next;
-    let answer = spoken.answer;
-    say(next[0], answer, pdu);
-    let heard = text::first(pdu, site::words::made(answer));
-    let station = hear(bench.station, heard);
-    let sender = spoken.receiver;
-    Bench { sender, station }
+    say(bench.sender.next[0], spoken.answer, pdu);
+    let heard = text::first(pdu, site::words::made(spoken.answer));
+    Bench {
+        sender: spoken.receiver,
+        station: hear(bench.station, heard),
+    }
 }
 
+// Beside its like in other programs: what writes to standard output stays in the program, since no equation could be its contract.
 // Writes what was said with a SEQ.
-fn say(seq: u32, answer: Answer, pdu: &[u8]) {
+fn say(seq: u32, answer: Result<Answer, Refusal>, pdu: &[u8]) {
     let mut line = [0u8; 128];
-    let n = site::words::put_said(seq, answer, pdu, &mut line, 0);
-    io::write_all(1, text::first(&line, n));
+    let mut w = Writer::new(&mut line, 0);
+    site::words::put_said(seq, answer, pdu, &mut w);
+    io::write_all(1, w.text());
 }
 
+// Beside its like in other programs: what writes to standard output stays in the program, since no equation could be its contract.
 // A node hears a PDU and answers; what it hands up is shown.
 fn hear(node: Receiver, pdu: &[u8]) -> Receiver {
     let mut forward = [0u8; network::header::PDU];
     let mut message = [0u8; transport::securing::MESSAGE];
     let heard = receiver::hear::hear(node, pdu, &mut forward, &mut message);
-    let answer = heard.answer;
     let mut line = [0u8; 128];
-    let told = site::words::put_answer(answer, &mut line, 0);
-    io::write_all(1, text::first(&line, told));
-    let n = site::words::handed_up(answer);
+    let mut w = Writer::new(&mut line, 0);
+    site::words::put_answer(heard.answer, &mut w);
+    io::write_all(1, w.text());
+    let n = site::words::handed_up(heard.answer);
     if 0 < n {
         show(text::first(&message, n));
     }
     heard.receiver
 }
 
+// Beside its like in other programs: what writes to standard output stays in the program, since no equation could be its contract.
 // Writes a message as a line.
 fn show(message: &[u8]) {
     let mut line = [0u8; 512];
-    let end = text::put(message, &mut line, 0);
-    let n = text::put(b"\n", &mut line, end);
-    io::write_all(1, text::first(&line, n));
+    let mut w = Writer::new(&mut line, 0);
+    w.put(message);
+    w.put(b"\n");
+    io::write_all(1, w.text());
 }
 
 // The receiver acknowledges, and the box hears it.
 fn acknowledge(bench: Bench) {
-    let station = bench.station;
-    let next = station.next;
     let mut pdu = [0u8; network::header::PDU];
-    let spoken = sending::acknowledge::send(station, 0, SENDER, &mut pdu);
-    let answer = spoken.answer;
-    say(next[0], answer, &pdu);
-    hear(bench.sender, text::first(&pdu, site::words::made(answer)));
+    let spoken = sending::acknowledge::send(bench.station, 0, SENDER, &mut pdu);
+    say(bench.station.next[0], spoken.answer, &pdu);
+    hear(
+        bench.sender,
+        text::first(&pdu, site::words::made(spoken.answer)),
+    );
 }

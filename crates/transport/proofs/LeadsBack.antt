@@ -6,7 +6,7 @@ use native.Mathlib.Omega.{arith}
 use lib.Dec.{leb}
 use borrow.Author.Tests.{le-leb, leb-true, leb-false}
 use Rattle.common.proofs.Tests.{by_test}
-use Rattle.transport.specs.declared.seq_auth.SeqAuth.TheVariants.{At, Nowhere}
+use Rattle.std.specs.Prelude.{Some, None}
 use Rattle.transport.specs.SeqAuth.{seq_auth}
 use Rattle.transport.specs.LeadsBack.{Found, Ends, LeadsBack}
 
@@ -17,11 +17,11 @@ found seq seq_zero n e =
     by_test (leb low (seq % 8192))
     (λ own.
     let h = leb-true low (seq % 8192) own in
-    simp own (ap At (omega (arith, e.not_after, e.near, e.low, h))))
+    simp own (ap Some (omega (arith, e.not_after, e.near, e.low, h))))
     (λ before.
     let h = leb-false low (seq % 8192) before in
     simp (before, le-leb 8192 seq (omega (arith, e.not_after, e.near, e.low, h)))
-    (ap At (omega (arith, e.not_after, e.near, e.low, h))))
+    (ap Some (omega (arith, e.not_after, e.near, e.low, h))))
 
 pub ends : Ends
 unfolding seq_auth
@@ -30,7 +30,7 @@ ends seq seq_zero n e =
     by_test (leb low (seq % 8192))
     (λ own.
     let h = leb-true low (seq % 8192) own in
-    let f : At (seq / 8192 * 8192 + low) ≡ At n = simp own at e in
+    let f : Some (seq / 8192 * 8192 + low) ≡ Some n = simp own at e in
     let g : seq / 8192 * 8192 + low ≡ n = cc in
     record { not_after = omega arith; near = omega arith; low = omega arith })
     (λ before.
@@ -38,11 +38,11 @@ ends seq seq_zero n e =
     by_test (leb 8192 seq)
     (λ far.
     let k = leb-true 8192 seq far in
-    let f : At ((seq / 8192 - 1) * 8192 + low) ≡ At n = simp (before, far) at e in
+    let f : Some ((seq / 8192 - 1) * 8192 + low) ≡ Some n = simp (before, far) at e in
     let g : (seq / 8192 - 1) * 8192 + low ≡ n = cc in
     record { not_after = omega arith; near = omega arith; low = omega arith })
     (λ none.
-    let f : Nowhere ≡ At n = simp (before, none) at e in
+    let f : None ≡ Some n = simp (before, none) at e in
     let z : ◌≡◌ {A = ℕ} 0 1 = cc in
     absurd (omega arith)))
 

@@ -1,15 +1,15 @@
 -- A list of PDUs, PDU by PDU: the one whose length stands at a place, and those behind it. So what was written is read back. Assumes nothing.
---   pdus_none, pdus_on   nothing is left, or a PDU and what is behind it
---   list_reads_back      what was written is read back
+--   pdus_none, pdus_split   nothing is left, or a PDU and what is behind it
+--   pdus_most               how many there are
+--   list_reads_back         what was written is read back
 use mathlib.Core.List.{List, [], ◌∷◌}
 use mathlib.Core.Path.{◌≡◌, refl, sym, ap, ap₂, ◌∙◌}
-use Prim.Native.Nat.{ℕ, zero, suc, ◌+◌, ◌-◌, ◌≤◌, ◌<◌, min}
-use native.Mathlib.Numerals.{add-one}
+use Prim.Native.Nat.{ℕ, zero, suc, ◌≤◌, min}
 use native.Mathlib.Omega.{arith}
 use borrow.Author.Tests.{ltb-true, ltb-false}
 use lib.Dec.{ltb}
-use lib.ListN.{length, get_or, take, drop, length-append, length-drop, drop_of_length-le}
-use lib.Seq.{take_all, drop-cons, drop-drop, take-append_seam, drop-append_seam}
+use lib.ListN.{length, take, drop, length-append, length-drop, drop_of_length-le}
+use lib.Seq.{take_all, take-append_seam, drop-append_seam}
 use Rattle.common.proofs.Tests.{by_test}
 use Rattle.transport.specs.Listed.{cut, pdus, written, ListReadsBack}
 
@@ -26,9 +26,10 @@ cut_same (suc j) (suc k) (m ∷ l) hj hk =
     let e = length-drop m l in
     ap (λ (x : List (List ℕ)). take m l ∷ x) (cut_same j k (drop m l) (omega arith) (omega arith))
 
-pub pdus_none : (list : List ℕ) (at : ℕ) → length list ≤ at → pdus (drop at list) ≡ []
+pub pdus_none : (list : List ℕ) → length list ≡ 0 → pdus list ≡ []
 unfolding pdus cut
-pdus_none list at h = ap pdus (drop_of_length-le list h)
+pdus_none [] h = refl
+pdus_none (m ∷ l) h = absurd (omega arith)
 
 pdus_first : (m : ℕ) (l : List ℕ) → pdus (m ∷ l) ≡ take m l ∷ pdus (drop m l)
 unfolding pdus cut
@@ -47,19 +48,21 @@ short_drop m l =
     (λ t. let over = ltb-true (length l) m t in drop_of_length-le l {i = min m (length l)} (omega arith) ∙ sym (drop_of_length-le l {i = m} (omega arith)))
     (λ t. let within = ltb-false (length l) m t in let e : min m (length l) ≡ m = omega arith in rw e refl)
 
-module _ (list : List ℕ) (at end : ℕ) (h : at < length list) (e : end ≡ min (at + 1 + get_or list at 0) (length list)) where
-  pub pdus_on : pdus (drop at list) ≡ take (end - (at + 1)) (drop (at + 1) list) ∷ pdus (drop end list)
-  pdus_on =
-      let m = get_or list at 0 in
-      let l = drop (at + 1) list in
-      let long = length-drop (at + 1) list in
-      let counts : end - (at + 1) ≡ min m (length l) = omega arith in
-      let ends : (at + 1) + (end - (at + 1)) ≡ end = omega arith in
-      let rest : drop m l ≡ drop end list =
-      sym (short_drop m l) ∙ ap (λ (k : ℕ). drop k l) (sym counts) ∙ drop-drop (end - (at + 1)) (at + 1) list ∙ ap (λ (k : ℕ). drop k list) ends in
-      ap pdus (drop-cons list at 0 h ∙ ap (λ (k : ℕ). m ∷ drop k list) (sym (add-one at)))
-      ∙ pdus_first m l
-      ∙ ap₂ (λ (x y : List ℕ). x ∷ pdus y) (sym (short_take m l) ∙ ap (λ (k : ℕ). take k l) (sym counts)) rest
+pub pdus_split :
+    {list behind front back : List ℕ} {m n : ℕ} → list ≡ m ∷ behind → n ≡ min m (length behind) → front ≡ take n behind → back ≡ drop n behind
+    → pdus list ≡ front ∷ pdus back
+pdus_split {behind = behind} {m = m} el en ef eb = rw (el, ef, eb, en, short_take m behind, short_drop m behind) (pdus_first m behind)
+
+-- no list has more PDUs than octets
+cut_most : (n : ℕ) (l : List ℕ) → length (cut n l) ≤ n
+unfolding cut
+cut_most zero l = omega arith
+cut_most (suc n) [] = omega arith
+cut_most (suc n) (m ∷ l) = let h = cut_most n (drop m l) in omega arith
+
+pub pdus_most : (list : List ℕ) → length (pdus list) ≤ length list
+unfolding pdus
+pdus_most list = cut_most (length list) list
 
 -- ---- what was written
 written_from : (n : ℕ) (l : List (List ℕ)) → length (written l) ≤ n → cut n (written l) ≡ l

@@ -10,6 +10,7 @@ use borrow.Author.Tests.{leb-true, le-leb, lt-leb, ne_eqb}
 use lib.Dec.{leb}
 use lib.ListN.{get_or}
 use Rattle.common.proofs.Tests.{and_first, and_second}
+use Rattle.std.specs.Prelude.{Some}
 use Rattle.network.specs.declared.header.Header.{Header}
 use Rattle.network.specs.Octets.{octets}
 use Rattle.transport.specs.declared.form.Form.TheVariants.{Access, AccessSegment, Control, ControlSegment}
@@ -143,7 +144,7 @@ access_reads_back h k a c r l =
     let ei : aid (first h) ≡ a = ap aid e ∙ aid_access false k a r.aid_fits in
     form_as_law h false false c.ctl_is (ap seg e ∙ seg_access false k a)
     ∙ sym (access_whole h true k ea (sym (ap (λ (x : ℕ). key_fits k x h.dst) ei ∙ r.fits)) l refl)
-    ∙ ap (Access k) ei
+    ∙ ap (λ (x : ℕ). Some (Access k x)) ei
 
 pub access_segment_reads_back : AccessSegmentReadsBack
 unfolding segment_front
@@ -156,7 +157,7 @@ access_segment_reads_back h k a f c r i =
     ∙ sym
     (segment_read h true k ea (sym (ap (λ (x : ℕ). key_fits k x h.dst) ei ∙ r.fits)) refl f (fields_read h false octet f 16 c i refl) true
     (sym i.fits) refl)
-    ∙ ap (λ (x : ℕ). AccessSegment k x f) ei
+    ∙ ap (λ (x : ℕ). Some (AccessSegment k x f)) ei
 
 pub control_reads_back : ControlReadsBack
 control_reads_back h o c r =
@@ -165,7 +166,7 @@ control_reads_back h o c r =
     let eo : opcode (first h) ≡ o = ap opcode e ∙ opcode_control false o r.opcode_fits in
     form_as_law h true false c.ctl_is (ap seg e ∙ seg_control false o)
     ∙ sym (control_whole h OfControl (kind_control o r ∙ ap opcode_kind (sym eo)) refl)
-    ∙ ap Control eo
+    ∙ ap (λ (x : ℕ). Some (Control x)) eo
 
 pub control_segment_reads_back : ControlSegmentReadsBack
 unfolding segment_front
@@ -176,7 +177,7 @@ control_segment_reads_back h p f c r z i =
     form_as_law h true true c.ctl_is (ap seg e ∙ seg_control true p)
     ∙ sym
     (control_read h OfControl (kind_control p r ∙ ap opcode_kind (sym ep)) refl f (fields_read h true octet f 12 c i (sym z)) true (sym i.fits) refl)
-    ∙ ap (λ (x : ℕ). ControlSegment x f) ep
+    ∙ ap (λ (x : ℕ). Some (ControlSegment x f)) ep
 
 pub acknowledgement_reads_back : AcknowledgementReadsBack
 unfolding acknowledgement_octets opcode_kind

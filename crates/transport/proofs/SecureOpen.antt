@@ -10,6 +10,7 @@ use native.Mathlib.Omega.{arith}
 use borrow.Author.Tests.{ltb-true, le-ltb, eq-eqb}
 use lib.Dec.{eqb, ltb}
 use lib.ListN.{length}
+use Rattle.std.specs.Prelude.{Result, Ok, Err, is_ok}
 use Rattle.common.specs.Lent.{Lent, lent}
 use Rattle.common.specs.Lists.{onto, joined}
 use Rattle.common.specs.Paper.{number_of}
@@ -28,12 +29,13 @@ use Rattle.modes.proofs.RoundTrip.{sealed_with_length, open_seal_with}
 use Rattle.transport.specs.declared.securing.Envelope.{Envelope}
 use Rattle.transport.specs.declared.securing.Held.{Held}
 use Rattle.transport.specs.declared.securing.Opened.{Opened}
-use Rattle.transport.specs.declared.securing.Opened.TheVariants.{Message, NotOpened, ShortBuffer}
 use Rattle.transport.specs.declared.securing.Opener.{Opener}
 use Rattle.transport.specs.declared.securing.Opener.TheVariants.{Application, Labelled, Device}
+use Rattle.transport.specs.declared.securing.Unopened.{Unopened}
+use Rattle.transport.specs.declared.securing.Unopened.TheVariants.{NotOpened, ShortBuffer}
 use Rattle.transport.specs.Securing.{application_key_places, label_places, trans_mic, message_nonce_of, secured, opened_by, label_at}
 use Rattle.transport.specs.Securing.{application_candidates, label_candidates, is_virtual, pairs_under, pairs, key_by, additional_by, opened_by_pair, opens_message}
-use Rattle.transport.specs.Securing.{message_by, by_application_keys, by_device_key, unsecuring, opener_values, paper, trials_of}
+use Rattle.transport.specs.Securing.{opened, message_by, by_application_keys, by_device_key, unsecuring, opener_values, paper, trials_of}
 use Rattle.transport.specs.SecureOpen.{SecuredLength, Fits, same_opener, place_of, pair_at, Receives, UnsecureSecure, UnsecureSecureDevice, FirstToOpen, OpenedByFirst}
 use Rattle.transport.specs.SecureOpen.{NoneOpened, TrialsMost, Stands, MessageStands, Low, PlaceLow, RefusedKeeps}
 use Rattle.transport.specs.Segment.{message_octets}
@@ -76,7 +78,7 @@ module _ (held : Held) (x : Opener) (e : Envelope) (c buf : List ℕ) where
 
   by_pair_at :
       (len : ℕ) {left : List ℕ} → Receives held x e c buf → opened_by_pair held e c buf x ≡ lent true left → len ≡ length c - mic_octets (trans_mic e.szmic)
-      → by_application_keys held e c buf ≡ lent (Message x (place_of held e x + 1) len) left
+      → by_application_keys held e c buf ≡ lent (opened x (place_of held e x + 1) len) left
   unfolding by_application_keys
   by_pair_at len r o l = rw (ends_at r (ap (λ (v : Lent Bool). v.answer) o), o, l)
 
@@ -165,10 +167,10 @@ within_low held e (Labelled i j) w = (omega arith, omega arith)
 within_low held e Device w = tt
 
 -- what an answer says of the buffer beside it
-abbrev Says : List ℕ → List ℕ → Opened → List ℕ → Type 0
-Says c buf (Message x trials len) b = Low x × (trials ≤ application_key_places * label_places) × Stands c buf len b
-Says c buf (NotOpened trials) b = (trials ≤ application_key_places * label_places) × (b ≡ buf)
-Says c buf ShortBuffer b = (length buf < message_octets) × (b ≡ buf)
+abbrev Says : List ℕ → List ℕ → Result Opened Unopened → List ℕ → Type 0
+Says c buf (Ok o) b = Low o.opener × (o.trials ≤ application_key_places * label_places) × Stands c buf o.len b
+Says c buf (Err (NotOpened trials)) b = (trials ≤ application_key_places * label_places) × (b ≡ buf)
+Says c buf (Err ShortBuffer) b = (length buf < message_octets) × (b ≡ buf)
 
 stands :
     (key : List ℕ) (e : Envelope) (a c buf : List ℕ) → (opened_by key e a c buf).answer ≡ true
@@ -179,7 +181,7 @@ stands key e a c buf t =
     record { len_most = l.fits t; len_within = omega arith; as_long = l.as_long }
 
 module _ (held : Held) (e : Envelope) (c buf : List ℕ) where
-  abbrev Leaves : Lent Opened → Type 0
+  abbrev Leaves : Lent (Result Opened Unopened) → Type 0
   Leaves r = Says c buf r.answer r.buffer
 
   keys_leave : Leaves (by_application_keys held e c buf)
@@ -202,15 +204,15 @@ module _ (held : Held) (e : Envelope) (c buf : List ℕ) where
       (λ t. by_choice Leaves (ltb (length c) (1 + mic_octets (trans_mic e.szmic))) (λ u. (omega arith, refl))
       (λ u. by_choice Leaves e.akf (λ v. keys_leave) (λ v. device_leaves)))
 
-says_trials : (c buf : List ℕ) (a : Opened) (b : List ℕ) → Says c buf a b → trials_of a ≤ application_key_places * label_places
-says_trials c buf (Message x trials len) b l = l.1
-says_trials c buf (NotOpened trials) b l = l.0
-says_trials c buf ShortBuffer b l = omega arith
+says_trials : (c buf : List ℕ) (a : Result Opened Unopened) (b : List ℕ) → Says c buf a b → trials_of a ≤ application_key_places * label_places
+says_trials c buf (Ok o) b l = l.1
+says_trials c buf (Err (NotOpened trials)) b l = l.0
+says_trials c buf (Err ShortBuffer) b l = omega arith
 
-says_refused : (c buf : List ℕ) (a : Opened) (b : List ℕ) → Says c buf a b → 0 < number_of (paper a) → b ≡ buf
-says_refused c buf (Message x trials len) b l h = absurd (omega arith)
-says_refused c buf (NotOpened trials) b l h = l.1
-says_refused c buf ShortBuffer b l h = l.1
+says_refused : (c buf : List ℕ) (a : Result Opened Unopened) (b : List ℕ) → Says c buf a b → 0 < number_of (paper a) → b ≡ buf
+says_refused c buf (Ok o) b l h = absurd (omega arith)
+says_refused c buf (Err (NotOpened trials)) b l h = l.1
+says_refused c buf (Err ShortBuffer) b l h = l.1
 
 pub trials_most : TrialsMost
 trials_most held e c buf =
@@ -218,8 +220,8 @@ trials_most held e c buf =
     says_trials c buf r.answer r.buffer (unsecuring_leaves held e c buf)
 
 says_message :
-    (held : Held) (e : Envelope) (c buf : List ℕ) (x : Opener) (trials len : ℕ) (left : List ℕ) → unsecuring held e c buf ≡ lent (Message x trials len) left
-    → Says c buf (Message x trials len) left
+    (held : Held) (e : Envelope) (c buf : List ℕ) (x : Opener) (trials len : ℕ) (left : List ℕ) → unsecuring held e c buf ≡ lent (opened x trials len) left
+    → Says c buf (opened x trials len) left
 says_message held e c buf x trials len left q = rw q at (unsecuring_leaves held e c buf)
 
 pub message_stands : MessageStands
@@ -234,60 +236,54 @@ unsecuring_refused_keeps held e c buf h =
     says_refused c buf r.answer r.buffer (unsecuring_leaves held e c buf) h
 
 -- 16 only where the buffer is short
-pub unsecuring_short : (held : Held) (e : Envelope) (c buf : List ℕ) → (unsecuring held e c buf).answer ≡ ShortBuffer → length buf < message_octets
+pub unsecuring_short : (held : Held) (e : Envelope) (c buf : List ℕ) → (unsecuring held e c buf).answer ≡ Err ShortBuffer → length buf < message_octets
 unsecuring_short held e c buf q =
     let left = (unsecuring held e c buf).buffer in
-    let l : Says c buf ShortBuffer left = subst (λ (a : Opened). Says c buf a left) q (unsecuring_leaves held e c buf) in
+    let l : Says c buf (Err ShortBuffer) left = subst (λ (a : Result Opened Unopened). Says c buf a left) q (unsecuring_leaves held e c buf) in
     l.0
 
 -- ---- which pairs were tried
 -- the answers of other ways are others
-abbrev opener_in : Opened → Opener
-opener_in (Message x trials len) = x
-opener_in (NotOpened trials) = Device
-opener_in ShortBuffer = Device
+abbrev opener_in : Result Opened Unopened → Opener
+opener_in (Ok o) = o.opener
+opener_in (Err u) = Device
 
-abbrev is_message : Opened → Bool
-is_message (Message x trials len) = true
-is_message (NotOpened trials) = false
-is_message ShortBuffer = false
-
-abbrev is_short : Opened → Bool
-is_short (Message x trials len) = false
-is_short (NotOpened trials) = false
-is_short ShortBuffer = true
+abbrev is_short : Result Opened Unopened → Bool
+is_short (Ok o) = false
+is_short (Err (NotOpened trials)) = false
+is_short (Err ShortBuffer) = true
 
 module _ (held : Held) (e : Envelope) (c buf : List ℕ) where
-  pub opened_by_first : (x : Opener) (trials len : ℕ) (left : List ℕ) → e.akf ≡ true → unsecuring held e c buf ≡ lent (Message x trials len) left → FirstToOpen held e c buf x trials
+  pub opened_by_first : (x : Opener) (trials len : ℕ) (left : List ℕ) → e.akf ≡ true → unsecuring held e c buf ≡ lent (opened x trials len) left → FirstToOpen held e c buf x trials
   unfolding unsecuring by_application_keys
   opened_by_first x trials len left akf =
-      let P : Lent Opened → Type 0 = λ r. r ≡ lent (Message x trials len) left → FirstToOpen held e c buf x trials in
-      let other : (r : Opened) (b : List ℕ) → is_message r ≡ false → P (lent r b) =
-      λ r b f q. absurd (true≢false (sym (ap (λ (v : Lent Opened). is_message v.answer) q) ∙ f)) in
-      by_choice P (ltb (length buf) message_octets) (λ t. other ShortBuffer buf refl)
-      (λ t. by_choice P (ltb (length c) (1 + mic_octets (trans_mic e.szmic))) (λ u. other (NotOpened 0) buf refl)
+      let P : Lent (Result Opened Unopened) → Type 0 = λ r. r ≡ lent (opened x trials len) left → FirstToOpen held e c buf x trials in
+      let other : (r : Result Opened Unopened) (b : List ℕ) → is_ok r ≡ false → P (lent r b) =
+      λ r b f q. absurd (true≢false (sym (ap (λ (v : Lent (Result Opened Unopened)). is_ok v.answer) q) ∙ f)) in
+      by_choice P (ltb (length buf) message_octets) (λ t. other (Err ShortBuffer) buf refl)
+      (λ t. by_choice P (ltb (length c) (1 + mic_octets (trans_mic e.szmic))) (λ u. other (Err (NotOpened 0)) buf refl)
       (λ u. by_choice P e.akf (λ v. tries_each (opens_message held e c buf) Device (λ t. P (message_by held e c buf t)) (pairs held e)
       (λ k o q. record {
         place = k;
-        counted = sym (ap (λ (v : Lent Opened). trials_of v.answer) q);
+        counted = sym (ap (λ (v : Lent (Result Opened Unopened)). trials_of v.answer) q);
         within = o.within;
-        named = ap (λ (v : Lent Opened). opener_in v.answer) q;
-        opens = ap (opens_message held e c buf) (sym (ap (λ (v : Lent Opened). opener_in v.answer) q)) ∙ o.passes;
+        named = ap (λ (v : Lent (Result Opened Unopened)). opener_in v.answer) q;
+        opens = ap (opens_message held e c buf) (sym (ap (λ (v : Lent (Result Opened Unopened)). opener_in v.answer) q)) ∙ o.passes;
         none_before = o.none_before;
       })
-      (λ _. other (NotOpened (length (pairs held e))) buf refl))
+      (λ _. other (Err (NotOpened (length (pairs held e)))) buf refl))
       (λ v. absurd (true≢false (sym akf ∙ v)))))
 
-  pub none_opened : (trials : ℕ) (left : List ℕ) → e.akf ≡ true → 1 + mic_octets (trans_mic e.szmic) ≤ length c → unsecuring held e c buf ≡ lent (NotOpened trials) left
+  pub none_opened : (trials : ℕ) (left : List ℕ) → e.akf ≡ true → 1 + mic_octets (trans_mic e.szmic) ≤ length c → unsecuring held e c buf ≡ lent (Err (NotOpened trials)) left
       → (trials ≡ length (pairs held e)) × NoneOpens (opens_message held e c buf) Device (pairs held e)
   unfolding unsecuring by_application_keys
   none_opened trials left akf long =
-      let P : Lent Opened → Type 0 = λ r. r ≡ lent (NotOpened trials) left → (trials ≡ length (pairs held e)) × NoneOpens (opens_message held e c buf) Device (pairs held e) in
-      by_choice P (ltb (length buf) message_octets) (λ t q. absurd (true≢false (ap (λ (v : Lent Opened). is_short v.answer) q)))
+      let P : Lent (Result Opened Unopened) → Type 0 = λ r. r ≡ lent (Err (NotOpened trials)) left → (trials ≡ length (pairs held e)) × NoneOpens (opens_message held e c buf) Device (pairs held e) in
+      by_choice P (ltb (length buf) message_octets) (λ t q. absurd (true≢false (ap (λ (v : Lent (Result Opened Unopened)). is_short v.answer) q)))
       (λ t. rw (le-ltb (length c) (1 + mic_octets (trans_mic e.szmic)) long)
       (by_choice P e.akf (λ v. tries_each (opens_message held e c buf) Device (λ t. P (message_by held e c buf t)) (pairs held e)
-      (λ k o q. absurd (true≢false (ap (λ (v : Lent Opened). is_message v.answer) q)))
-      (λ none q. (sym (ap (λ (v : Lent Opened). trials_of v.answer) q), none)))
+      (λ k o q. absurd (true≢false (ap (λ (v : Lent (Result Opened Unopened)). is_ok v.answer) q)))
+      (λ none q. (sym (ap (λ (v : Lent (Result Opened Unopened)). trials_of v.answer) q), none)))
       (λ v. absurd (true≢false (sym akf ∙ v)))))
 
 pub first_opened : OpenedByFirst

@@ -15,16 +15,14 @@ use borrow.Author.Tests.{ltb-true, ltb-false, lt-ltb, le-ltb}
 use lib.Dec.{ltb}
 use lib.ListN.{length, get_or, take, drop}
 use lib.Seq.{take_all, take-length, take-append_seam}
-use Rattle.std.specs.Prelude.{if◌then◌else◌}
+use Rattle.std.specs.Prelude.{Result, Ok, Err, ⊤, if◌then◌else◌}
 use Rattle.common.specs.Lent.{Lent}
 use Rattle.common.specs.Lists.{tab, onto}
 use Rattle.common.proofs.Lists.{length_tab}
 use Rattle.common.proofs.Tests.{by_test}
-use Rattle.transport.specs.declared.vetting.Judged.{Judged}
-use Rattle.transport.specs.declared.vetting.Judged.TheVariants as judgement
+use Rattle.transport.specs.declared.vetting.Refusal.{Refusal}
+use Rattle.transport.specs.declared.vetting.Refusal.TheVariants.{Fault, Unfinished}
 use Rattle.transport.specs.declared.vetting.Stated.{Stated}
-use Rattle.transport.specs.declared.vetting.Vetted.{Vetted}
-use Rattle.transport.specs.declared.vetting.Vetted.TheVariants.{Approved, ShortBuffer, Fault, Unfinished}
 use Rattle.transport.specs.Listed.{pdus}
 use Rattle.transport.specs.Segment.{message_octets, full_octets, last_segment, segment_at}
 use Rattle.transport.specs.Vetting.{stated_by, fits, judged_from, judged, joined, shown, vetting}
@@ -37,17 +35,17 @@ zero_one : ◌≡◌ {A = ℕ} 0 1 → ⊥
 zero_one e = omega arith
 
 -- ---- where the judgement ends
-abbrev ended : Stated → ℕ → Judged
-ended s k = if ltb s.segn k then judgement.Whole else judgement.Unfinished
+abbrev ended : Stated → ℕ → Result ⊤ Refusal
+ended s k = if ltb s.segn k then Ok tt else Err Unfinished
 
-ended_whole : (s : Stated) (k : ℕ) → s.segn < k → ended s k ≡ judgement.Whole
+ended_whole : (s : Stated) (k : ℕ) → s.segn < k → ended s k ≡ Ok tt
 ended_whole s k h = rw (lt-ltb s.segn k h) refl
 
-ended_late : (s : Stated) (k : ℕ) → ended s k ≡ judgement.Whole → s.segn < k
+ended_late : (s : Stated) (k : ℕ) → ended s k ≡ Ok tt → s.segn < k
 ended_late s k e =
     by_test (ltb s.segn k)
     (λ t. ltb-true s.segn k t)
-    (λ t. let f : judgement.Unfinished ≡ judgement.Whole = simp t at e in absurd (zero_one (cc)))
+    (λ t. let f : ◌≡◌ {A = Result ⊤ Refusal} (Err Unfinished) (Ok tt) = simp t at e in absurd (zero_one (cc)))
 
 -- n gives the number of each PDU of l
 module _ (ctl : Bool) (s : Stated) where
@@ -60,7 +58,7 @@ module _ (ctl : Bool) (s : Stated) where
     inside : at < length l
     before : (i : ℕ) → i < at → fits ctl s (n i) (get_or l i []) ≡ true
     fault : fits ctl s (n at) (get_or l at []) ≡ false
-    says : judged_from ctl s (n 0) l ≡ judgement.Fault (n at)
+    says : judged_from ctl s (n 0) l ≡ Err (Fault (n at))
 
   -- the first PDU, and those behind it
   below :
@@ -100,7 +98,7 @@ Faulty ctl l = FirstFault ctl (stated_by (get_or l 0 [])) (λ i. i) l
 judges : (ctl : Bool) (l : List (List ℕ)) → Fits ctl l ⊎ Faulty ctl l
 judges ctl l = ends ctl (stated_by (get_or l 0 [])) (λ i. i) add-one l
 
-no_fault : {k : ℕ} (b : Bool) → (if b then judgement.Whole else judgement.Unfinished) ≡ judgement.Fault k → ⊥
+no_fault : {k : ℕ} (b : Bool) → ◌≡◌ {A = Result ⊤ Refusal} (if b then Ok tt else Err Unfinished) (Err (Fault k)) → ⊥
 no_fault true e = zero_one (cc)
 no_fault false e = zero_one (cc)
 
@@ -130,7 +128,7 @@ module _ (ctl : Bool) (l : List (List ℕ)) where
     are_length : length l ≡ suc last
     are_length = ap length (sym a.are) ∙ length_tab (segment_at (full_octets ctl) a.c a.z a.q last u) (suc last)
 
-    are_whole : judged ctl l ≡ judgement.Whole
+    are_whole : judged ctl l ≡ Ok tt
     are_whole =
         let e = are_length in
         let h : last < length l = omega arith in
@@ -148,7 +146,7 @@ module _ (ctl : Bool) (l : List (List ℕ)) where
       let are : Are ctl b.u l = record { c = b.c; z = b.z; q = b.q; allowed = b.allowed; are = sym all ∙ b.begins } in
       subst (λ (u : List ℕ). Are ctl u l) (sym (are_joined b.u are)) are
 
-  pub whole_are : judged ctl l ≡ judgement.Whole → Are ctl (joined l) l
+  pub whole_are : judged ctl l ≡ Ok tt → Are ctl (joined l) l
   unfolding judged
   whole_are e =
       let s = stated_by (get_or l 0 []) in
@@ -156,18 +154,18 @@ module _ (ctl : Bool) (l : List (List ℕ)) where
       (λ (a : Fits ctl l).
       let late : s.segn < length l = ended_late s (length l) (sym a.says ∙ e) in
       shown_are (fit_shown ctl l a.fit (omega arith)) late)
-      (λ (f : Faulty ctl l). let x : judgement.Whole ≡ judgement.Fault f.at = sym e ∙ f.says in absurd (zero_one (cc)))
+      (λ (f : Faulty ctl l). let x : ◌≡◌ {A = Result ⊤ Refusal} (Ok tt) (Err (Fault f.at)) = sym e ∙ f.says in absurd (zero_one (cc)))
       (judges ctl l)
 
   -- ---- 26 at k
-  fault_at : (k : ℕ) → judged ctl l ≡ judgement.Fault k → (k < length l) × Begins ctl (take k l) × (Begins ctl (take (k + 1) l) → ⊥)
+  fault_at : (k : ℕ) → judged ctl l ≡ Err (Fault k) → (k < length l) × Begins ctl (take k l) × (Begins ctl (take (k + 1) l) → ⊥)
   unfolding judged
   fault_at k e =
       let s = stated_by (get_or l 0 []) in
       ⊎_elim
       (λ (a : Fits ctl l). absurd (no_fault (ltb s.segn (length l)) (sym a.says ∙ e)))
       (λ (f : Faulty ctl l).
-      let x : judgement.Fault f.at ≡ judgement.Fault k = sym f.says ∙ e in
+      let x : ◌≡◌ {A = Result ⊤ Refusal} (Err (Fault f.at)) (Err (Fault k)) = sym f.says ∙ e in
       let is : f.at ≡ k = cc in
       let inside = f.inside in (
         omega arith,
@@ -176,7 +174,7 @@ module _ (ctl : Bool) (l : List (List ℕ)) where
       ))
       (judges ctl l)
 
-  at_fault : (k : ℕ) → k < length l → Begins ctl (take k l) → (Begins ctl (take (k + 1) l) → ⊥) → judged ctl l ≡ judgement.Fault k
+  at_fault : (k : ℕ) → k < length l → Begins ctl (take k l) → (Begins ctl (take (k + 1) l) → ⊥) → judged ctl l ≡ Err (Fault k)
   unfolding judged
   at_fault k h b none =
       let before = take_fit ctl l k (begins_fit ctl (take k l) b) in
@@ -190,22 +188,22 @@ module _ (ctl : Bool) (l : List (List ℕ)) where
       let late = ltb-false f.at k t in
       by_test (ltb k f.at)
       (λ r. absurd (none (fit_begins ctl (take (k + 1) l) (fit_take ctl l (k + 1) (λ i m _. f.before i (omega (arith, ltb-true k f.at r)))))))
-      (λ r. let is : f.at ≡ k = omega (arith, ltb-false k f.at r) in f.says ∙ ap judgement.Fault is)))
+      (λ r. let is : f.at ≡ k = omega (arith, ltb-false k f.at r) in f.says ∙ ap (λ (n : ℕ). Err (Fault n)) is)))
       (judges ctl l)
 
   -- ---- 27
-  unfinished : judged ctl l ≡ judgement.Unfinished → Begins ctl l × ((u : List ℕ) → Are ctl u l → ⊥)
+  unfinished : judged ctl l ≡ Err Unfinished → Begins ctl l × ((u : List ℕ) → Are ctl u l → ⊥)
   unfolding judged
   unfinished e =
       ⊎_elim
       (λ (a : Fits ctl l). (
         fit_begins ctl l a.fit,
-        λ u r. let x : judgement.Whole ≡ judgement.Unfinished = sym (are_whole u r) ∙ e in zero_one (cc),
+        λ u r. let x : ◌≡◌ {A = Result ⊤ Refusal} (Ok tt) (Err Unfinished) = sym (are_whole u r) ∙ e in zero_one (cc),
       ))
-      (λ (f : Faulty ctl l). let x : judgement.Unfinished ≡ judgement.Fault f.at = sym e ∙ f.says in absurd (zero_one (cc)))
+      (λ (f : Faulty ctl l). let x : ◌≡◌ {A = Result ⊤ Refusal} (Err Unfinished) (Err (Fault f.at)) = sym e ∙ f.says in absurd (zero_one (cc)))
       (judges ctl l)
 
-  is_unfinished : Begins ctl l → ((u : List ℕ) → Are ctl u l → ⊥) → judged ctl l ≡ judgement.Unfinished
+  is_unfinished : Begins ctl l → ((u : List ℕ) → Are ctl u l → ⊥) → judged ctl l ≡ Err Unfinished
   is_unfinished b none =
       let s = stated_by (get_or l 0 []) in
       by_test (ltb s.segn (length l))
@@ -218,41 +216,38 @@ unfolding vetting
 vetting_long ctl list out h = rw (le-ltb (length out) message_octets h) refl
 
 -- the judgement is told from the answer
-abbrev judged_by : Vetted → Judged
-judged_by (Approved len) = judgement.Whole
-judged_by ShortBuffer = judgement.Unfinished
-judged_by (Fault k) = judgement.Fault k
-judged_by Unfinished = judgement.Unfinished
+abbrev judged_by : Result ℕ Refusal → Result ⊤ Refusal
+judged_by (Ok len) = Ok tt
+judged_by (Err r) = Err r
 
-told : (j : Judged) (u out : List ℕ) → judged_by (shown j u out).answer ≡ j
-told judgement.Whole u out = refl
-told (judgement.Fault k) u out = refl
-told judgement.Unfinished u out = refl
+told : (j : Result ⊤ Refusal) (u out : List ℕ) → judged_by (shown j u out).answer ≡ j
+told (Ok whole) u out = refl
+told (Err r) u out = refl
 
 -- what is approved is told from length and buffer
-shown_octets : (u v out : List ℕ) → shown judgement.Whole u out ≡ shown judgement.Whole v out → u ≡ v
+shown_octets : (u v out : List ℕ) → shown (Ok tt) u out ≡ shown (Ok tt) v out → u ≡ v
 shown_octets u v out e =
-    let a : Approved (length u) ≡ Approved (length v) = ap (λ (x : Lent Vetted). x.answer) e in
+    let a : ◌≡◌ {A = Result ℕ Refusal} (Ok (length u)) (Ok (length v)) = ap (λ (x : Lent (Result ℕ Refusal)). x.answer) e in
     let n : length u ≡ length v = cc in
-    let b : onto u out ≡ onto v out = ap (λ (x : Lent Vetted). x.buffer) e in
+    let b : onto u out ≡ onto v out = ap (λ (x : Lent (Result ℕ Refusal)). x.buffer) e in
     sym (take-append_seam u (drop (length u) out)) ∙ ap (take (length u)) b ∙ ap (λ (k : ℕ). take k (onto v out)) n ∙ take-append_seam v (drop (length v) out)
 
 module _ (ctl : Bool) (list out : List ℕ) (h : message_octets ≤ length out) where
   abbrev l : List (List ℕ)
   l = pdus list
 
-  by_answer : {x : Lent Vetted} → vetting ctl list out ≡ x → judged ctl l ≡ judged_by x.answer
-  by_answer e = sym (told (judged ctl l) (joined l) out) ∙ ap (λ (y : Lent Vetted). judged_by y.answer) (sym (vetting_long ctl list out h) ∙ e)
+  by_answer : {x : Lent (Result ℕ Refusal)} → vetting ctl list out ≡ x → judged ctl l ≡ judged_by x.answer
+  by_answer e = sym (told (judged ctl l) (joined l) out) ∙ ap (λ (y : Lent (Result ℕ Refusal)). judged_by y.answer) (sym (vetting_long ctl list out h) ∙ e)
 
-  by_judgement : {j : Judged} → judged ctl l ≡ j → vetting ctl list out ≡ shown j (joined l) out
-  by_judgement e = vetting_long ctl list out h ∙ ap (λ (j : Judged). shown j (joined l) out) e
+  by_judgement : {j : Result ⊤ Refusal} → judged ctl l ≡ j → vetting ctl list out ≡ shown j (joined l) out
+  by_judgement e = vetting_long ctl list out h ∙ ap (λ (j : Result ⊤ Refusal). shown j (joined l) out) e
 
 pub approves_exactly : ApprovesExactly
 approves_exactly ctl list out u h = (
   λ e.
       let w = by_answer ctl list out h e in
       subst (λ (x : List ℕ). Are ctl x (pdus list)) (shown_octets _ u out (sym (by_judgement ctl list out h w) ∙ e)) (whole_are ctl (pdus list) w),
-  λ a. by_judgement ctl list out h (are_whole ctl (pdus list) u a) ∙ ap (λ (x : List ℕ). shown judgement.Whole x out) (are_joined ctl (pdus list) u a),
+  λ a. by_judgement ctl list out h (are_whole ctl (pdus list) u a) ∙ ap (λ (x : List ℕ). shown (Ok tt) x out) (are_joined ctl (pdus list) u a),
 )
 
 pub faults_exactly : FaultsExactly

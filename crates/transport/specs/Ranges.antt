@@ -1,8 +1,8 @@
 -- The ranges of a transport PDU's fields, and the promise that a form which is not wrong keeps to them.
-use Rattle.std.specs.Prelude.{Bool, true, false, ◌≡◌, ℕ, ◌≤◌, ◌<◌}
+use Rattle.std.specs.Prelude.{Bool, true, false, Some, ◌≡◌, ℕ, ◌≤◌, ◌<◌}
 use Rattle.network.specs.declared.header.Header.{Header}
 use Rattle.transport.specs.declared.form.Form.{Form}
-use Rattle.transport.specs.declared.form.Form.TheVariants.{Access, AccessSegment, Control, ControlSegment, Acknowledgement, Wrong}
+use Rattle.transport.specs.declared.form.Form.TheVariants.{Access, AccessSegment, Control, ControlSegment, Acknowledgement}
 use Rattle.transport.specs.declared.form.SegmentFields.{SegmentFields}
 use Rattle.transport.specs.Form.{key_fits, segment_fits, form_of}
 
@@ -29,8 +29,7 @@ Kept h (AccessSegment akf aid f) = (h.ctl ≡ false) × KeyInRange akf aid h.dst
 Kept h (Control opcode) = (h.ctl ≡ true) × OpcodeInRange opcode
 Kept h (ControlSegment opcode f) = (h.ctl ≡ true) × OpcodeInRange opcode × InRange f h.len 12
 Kept h (Acknowledgement obo seq_zero bits) = (h.ctl ≡ true) × (seq_zero < 8192) × (h.len ≡ 7)
-Kept h Wrong = Unit {0}
 
 -- each header keeps to the ranges of its form
 abbrev pub KeepsToRanges : Type 0
-KeepsToRanges = (h : Header) → Kept h (form_of h)
+KeepsToRanges = (h : Header) (f : Form) → form_of h ≡ Some f → Kept h f

@@ -1,5 +1,5 @@
 -- Promises: a secured message is so long; the pair that secured it, or the device key, opens it again; which pairs were tried; and what every opening leaves.
-use Rattle.std.specs.Prelude.{Bool, true, false, List, [], ◌≡◌, ℕ, ◌+◌, ◌*◌, ◌<◌, ◌≤◌, length, get_or}
+use Rattle.std.specs.Prelude.{Bool, true, false, List, [], Err, ◌≡◌, ℕ, ◌+◌, ◌*◌, ◌<◌, ◌≤◌, length, get_or}
 use Rattle.common.specs.Lent.{lent}
 use Rattle.common.specs.Lists.{onto, same}
 use Rattle.common.specs.Paper.{number_of}
@@ -7,11 +7,11 @@ use Rattle.common.specs.Search.{first}
 use Rattle.modes.specs.Ccm.{mic_octets, longest_data}
 use Rattle.transport.specs.declared.securing.Envelope.{Envelope}
 use Rattle.transport.specs.declared.securing.Held.{Held}
-use Rattle.transport.specs.declared.securing.Opened.TheVariants.{Message, NotOpened}
 use Rattle.transport.specs.declared.securing.Opener.{Opener}
 use Rattle.transport.specs.declared.securing.Opener.TheVariants.{Application, Labelled, Device}
+use Rattle.transport.specs.declared.securing.Unopened.TheVariants.{NotOpened}
 use Rattle.transport.specs.Securing.{application_key_places, label_places, trans_mic, secured, pairs, key_by, additional_by, opens_message}
-use Rattle.transport.specs.Securing.{unsecuring, opener_values, paper, trials_of}
+use Rattle.transport.specs.Securing.{opened, unsecuring, opener_values, paper, trials_of}
 use Rattle.transport.specs.Segment.{message_octets}
 
 -- a secured message has its TransMIC behind it
@@ -56,7 +56,7 @@ UnsecureSecure =
     -- CCM takes so much additional data: a label has sixteen octets
     → length (additional_by held x) ≤ longest_data
     → Receives held x e c buf
-    → unsecuring held e c buf ≡ lent (Message x (place_of held e x + 1) (length m)) (onto m buf))
+    → unsecuring held e c buf ≡ lent (opened x (place_of held e x + 1) (length m)) (onto m buf))
 
 -- what the device key secured, it opens to the same message, with no trials
 abbrev pub UnsecureSecureDevice : Type 0
@@ -65,7 +65,7 @@ UnsecureSecureDevice =
     → Fits m buf
     -- AKF is 0
     → e.akf ≡ false
-    → unsecuring held e (secured held.device e [] m) buf ≡ lent (Message Device 0 (length m)) (onto m buf)
+    → unsecuring held e (secured held.device e [] m) buf ≡ lent (opened Device 0 (length m)) (onto m buf)
 
 -- ---- which pairs were tried
 -- the trials of a message are the place, from 1, of the pair that opened it: this one opens it, and none before it
@@ -80,13 +80,13 @@ pub record FirstToOpen (held : Held) (e : Envelope) (c buf : List ℕ) (x : Open
 abbrev pub OpenedByFirst : Type 0
 OpenedByFirst =
     (held : Held) (e : Envelope) (c buf : List ℕ) (x : Opener) (trials len : ℕ) (left : List ℕ)
-    → e.akf ≡ true → unsecuring held e c buf ≡ lent (Message x trials len) left → FirstToOpen held e c buf x trials
+    → e.akf ≡ true → unsecuring held e c buf ≡ lent (opened x trials len) left → FirstToOpen held e c buf x trials
 
 -- 13 of a message that is long enough carries the number of pairs, and none of them opens it
 abbrev pub NoneOpened : Type 0
 NoneOpened =
     (held : Held) (e : Envelope) (c buf : List ℕ) (trials : ℕ) (left : List ℕ)
-    → e.akf ≡ true → 1 + mic_octets (trans_mic e.szmic) ≤ length c → unsecuring held e c buf ≡ lent (NotOpened trials) left
+    → e.akf ≡ true → 1 + mic_octets (trans_mic e.szmic) ≤ length c → unsecuring held e c buf ≡ lent (Err (NotOpened trials)) left
     → (trials ≡ length (pairs held e)) × ((k : ℕ) → k < length (pairs held e) → opens_message held e c buf (pair_at held e k) ≡ false)
 
 -- there are four application keys and four labels at most, so no more than sixteen pairs
@@ -105,7 +105,7 @@ pub record Stands (c buf : List ℕ) (len : ℕ) (left : List ℕ) : Type 0 wher
 abbrev pub MessageStands : Type 0
 MessageStands =
     (held : Held) (e : Envelope) (c buf : List ℕ) (x : Opener) (trials len : ℕ) (left : List ℕ)
-    → unsecuring held e c buf ≡ lent (Message x trials len) left → Stands c buf len left
+    → unsecuring held e c buf ≡ lent (opened x trials len) left → Stands c buf len left
 
 -- the places of the application key and the label that opened a message are among four each
 abbrev pub Low : Opener → Type 0
@@ -116,7 +116,7 @@ Low Device = Unit {0}
 abbrev pub PlaceLow : Type 0
 PlaceLow =
     (held : Held) (e : Envelope) (c buf : List ℕ) (x : Opener) (trials len : ℕ) (left : List ℕ)
-    → unsecuring held e c buf ≡ lent (Message x trials len) left → Low x
+    → unsecuring held e c buf ≡ lent (opened x trials len) left → Low x
 
 -- what is refused, 13 or 16, keeps the buffer
 abbrev pub RefusedKeeps : Type 0

@@ -4,7 +4,7 @@
 --   pairs held e                    what is tried: keys, each alone or with the labels of DST
 --   securing key e a m buf          what a call that secures m into buf leaves
 --   unsecuring held e c buf         what a call that opens c into buf leaves
-use Rattle.std.specs.Prelude.{Bool, true, false, ◌&&◌, List, [], ◌∷◌, map, ℕ, ◌+◌, ◌-◌, min, eqb, ltb, length, get_or, if◌then◌else◌}
+use Rattle.std.specs.Prelude.{Bool, true, false, ◌&&◌, List, [], ◌∷◌, Some, None, Result, Ok, Err, map, ℕ, ◌+◌, ◌-◌, min, eqb, ltb, length, get_or, if◌then◌else◌}
 use Rattle.common.specs.Lent.{Lent, lent}
 use Rattle.common.specs.Lists.{tab, onto, joined}
 use Rattle.common.specs.Paper.{Paper, Refusal, Given, ToldApart}
@@ -23,10 +23,11 @@ use Rattle.transport.specs.declared.securing.Envelope.{Envelope}
 use Rattle.transport.specs.declared.securing.Held.{Held}
 use Rattle.transport.specs.declared.securing.LabelUuid.{LabelUuid}
 use Rattle.transport.specs.declared.securing.Opened.{Opened}
-use Rattle.transport.specs.declared.securing.Opened.TheVariants.{Message, NotOpened, ShortBuffer}
 use Rattle.transport.specs.declared.securing.Opener.{Opener}
 use Rattle.transport.specs.declared.securing.Opener.TheVariants.{Application, Labelled, Device}
 use Rattle.transport.specs.declared.securing.Tried.{Tried}
+use Rattle.transport.specs.declared.securing.Unopened.{Unopened}
+use Rattle.transport.specs.declared.securing.Unopened.TheVariants.{NotOpened, ShortBuffer}
 use Rattle.transport.specs.Segment.{message_octets}
 
 -- how many application keys can be held, and labels
@@ -119,35 +120,39 @@ abbrev pub opens_message : Held → Envelope → List ℕ → List ℕ → Opene
 opens_message held e c buf x = (opened_by_pair held e c buf x).answer
 
 -- what the trials under the key at place i leave: the message under the pair that authenticates, or the buffer as it was
-abbrev pub tried_as : Held → ℕ → Envelope → List ℕ → List ℕ → Outcome Opener → Lent Tried
-tried_as held i e c buf (Succeeded x trials) = lent (record { opened = true; trials = trials; opener = x }) (opened_by_pair held e c buf x).buffer
-tried_as held i e c buf (Failed trials) = lent (record { opened = false; trials = trials; opener = Application i }) buf
+abbrev pub tried_as : Held → Envelope → List ℕ → List ℕ → Outcome Opener → Lent Tried
+tried_as held e c buf (Succeeded x trials) = lent (record { trials = trials; opener = Some x }) (opened_by_pair held e c buf x).buffer
+tried_as held e c buf (Failed trials) = lent (record { trials = trials; opener = None }) buf
 
 unfoldable pub under_key : Held → ℕ → Envelope → List ℕ → List ℕ → Lent Tried
-under_key held i e c buf = tried_as held i e c buf (tries (opens_message held e c buf) (pairs_under held e.dst i))
+under_key held i e c buf = tried_as held e c buf (tries (opens_message held e c buf) (pairs_under held e.dst i))
+
+-- a message of len octets, opened by x with so many trials
+abbrev pub opened : Opener → ℕ → ℕ → Result Opened Unopened
+opened x trials len = Ok (record { opener = x; trials = trials; len = len })
 
 -- what all trials leave
-abbrev pub message_by : Held → Envelope → List ℕ → List ℕ → Outcome Opener → Lent Opened
+abbrev pub message_by : Held → Envelope → List ℕ → List ℕ → Outcome Opener → Lent (Result Opened Unopened)
 message_by held e c buf (Succeeded x trials) =
-    lent (Message x trials (length c - mic_octets (trans_mic e.szmic))) (opened_by_pair held e c buf x).buffer
-message_by held e c buf (Failed trials) = lent (NotOpened trials) buf
+    lent (opened x trials (length c - mic_octets (trans_mic e.szmic))) (opened_by_pair held e c buf x).buffer
+message_by held e c buf (Failed trials) = lent (Err (NotOpened trials)) buf
 
 -- AKF 1: the pairs are tried one by one, stopping at the first that authenticates; the number of trials is that pair's place among them, from 1, or
 -- their number when none opens it
-unfoldable pub by_application_keys : Held → Envelope → List ℕ → List ℕ → Lent Opened
+unfoldable pub by_application_keys : Held → Envelope → List ℕ → List ℕ → Lent (Result Opened Unopened)
 by_application_keys held e c buf = message_by held e c buf (tries (opens_message held e c buf) (pairs held e))
 
 -- AKF 0: the device key, which is not counted
-unfoldable pub by_device_key : List ℕ → Envelope → List ℕ → List ℕ → Lent Opened
+unfoldable pub by_device_key : List ℕ → Envelope → List ℕ → List ℕ → Lent (Result Opened Unopened)
 by_device_key device e c buf =
-    if (opened_by device e [] c buf).answer then lent (Message Device 0 (length c - mic_octets (trans_mic e.szmic))) (opened_by device e [] c buf).buffer else
-    lent (NotOpened 0) buf
+    if (opened_by device e [] c buf).answer then lent (opened Device 0 (length c - mic_octets (trans_mic e.szmic))) (opened_by device e [] c buf).buffer else
+    lent (Err (NotOpened 0)) buf
 
 -- 16: the message buffer is shorter than 384; 13: too short for payload and TransMIC, which is judged before any key; else by the keys
-unfoldable pub unsecuring : Held → Envelope → List ℕ → List ℕ → Lent Opened
+unfoldable pub unsecuring : Held → Envelope → List ℕ → List ℕ → Lent (Result Opened Unopened)
 unsecuring held e c buf =
-    if ltb (length buf) message_octets then lent ShortBuffer buf else
-    if ltb (length c) (1 + mic_octets (trans_mic e.szmic)) then lent (NotOpened 0) buf else
+    if ltb (length buf) message_octets then lent (Err ShortBuffer) buf else
+    if ltb (length c) (1 + mic_octets (trans_mic e.szmic)) then lent (Err (NotOpened 0)) buf else
     if e.akf then by_application_keys held e c buf else
     by_device_key held.device e c buf
 
@@ -161,19 +166,19 @@ opener_values (Labelled i j) = 2 ∷ i ∷ j ∷ []
 pub data Word : Type 0 where
   message : Word
 
-abbrev pub paper : Opened → Paper Word
-paper (Message opener trials len) = Given message (trials ∷ len ∷ opener_values opener)
-paper (NotOpened trials) = Refusal 13 (trials ∷ [])
-paper ShortBuffer = Refusal 16 []
+abbrev pub paper : Result Opened Unopened → Paper Word
+paper (Ok o) = Given message (o.trials ∷ o.len ∷ opener_values o.opener)
+paper (Err (NotOpened trials)) = Refusal 13 (trials ∷ [])
+paper (Err ShortBuffer) = Refusal 16 []
 
 abbrev pub PaperApart : Type 0
 PaperApart = ToldApart paper
 
 -- the number of pairs tried
-abbrev pub trials_of : Opened → ℕ
-trials_of (Message opener trials len) = trials
-trials_of (NotOpened trials) = trials
-trials_of ShortBuffer = 0
+abbrev pub trials_of : Result Opened Unopened → ℕ
+trials_of (Ok o) = o.trials
+trials_of (Err (NotOpened trials)) = trials
+trials_of (Err ShortBuffer) = 0
 
 -- securing into a lent buffer: false, and the buffer as it was, where there is more additional data than CCM takes here, m is longer than 384 octets or the buffer too short
 unfoldable pub securing : List ℕ → Envelope → List ℕ → List ℕ → List ℕ → Lent Bool

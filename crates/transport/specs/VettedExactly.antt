@@ -5,11 +5,11 @@
 --   OneMessage           they are segments of one message only
 --   FaultsExactly        26 at k exactly if the first k PDUs begin a message's segments, and with PDU k they begin none
 --   UnfinishedExactly    27 exactly if all PDUs begin a message's segments, and are those of none
-use Rattle.std.specs.Prelude.{Bool, List, ◌≡◌, ℕ, ◌+◌, ◌≤◌, ◌<◌, length, take}
+use Rattle.std.specs.Prelude.{Bool, List, Ok, Err, ◌≡◌, ℕ, ◌+◌, ◌≤◌, ◌<◌, length, take}
 use Rattle.common.specs.Exactly.{Exactly}
 use Rattle.common.specs.Lent.{lent}
 use Rattle.common.specs.Lists.{onto}
-use Rattle.transport.specs.declared.vetting.Vetted.TheVariants.{Approved, Fault, Unfinished}
+use Rattle.transport.specs.declared.vetting.Refusal.TheVariants.{Fault, Unfinished}
 use Rattle.transport.specs.Listed.{pdus}
 use Rattle.transport.specs.Segment.{message_octets}
 use Rattle.transport.specs.Vetting.{segments_of, Allowed, vetting}
@@ -34,7 +34,7 @@ pub record Begins (ctl : Bool) (l : List (List ℕ)) : Type 0 where
 abbrev pub ApprovesExactly : Type 0
 ApprovesExactly =
     (ctl : Bool) (list out u : List ℕ) → message_octets ≤ length out
-    → Exactly (vetting ctl list out ≡ lent (Approved (length u)) (onto u out)) (Are ctl u (pdus list))
+    → Exactly (vetting ctl list out ≡ lent (Ok (length u)) (onto u out)) (Are ctl u (pdus list))
 
 -- the same message, octet 0, SZMIC and SeqZero
 pub record SameMessage {ctl : Bool} {u v : List ℕ} {l : List (List ℕ)} (a : Are ctl u l) (b : Are ctl v l) : Type 0 where
@@ -49,10 +49,10 @@ OneMessage = (ctl : Bool) (u v : List ℕ) (l : List (List ℕ)) (a : Are ctl u 
 abbrev pub FaultsExactly : Type 0
 FaultsExactly =
     (ctl : Bool) (list out : List ℕ) (k : ℕ) → message_octets ≤ length out
-    → Exactly (vetting ctl list out ≡ lent (Fault k) out)
+    → Exactly (vetting ctl list out ≡ lent (Err (Fault k)) out)
     ((k < length (pdus list)) × Begins ctl (take k (pdus list)) × (Begins ctl (take (k + 1) (pdus list)) → ⊥))
 
 abbrev pub UnfinishedExactly : Type 0
 UnfinishedExactly =
     (ctl : Bool) (list out : List ℕ) → message_octets ≤ length out
-    → Exactly (vetting ctl list out ≡ lent Unfinished out) (Begins ctl (pdus list) × ((u : List ℕ) → Are ctl u (pdus list) → ⊥))
+    → Exactly (vetting ctl list out ≡ lent (Err Unfinished) out) (Begins ctl (pdus list) × ((u : List ℕ) → Are ctl u (pdus list) → ⊥))

@@ -1,8 +1,8 @@
 -- Each answer of vetting is given: to the two PDUs of a message of 24 octets, the first alone, none, both under CTL 1, one too many, and with a shorter buffer.
-use Rattle.std.specs.Prelude.{true, false, List, [], ◌∷◌, ◌++◌, ◌≡◌, ℕ, take, drop, replicate}
+use Rattle.std.specs.Prelude.{true, false, List, [], ◌∷◌, ◌++◌, Ok, Err, ◌≡◌, ℕ, take, drop, replicate}
 use Rattle.common.specs.Lent.{lent}
 use Rattle.common.specs.Lists.{onto}
-use Rattle.transport.specs.declared.vetting.Vetted.TheVariants.{Approved, ShortBuffer, Fault, Unfinished}
+use Rattle.transport.specs.declared.vetting.Refusal.TheVariants.{ShortBuffer, Fault, Unfinished}
 use Rattle.transport.specs.Listed.{written}
 use Rattle.transport.specs.Segment.{message_octets}
 use Rattle.transport.specs.Vetting.{vetting}
@@ -24,9 +24,9 @@ abbrev pub room : List ℕ
 room = replicate message_octets 0
 
 pub record VettedMet : Type 0 where
-  pub approved : vetting false (written segments) room ≡ lent (Approved 24) (onto message room)
-  pub cut_short : vetting false (written (take 1 segments)) room ≡ lent Unfinished room
-  pub none_at_all : vetting false [] room ≡ lent Unfinished room
-  pub as_control : vetting true (written segments) room ≡ lent (Fault 0) room
-  pub one_too_many : vetting false (written (segments ++ drop 1 segments)) room ≡ lent (Fault 2) room
-  pub short_buffer : vetting false (written segments) (drop 1 room) ≡ lent ShortBuffer (drop 1 room)
+  pub approved : vetting false (written segments) room ≡ lent (Ok 24) (onto message room)
+  pub cut_short : vetting false (written (take 1 segments)) room ≡ lent (Err Unfinished) room
+  pub none_at_all : vetting false [] room ≡ lent (Err Unfinished) room
+  pub as_control : vetting true (written segments) room ≡ lent (Err (Fault 0)) room
+  pub one_too_many : vetting false (written (segments ++ drop 1 segments)) room ≡ lent (Err (Fault 2)) room
+  pub short_buffer : vetting false (written segments) (drop 1 room) ≡ lent (Err ShortBuffer) (drop 1 room)

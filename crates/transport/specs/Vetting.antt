@@ -7,15 +7,13 @@
 --   joined l                  what stands behind their fronts
 --   vetting ctl list out      what a call leaves
 --   paper v                   how an answer is given; PaperApart: no two alike
-use Rattle.std.specs.Prelude.{Bool, true, not, ◌&&◌, ◌||◌, List, [], ◌∷◌, ◌++◌, ◌≡◌, ℕ, suc, ◌+◌, ◌*◌, ◌≤◌, ◌<◌, eqb, leb, ltb, length, get_or, take, drop, if◌then◌else◌}
+use Rattle.std.specs.Prelude.{Bool, true, not, ◌&&◌, ◌||◌, List, [], ◌∷◌, ◌++◌, Result, Ok, Err, ⊤, ◌≡◌, ℕ, suc, ◌+◌, ◌*◌, ◌≤◌, ◌<◌, eqb, leb, ltb, length, get_or, take, drop, if◌then◌else◌}
 use Rattle.common.specs.Lent.{Lent, lent}
 use Rattle.common.specs.Lists.{tab, onto, same}
-use Rattle.common.specs.Paper.{Paper, Refusal, Given, ToldApart}
-use Rattle.transport.specs.declared.vetting.Judged.{Judged}
-use Rattle.transport.specs.declared.vetting.Judged.TheVariants as judgement
+use Rattle.common.specs.Paper as given
+use Rattle.transport.specs.declared.vetting.Refusal.{Refusal}
+use Rattle.transport.specs.declared.vetting.Refusal.TheVariants.{ShortBuffer, Fault, Unfinished}
 use Rattle.transport.specs.declared.vetting.Stated.{Stated}
-use Rattle.transport.specs.declared.vetting.Vetted.{Vetted}
-use Rattle.transport.specs.declared.vetting.Vetted.TheVariants.{Approved, ShortBuffer, Fault, Unfinished}
 use Rattle.transport.specs.Fields.{seg, akf, aid, opcode, fields_number, szmic, seq_zero, seg_n}
 use Rattle.transport.specs.Listed.{pdus}
 use Rattle.transport.specs.Segment.{message_octets, full_octets, last_segment, segment_front, segment_at}
@@ -72,12 +70,12 @@ fits ctl s k p =
     && fills (full_octets ctl) (least ctl s.szmic) k s.segn (length (drop 4 p)))))
 
 -- the PDUs from k on, where those before fit
-unfoldable pub judged_from : Bool → Stated → ℕ → List (List ℕ) → Judged
-judged_from ctl s k [] = if ltb s.segn k then judgement.Whole else judgement.Unfinished
-judged_from ctl s k (p ∷ l) = if fits ctl s k p then judged_from ctl s (k + 1) l else judgement.Fault k
+unfoldable pub judged_from : Bool → Stated → ℕ → List (List ℕ) → Result ⊤ Refusal
+judged_from ctl s k [] = if ltb s.segn k then Ok tt else Err Unfinished
+judged_from ctl s k (p ∷ l) = if fits ctl s k p then judged_from ctl s (k + 1) l else Err (Fault k)
 
 -- all PDUs, by what PDU 0 states
-unfoldable pub judged : Bool → List (List ℕ) → Judged
+unfoldable pub judged : Bool → List (List ℕ) → Result ⊤ Refusal
 judged ctl l = judged_from ctl (stated_by (get_or l 0 [])) 0 l
 
 -- what stands behind the fronts, one behind the other
@@ -87,26 +85,25 @@ joined (p ∷ l) = drop 4 p ++ joined l
 
 -- ---- the call
 -- what is approved stands in the first octets of the buffer; nothing else is written
-abbrev pub shown : Judged → List ℕ → List ℕ → Lent Vetted
-shown judgement.Whole u out = lent (Approved (length u)) (onto u out)
-shown (judgement.Fault k) u out = lent (Fault k) out
-shown judgement.Unfinished u out = lent Unfinished out
+abbrev pub shown : Result ⊤ Refusal → List ℕ → List ℕ → Lent (Result ℕ Refusal)
+shown (Ok whole) u out = lent (Ok (length u)) (onto u out)
+shown (Err r) u out = lent (Err r) out
 
 -- 16: the buffer is shorter than 384, whatever the PDUs
-unfoldable pub vetting : Bool → List ℕ → List ℕ → Lent Vetted
+unfoldable pub vetting : Bool → List ℕ → List ℕ → Lent (Result ℕ Refusal)
 vetting ctl list out =
-    if ltb (length out) message_octets then lent ShortBuffer out else
+    if ltb (length out) message_octets then lent (Err ShortBuffer) out else
     shown (judged ctl (pdus list)) (joined (pdus list)) out
 
 -- this paper's number and values of each answer: the octets approved, the position of the fault
 pub data Word : Type 0 where
   approved : Word
 
-abbrev pub paper : Vetted → Paper Word
-paper (Approved len) = Given approved (len ∷ [])
-paper ShortBuffer = Refusal 16 []
-paper (Fault k) = Refusal 26 (k ∷ [])
-paper Unfinished = Refusal 27 []
+abbrev pub paper : Result ℕ Refusal → given.Paper Word
+paper (Ok len) = given.Given approved (len ∷ [])
+paper (Err ShortBuffer) = given.Refusal 16 []
+paper (Err (Fault k)) = given.Refusal 26 (k ∷ [])
+paper (Err Unfinished) = given.Refusal 27 []
 
 abbrev pub PaperApart : Type 0
-PaperApart = ToldApart paper
+PaperApart = given.ToldApart paper

@@ -9,11 +9,12 @@ pub enum OpcodeKind {
     OfAcknowledgement,
     // A control message, which goes whole or in segments.
     OfControl,
-    // Nothing: an opcode has 7 bits.
+    // Nothing: an opcode has 7 bits. A case and no Option: document 01 names the match of every octet by its range.
     NoOpcode,
 }
 
 // The kind of an opcode, by its range.
+#[tactic(auto, unfolding(crate::specs::Opcode::opcode_kind))]
 pub fn kind(opcode: u8) -> OpcodeKind
     ensures { result ≡ opcode_kind opcode }
 {

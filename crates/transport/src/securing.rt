@@ -4,7 +4,7 @@ ghost use Rattle.common.specs.Lent.{lent};
 ghost use Rattle.common.specs.Trials.{tries};
 ghost use Rattle.modes.specs.Ccm.{mic_octets};
 ghost use Rattle.transport.specs.declared.securing.Opener.TheVariants.{Labelled};
-ghost use Rattle.transport.specs.Securing.{trans_mic, message_nonce_of, opened_by, application_key_places, fits_key, virtual_kind, is_virtual, label_candidates, opens_message};
+ghost use Rattle.transport.specs.Securing.{trans_mic, message_nonce_of, opened_by, application_key_places, fits_key, is_virtual, label_candidates, opens_message};
 ghost use Rattle.transport.specs.Securing.{tried_as, under_key, by_application_keys, by_device_key, securing, unsecuring};
 
 use modes::ccm::MicSize;
@@ -33,7 +33,7 @@ pub struct LabelUuid {
     pub address: u16,
 }
 
-// What a node opens access messages by. Each number is read as at most the places that its array has.
+// What a node opens access messages by. A count stands beside each array, as there is no heap; it is read as at most the places that the array has.
 #[derive(Clone, Copy)]
 pub struct Held {
     // How many application keys there are, in their fixed order.
@@ -77,19 +77,20 @@ pub enum Opener {
     Device,
 }
 
+// An opened message: it stands in the first octets of the buffer, so many.
 #[derive(Clone, Copy)]
-pub enum Opened {
-    // The message stands in the first octets of the buffer.
-    Message {
-        opener: Opener,
-        // How many pairs of an application key and a label, or of a key alone, were tried: the place of the one that opened it, from 1; 0 for the device key.
-        trials: usize,
-        len: usize,
-    },
+pub struct Opened {
+    pub opener: Opener,
+    // How many pairs of an application key and a label, or of a key alone, were tried: the place of the one that opened it, from 1; 0 for the device key.
+    pub trials: usize,
+    pub len: usize,
+}
+
+// Why a message is not opened.
+#[derive(Clone, Copy)]
+pub enum Unopened {
     // 13: nothing that fits opens the message, or it is too short for payload and TransMIC.
-    NotOpened {
-        trials: usize,
-    },
+    NotOpened { trials: usize },
     // 16: the buffer is shorter than 384.
     ShortBuffer,
 }
@@ -97,13 +98,12 @@ pub enum Opened {
 // What became of the trials under one application key.
 #[derive(Clone, Copy)]
 pub struct Tried {
-    pub opened: bool,
     pub trials: usize,
-    // What opened the message; where nothing did, the key alone.
-    pub opener: Opener,
+    // What opened the message, if anything did.
+    pub opener: Option<Opener>,
 }
 
-// The size of the TransMIC.
+// The size of the TransMIC. It stands beside network's of the NetMIC: SZMIC tells this one and CTL that one, by two rules of the document.
 fn trans_mic(szmic: bool) -> MicSize
     ensures { result ≡ trans_mic szmic }
 {
@@ -117,6 +117,7 @@ fn mic_octets(szmic: bool) -> usize
 }
 
 // The nonce of a message under an application key if AKF is 1, else under the device key.
+#[tactic(auto, unfolding(crate::specs::Securing::message_nonce_of))]
 fn message_nonce(e: Envelope) -> [u8; 13]
     ensures { result ≡ message_nonce_of e }
 {
@@ -126,7 +127,9 @@ fn message_nonce(e: Envelope) -> [u8; 13]
     network::nonce::device(e.szmic, e.seq, e.src, e.dst, e.iv)
 }
 
-// Writes the message, encrypted under a key, and its TransMIC to the first octets of out. A label's octets are the additional data; to an address there is none.
+// Writes the message, encrypted under a key, and its TransMIC to the first octets of out. A label's octets are the additional data; to an address there is
+// none. The answer is a bool, as CCM's is (DECISIONS).
+#[tactic(auto, unfolding(modes::specs::Ccm::sealing_with, crate::specs::Securing::securing, crate::specs::Securing::secured))]
 pub fn secure(key: [u8; 16], e: Envelope, additional: &[u8], message: &[u8], out: &mut [u8]) -> bool
     ensures { lent result out.new ≡ securing key e additional.now message.now out.old }
 {
@@ -140,7 +143,8 @@ pub fn secure(key: [u8; 16], e: Envelope, additional: &[u8], message: &[u8], out
     )
 }
 
-// One key and additional data tried on a message: out is untouched where it does not authenticate.
+// One key and additional data tried on a message: out is untouched where it does not authenticate. A bool, as CCM answers.
+#[tactic(auto, unfolding(crate::specs::Securing::opened_by))]
 fn open_by(key: [u8; 16], e: Envelope, additional: &[u8], sealed: &[u8], out: &mut [u8]) -> bool
     ensures { lent result out.new ≡ opened_by key e additional.now sealed.now out.old }
 {
@@ -168,54 +172,38 @@ fn fits(e: Envelope, k: ApplicationKey) -> bool
     k.aid == e.aid && k.bound == e.network
 }
 
-// Whether a kind is virtual.
-fn virtual_kind(kind: AddressKind) -> bool
-    ensures { result ≡ virtual_kind kind }
-{
-    match kind {
-        AddressKind::Unassigned => false,
-        AddressKind::Unicast => false,
-        AddressKind::Virtual => true,
-        AddressKind::Group => false,
-        AddressKind::Reserved => false,
-    }
-}
-
 // Whether an address is virtual.
+#[tactic(auto, unfolding(crate::specs::Securing::is_virtual))]
 fn is_virtual(address: u16) -> bool
     ensures { result ≡ is_virtual address }
 {
-    virtual_kind(network::address::kind(address))
+    matches!(network::address::kind(address), AddressKind::Virtual)
 }
 
-// The labels of the message's DST are tried one by one under the application key at place i, stopping at the first that authenticates.
+// The labels of the message's DST are tried one by one under the application key at place i, stopping at the first that authenticates. What the trials take
+// is no struct: it would hold the buffer, and the contracts name what that held and holds.
 fn open_by_labels(held: Held, i: usize, e: Envelope, sealed: &[u8], out: &mut [u8]) -> Tried
     requires { i < application_key_places }
-    ensures { lent result out.new ≡ tried_as held i e sealed.now out.old (tries (opens_message held e sealed.now out.old) (map (Labelled i) (label_candidates held e.dst))) }
+    ensures { lent result out.new ≡ tried_as held e sealed.now out.old (tries (opens_message held e sealed.now out.old) (map (Labelled i) (label_candidates held e.dst))) }
 {
-    let appkeys = held.appkeys;
-    let k = appkeys[i];
-    let key = k.key;
-    let labels = held.labels;
+    let key = held.appkeys[i].key;
     let mut j: usize = 0;
     let mut trials: usize = 0;
+    // A loop that ends by break, the form that document 01 names for trials: it yields what became of them.
     loop {
         if LABELS <= j || held.labelled <= j {
             break Tried {
-                opened: false,
                 trials,
-                opener: Opener::Application(i),
+                opener: None,
             };
         }
-        let l = labels[j];
+        let l = held.labels[j];
         if l.address == e.dst {
             trials += 1;
-            let octets = l.octets;
-            if open_by_label(key, e, octets, sealed, out) {
+            if open_by_label(key, e, l.octets, sealed, out) {
                 break Tried {
-                    opened: true,
                     trials,
-                    opener: Opener::Labelled { key: i, label: j },
+                    opener: Some(Opener::Labelled { key: i, label: j }),
                 };
             }
         }
@@ -224,6 +212,7 @@ fn open_by_labels(held: Held, i: usize, e: Envelope, sealed: &[u8], out: &mut [u
 }
 
 // What is tried under the application key at place i: for a virtual DST each label of that address, for any other the key alone.
+#[tactic(auto, using(crate::proofs::SecuringLaws::under_labels))]
 fn open_under(held: Held, i: usize, e: Envelope, sealed: &[u8], out: &mut [u8]) -> Tried
     requires { i < application_key_places }
     ensures { lent result out.new ≡ under_key held i e sealed.now out.old }
@@ -231,40 +220,40 @@ fn open_under(held: Held, i: usize, e: Envelope, sealed: &[u8], out: &mut [u8]) 
     if is_virtual(e.dst) {
         return open_by_labels(held, i, e, sealed, out);
     }
-    let appkeys = held.appkeys;
-    let k = appkeys[i];
-    let key = k.key;
-    let none = [0u8; 0];
+    let opened = open_by(held.appkeys[i].key, e, &[], sealed, out);
     Tried {
-        opened: open_by(key, e, &none, sealed, out),
         trials: 1,
-        opener: Opener::Application(i),
+        opener: opened.then_some(Opener::Application(i)),
     }
 }
 
 // The application keys that fit are tried one by one, and what there is under each, stopping at the first that authenticates.
-fn open_by_application(held: Held, e: Envelope, sealed: &[u8], out: &mut [u8]) -> Opened
+fn open_by_application(
+    held: Held,
+    e: Envelope,
+    sealed: &[u8],
+    out: &mut [u8],
+) -> Result<Opened, Unopened>
     requires { mic_octets (trans_mic e.szmic) ≤ length sealed.now }
     ensures { lent result out.new ≡ by_application_keys held e sealed.now out.old }
 {
-    let appkeys = held.appkeys;
     let len = sealed.len() - mic_octets(e.szmic);
     let mut i: usize = 0;
     let mut trials: usize = 0;
+    // A loop that ends by break, the form that document 01 names for trials: it yields the answer.
     loop {
         if KEYS <= i || held.applications <= i {
-            break Opened::NotOpened { trials };
+            break Err(Unopened::NotOpened { trials });
         }
-        if fits(e, appkeys[i]) {
+        if fits(e, held.appkeys[i]) {
             let t = open_under(held, i, e, sealed, out);
-            let opener = t.opener;
             trials += t.trials;
-            if t.opened {
-                break Opened::Message {
+            if let Some(opener) = t.opener {
+                break Ok(Opened {
                     opener,
                     trials,
                     len,
-                };
+                });
             }
         }
         i += 1;
@@ -272,34 +261,39 @@ fn open_by_application(held: Held, e: Envelope, sealed: &[u8], out: &mut [u8]) -
 }
 
 // The device key, which is not counted.
-fn open_by_device(device: [u8; 16], e: Envelope, sealed: &[u8], out: &mut [u8]) -> Opened
+#[tactic(auto, unfolding(crate::specs::Securing::by_device_key))]
+fn open_by_device(
+    device: [u8; 16],
+    e: Envelope,
+    sealed: &[u8],
+    out: &mut [u8],
+) -> Result<Opened, Unopened>
     requires { mic_octets (trans_mic e.szmic) ≤ length sealed.now }
     ensures { lent result out.new ≡ by_device_key device e sealed.now out.old }
 {
-    let none = [0u8; 0];
-    if !open_by(device, e, &none, sealed, out) {
-        return Opened::NotOpened { trials: 0 };
+    if !open_by(device, e, &[], sealed, out) {
+        return Err(Unopened::NotOpened { trials: 0 });
     }
-    Opened::Message {
+    Ok(Opened {
         opener: Opener::Device,
         trials: 0,
         len: sealed.len() - mic_octets(e.szmic),
-    }
+    })
 }
 
 // Writes the message that was secured to the first octets of out; out is untouched where nothing held opens it.
-pub fn open(held: Held, e: Envelope, sealed: &[u8], out: &mut [u8]) -> Opened
+#[tactic(auto, using(modes::proofs::CcmLaws::mic_octets_bounds), unfolding(crate::specs::Securing::unsecuring))]
+pub fn open(held: Held, e: Envelope, sealed: &[u8], out: &mut [u8]) -> Result<Opened, Unopened>
     ensures { lent result out.new ≡ unsecuring held e sealed.now out.old }
 {
     if out.len() < MESSAGE {
-        return Opened::ShortBuffer;
+        return Err(Unopened::ShortBuffer);
     }
     if sealed.len() < 1 + mic_octets(e.szmic) {
-        return Opened::NotOpened { trials: 0 };
+        return Err(Unopened::NotOpened { trials: 0 });
     }
     if e.akf {
         return open_by_application(held, e, sealed, out);
     }
-    let device = held.device;
-    open_by_device(device, e, sealed, out)
+    open_by_device(held.device, e, sealed, out)
 }

@@ -9,10 +9,12 @@ ghost use Rattle.transport.specs.Listed.{pdus};
 ghost use Rattle.transport.specs.Segment.{full_octets};
 ghost use Rattle.transport.specs.Vetting.{octet_allowed, bit_allowed, least, stated_by, fills, fits, judged_from, judged, joined, vetting, paper};
 
+use super::form::SegmentFields;
+use super::listed::listed;
+
+// Why PDUs are not approved.
 #[derive(Clone, Copy)]
-pub enum Vetted {
-    // The upper transport PDU stands in the first octets of the buffer: so many.
-    Approved(usize),
+pub enum Refusal {
     // 16: the buffer is shorter than 384.
     ShortBuffer,
     // 26: with the PDUs before it this one, counted from 0, begins no message's segments.
@@ -30,58 +32,41 @@ struct Stated {
     segn: u8,
 }
 
-// What the PDUs are: all of a message, or not; the first at fault is named.
-#[derive(Clone, Copy)]
-enum Judged {
-    Whole,
-    Fault(usize),
-    Unfinished,
-}
-
 fn read_first(p: &[u8]) -> Stated
     ensures { result ≡ stated_by p.now }
 {
-    let n = super::form::number(
-        0,
-        common::octet(p, 1),
-        common::octet(p, 2),
-        common::octet(p, 3),
-    );
+    let fields = super::form::fields_in(p);
     Stated {
         first: common::octet(p, 0),
-        szmic: 8388608 <= n,
-        seqzero: (n / 1024 % 8192) as u16,
-        segn: (n % 32) as u8,
+        szmic: fields.szmic,
+        seqzero: fields.seqzero,
+        segn: fields.segn,
     }
 }
 
 // SEG is 1; CTL 0: AKF 1, or AKF 0 and AID 0; CTL 1: an opcode of 0x01-0x7F.
+#[tactic(auto, unfolding(crate::specs::Vetting::octet_allowed))]
 fn octet_allowed(ctl: bool, first: u8) -> bool
     ensures { result ≡ octet_allowed ctl first }
 {
-    if first < 128 {
-        return false;
-    }
-    if ctl {
-        return 0 < first % 128;
-    }
-    if 64 <= first % 128 {
-        return true;
-    }
-    first % 64 == 0
+    let rest = if ctl {
+        0 < first % 128
+    } else {
+        super::form::akf_of(first) || first % 64 == 0
+    };
+    super::form::seg_of(first) && rest
 }
 
 // Of a control segment the bit is RFU, and 0.
+#[tactic(auto, unfolding(crate::specs::Vetting::bit_allowed))]
 fn bit_allowed(ctl: bool, szmic: bool) -> bool
     ensures { result ≡ bit_allowed ctl szmic }
 {
-    if ctl {
-        return !szmic;
-    }
-    true
+    !ctl || !szmic
 }
 
 // The fewest octets of an upper transport PDU.
+#[tactic(auto, unfolding(crate::specs::Vetting::least))]
 fn fewest(ctl: bool, szmic: bool) -> usize
     ensures { result ≡ least ctl szmic }
 {
@@ -94,113 +79,75 @@ fn fewest(ctl: bool, szmic: bool) -> usize
     5
 }
 
-// The octets of n full segments.
-fn full(ctl: bool, n: u8) -> usize
-    ensures { result ≡ full_octets ctl * n }
-{
-    if ctl {
-        return 8 * (n as usize);
-    }
-    12 * (n as usize)
-}
-
 // Whether segment k of a message with SegN n may have so many octets behind its front: each before the last is full, and the last has one at least and
 // brings the message to its least length.
+#[tactic(auto, unfolding(crate::specs::Vetting::fills))]
 fn fills_up(ctl: bool, szmic: bool, k: usize, n: u8, octets: usize) -> bool
     ensures { result ≡ fills (full_octets ctl) (least ctl szmic) k n octets }
 {
-    let size = full(ctl, 1);
+    let size = super::segment::full_octets(ctl);
     if k < n as usize {
         return octets == size;
     }
-    if octets < 1 {
-        return false;
-    }
-    if size < octets {
-        return false;
-    }
-    fewest(ctl, szmic) <= full(ctl, n) + octets
+    1 <= octets && octets <= size && fewest(ctl, szmic) <= size * n as usize + octets
 }
 
 // Whether p may be PDU k of a message of which PDU 0 states s.
+#[tactic(auto, using(crate::proofs::VettingRules::short_front), unfolding(crate::specs::Vetting::fits))]
 fn fit(ctl: bool, s: Stated, k: usize, p: &[u8]) -> bool
     ensures { result ≡ fits ctl s k p.now }
 {
-    if !octet_allowed(ctl, s.first) {
+    if (s.segn as usize) < k || p.len() < 4 {
         return false;
     }
-    if !bit_allowed(ctl, s.szmic) {
-        return false;
-    }
-    let last = s.segn as usize;
-    if last < k {
-        return false;
-    }
-    if p.len() < 4 {
-        return false;
-    }
-    let front = super::segment::front(s.first, s.szmic, s.seqzero, k as u8, s.segn);
-    if !common::equal(&p[..4], &front) {
-        return false;
-    }
-    fills_up(ctl, s.szmic, k, s.segn, p.len() - 4)
+    let fields = SegmentFields {
+        szmic: s.szmic,
+        seqzero: s.seqzero,
+        sego: k as u8,
+        segn: s.segn,
+    };
+    let front = super::segment::front(s.first, fields);
+    octet_allowed(ctl, s.first)
+        && bit_allowed(ctl, s.szmic)
+        && common::equal(&p[..4], &front)
+        && fills_up(ctl, s.szmic, k, s.segn, p.len() - 4)
 }
 
-// Where the PDU ends whose length stands at `at`: the length counts as far as there are octets.
-fn end_of(list: &[u8], at: usize) -> usize
-    requires { at < length list.now }
-    ensures { result ≡ min (at + 1 + get_or list.now at 0) (length list.now) }
-{
-    let start = at + 1;
-    let len = common::octet(list, at) as usize;
-    if list.len() - start < len {
-        return list.len();
-    }
-    start + len
-}
-
-// Judges the PDUs of a list, of which PDU 0 states s.
-fn judge_by(ctl: bool, s: Stated, list: &[u8]) -> Judged
+// Judges the PDUs of a list, of which PDU 0 states s: they are all of a message, or the first at fault is named, or they end too early.
+#[tactic(auto, using(crate::proofs::ListedLaws::pdus_most), unfolding(crate::specs::Vetting::judged_from))]
+fn judge_by(ctl: bool, s: Stated, list: &[u8]) -> Result<(), Refusal>
     ensures { result ≡ judged_from ctl s 0 (pdus list.now) }
 {
+    // k is wanted behind the loop, too: there it says how many PDUs there are.
     let mut k: usize = 0;
-    let mut at: usize = 0;
-    while at < list.len() {
-        let start = at + 1;
-        let end = end_of(list, at);
-        if !fit(ctl, s, k, &list[start..end]) {
-            return Judged::Fault(k);
+    for p in listed(list) {
+        if !fit(ctl, s, k, p) {
+            return Err(Refusal::Fault(k));
         }
         k += 1;
-        at = end;
     }
     if k <= s.segn as usize {
-        return Judged::Unfinished;
+        return Err(Refusal::Unfinished);
     }
-    Judged::Whole
+    Ok(())
 }
 
 // Judges the PDUs of a list by what the first of them states.
-fn judge(ctl: bool, list: &[u8]) -> Judged
+#[tactic(auto, unfolding(crate::specs::Vetting::judged, crate::specs::Vetting::judged_from))]
+fn judge(ctl: bool, list: &[u8]) -> Result<(), Refusal>
     ensures { result ≡ judged ctl (pdus list.now) }
 {
-    if list.len() == 0 {
-        return Judged::Unfinished;
-    }
-    let end = end_of(list, 0);
-    let s = read_first(&list[1..end]);
-    judge_by(ctl, s, list)
+    let Some(p) = listed(list).next() else {
+        return Err(Refusal::Unfinished);
+    };
+    judge_by(ctl, read_first(p), list)
 }
 
-// Where the octets behind the front begin of a PDU that goes from start to end: at its end where it is no longer than a front.
-fn behind_front(start: usize, end: usize) -> usize
-    requires { start ≤ end }
-    ensures { result ≡ min (start + 4) end }
+// The octets behind the front of a PDU: none where it is no longer than a front.
+fn behind_front(p: &[u8]) -> &[u8]
+    ensures { result.now ≡ drop 4 p.now }
 {
-    if end - start < 4 {
-        return end;
-    }
-    start + 4
+    &p[p.len().min(4)..]
 }
 
 // Lays octets onto out from `to` on.
@@ -217,39 +164,36 @@ fn join(list: &[u8], out: &mut [u8]) -> usize
     ensures { lent result out.new ≡ lent (length (joined (pdus list.now))) (onto (joined (pdus list.now)) out.old) }
 {
     let mut to: usize = 0;
-    let mut at: usize = 0;
-    while at < list.len() {
-        let end = end_of(list, at);
-        let start = behind_front(at + 1, end);
-        lay(&list[start..end], out, to);
-        to += end - start;
-        at = end;
+    for p in listed(list) {
+        let octets = behind_front(p);
+        lay(octets, out, to);
+        to += octets.len();
     }
     to
 }
 
-// Vets the PDUs of a list. Only where they are approved something is written to out: the upper transport PDU, into its first octets.
-pub fn vet(ctl: bool, list: &[u8], out: &mut [u8]) -> Vetted
+// Vets the PDUs of a list. Only where they are approved something is written to out: the upper transport PDU, into its first octets, so many.
+#[tactic(auto, using(crate::proofs::VetRules::vet_rules, crate::proofs::VetRules::vet_room))]
+pub fn vet(ctl: bool, list: &[u8], out: &mut [u8]) -> Result<usize, Refusal>
     ensures { lent result out.new ≡ vetting ctl list.now out.old }
 {
     if out.len() < super::securing::MESSAGE {
-        return Vetted::ShortBuffer;
+        return Err(Refusal::ShortBuffer);
     }
-    match judge(ctl, list) {
-        Judged::Whole => Vetted::Approved(join(list, out)),
-        Judged::Fault(k) => Vetted::Fault(k),
-        Judged::Unfinished => Vetted::Unfinished,
-    }
+    judge(ctl, list)?;
+    Ok(join(list, out))
 }
 
 // This paper's number of an answer: 0 where nothing is refused.
-pub fn number(v: Vetted) -> u32
+pub fn number(v: Result<usize, Refusal>) -> u32
     ensures { result ≡ number_of (paper v) }
 {
-    match v {
-        Vetted::Approved(_) => 0,
-        Vetted::ShortBuffer => 16,
-        Vetted::Fault(_) => 26,
-        Vetted::Unfinished => 27,
+    let Err(refusal) = v else {
+        return 0;
+    };
+    match refusal {
+        Refusal::ShortBuffer => 16,
+        Refusal::Fault(_) => 26,
+        Refusal::Unfinished => 27,
     }
 }

@@ -5,7 +5,8 @@
 #![tactic(auto)]
 
 use receiver::state::Receiver;
-use sending::request::{Destination, Request, Ttl};
+use sending::request::{Destination, Request};
+use text::writer::Writer;
 use transport::securing::MessageKey;
 
 // The group that listens for the wind.
@@ -25,11 +26,8 @@ fn main() {
 // Answers each octet in turn.
 fn answer_all(r: Receiver, questions: &[u8]) {
     let mut wind_box = r;
-    let mut i: usize = 0;
-    while i < questions.len() {
-        let after = answer(wind_box, questions[i]);
-        wind_box = after;
-        i += 1;
+    for &question in questions {
+        wind_box = answer(wind_box, question);
     }
 }
 
@@ -46,7 +44,7 @@ fn send_status(wind_box: Receiver, force: u8) -> Receiver {
     let request = Request {
         element: 0,
         dst: Destination::Address(LISTENERS),
-        ttl: Ttl::Named(TTL),
+        ttl: Some(TTL),
         network: 0,
     };
     // A vendor's opcode of three octets (MP 3.7.3.1), and the force.
@@ -60,10 +58,10 @@ fn send_status(wind_box: Receiver, force: u8) -> Receiver {
         &status,
         &mut pdu,
     );
-    let answer = spoken.answer;
-    let next = wind_box.next;
+    // Beside its like in other programs: what writes to standard output stays in the program, since no equation could be its contract.
     let mut line = [0u8; 128];
-    let n = site::words::put_said(next[0], answer, &pdu, &mut line, 0);
-    io::write_all(1, text::first(&line, n));
+    let mut w = Writer::new(&mut line, 0);
+    site::words::put_said(wind_box.next[0], spoken.answer, &pdu, &mut w);
+    io::write_all(1, w.text());
     spoken.receiver
 }

@@ -1,26 +1,14 @@
--- `aes::add_round_key` meets its contract: the loop fills sixteen bytes, each the xor of the two at its place.
+-- `aes::add_round_key` meets its contract: the closure xors the two bytes at its place.
 -- Assumes nothing.
-use mathlib.Core.Path.{refl}
-use native.Mathlib.Omega.{arith}
-use lib.Bits.{bit_xor}
-use lib.ListN.{get_or, replicate}
+use Rattle.std.proofs.Common.{rules, slice_index_or}
+use Rattle.std.specs.Int.Bits.{bit_xor}
 use Rattle.common.specs.Lists.{xored}
-use Rattle.common.proofs.Fill.{filled_none, filled_more, filled_all}
+use Rattle.common.proofs.Calls.{from_fn_is}
 use Rattle.aes.specs.Cipher.{add_round_key}
 use Rattle.aes.proofs.add_round_key.Goals as goal
-
-pub loop-i-init : goal.loop-i-init
-loop-i-init c = let a = c.args in filled_none 0 (λ j. bit_xor (get_or a.s j 0) (get_or a.k j 0)) 16 (replicate 16 0) refl
-
-pub loop-i-preserved : goal.loop-i-preserved
-loop-i-preserved c =
-    let l = c.loop-i in
-    let a = c.args in
-    filled_more 0 (λ j. bit_xor (get_or a.s j 0) (get_or a.k j 0)) 16 l.r l.i _ l.invariant (omega arith) refl
 
 pub returns : goal.returns
 unfolding add_round_key xored
 returns c =
-    let l = c.loop-i in
     let a = c.args in
-    filled_all 0 (λ j. bit_xor (get_or a.s j 0) (get_or a.k j 0)) 16 _ l.i l.invariant (omega arith)
+    from_fn_is _ _ (λ i. bit_xor (slice_index_or a.s i 0) (slice_index_or a.k i 0)) 16 (λ i y q l k. search rules) 0 _ c.from_fn.ensures.items

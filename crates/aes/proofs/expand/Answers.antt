@@ -18,23 +18,22 @@ loop-i-init c =
     let key = c.args.key in
     let first = round_key_first key c.well_formed.0.1.0.1 in
     let zeros : List (List ℕ) = replicate 11 (replicate 16 0) in
-    (search rules, filled_more [] (round_key key) 11 zeros 0 key (filled_none [] (round_key key) 11 zeros refl) (search rules) first, refl)
+    (filled_more [] (round_key key) 11 zeros 0 key (filled_none [] (round_key key) 11 zeros refl) (search rules) first, refl)
 
 pub loop-i-preserved : goal.loop-i-preserved
 loop-i-preserved c =
     let l = c.loop-i in
     let key = c.args.key in
     let p = l.invariant in
-    let before = p.1.2 (l.i - 1) (omega arith) in
-    let next = key_more key l.i p.0 p.2 before c.next_key-next.ensures in
+    let before = p.0.2 (l.i - 1) (omega arith) in
+    let next = key_more key l.i (search rules) p.1 before c.next_key.ensures in
     let back : l.i ≡ l.i + 1 - 1 = omega arith in (
-      search rules,
-      filled_more [] (round_key key) 11 l.ks l.i _ p.1 (search rules) next,
-      power_more key l.i p.0 p.2 c.twice-rc.ensures ∙ ap x_power back,
+      filled_more [] (round_key key) 11 l.ks l.i _ p.0 (search rules) next,
+      power_more key l.i (search rules) p.1 c.twice-rc.ensures ∙ ap x_power back,
     )
 
 pub returns : goal.returns
 unfolding key_schedule
 returns c =
     let l = c.loop-i in
-    filled_all [] (round_key c.args.key) 11 _ l.i l.invariant.1 (omega arith)
+    filled_all [] (round_key c.args.key) 11 _ l.i l.invariant.0 (omega arith)

@@ -3,17 +3,8 @@
 use mathlib.Core.Path.{◌≡◌}
 use borrow.Author.Rules.{rules}
 use lib.ListN.{length}
-use Rattle.radio.proofs.SealLaws.{sealed_most, seal_rules}
+use Rattle.radio.proofs.SealLaws.{sealed_most, seal_told}
 use Rattle.radio.proofs.gorephan_seal.Goals as goal
-
-pub returns-then-out-lt-PDU : goal.returns-then-out-lt-PDU
-returns-then-out-lt-PDU c = search seal_rules
-
-pub returns-then-credential-ne33 : goal.returns-then-credential-ne33
-returns-then-credential-ne33 c = search seal_rules
-
-pub returns-then-ctl-gt1 : goal.returns-then-ctl-gt1
-returns-then-ctl-gt1 c = search seal_rules
 
 pub seal_number-requires : goal.seal_number-requires
 seal_number-requires c =
@@ -22,4 +13,4 @@ seal_number-requires c =
     sealed_most _ _ _ sixteen c.seal.ensures
 
 pub returns : goal.returns
-returns c = search seal_rules
+returns c = search seal_told

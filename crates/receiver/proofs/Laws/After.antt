@@ -8,14 +8,14 @@ use mathlib.Core.List.{List}
 use mathlib.Core.Path.{◌≡◌, refl, ap}
 use Prim.Native.Nat.{ℕ, ◌≤◌}
 use lib.ListN.{length}
-use Rattle.std.specs.Prelude.{if◌then◌else◌}
+use Rattle.std.specs.Prelude.{Result, Ok, Err, if◌then◌else◌}
 use Rattle.common.specs.Lent.{Lent}
 use Rattle.network.specs.declared.header.Header.{Header}
 use Rattle.transport.specs.Segment.{message_octets}
 use Rattle.memory.specs.Session.{no_session, slot_for}
 use Rattle.memory.proofs.Within.{opens_slot}
 use Rattle.receiver.specs.declared.answer.Answer.{Answer}
-use Rattle.receiver.specs.declared.answer.Answer.TheVariants.{Refused, Stored, Repeated, Access, Control, Acknowledgement}
+use Rattle.receiver.specs.declared.answer.Answer.TheVariants.{Stored, Repeated, Access, Control, Acknowledgement}
 use Rattle.receiver.specs.declared.answer.Refusal.{Refusal}
 use Rattle.receiver.specs.declared.answer.Taken.{Taken}
 use Rattle.receiver.specs.declared.state.Receiver.{Receiver}
@@ -31,13 +31,13 @@ abbrev pub left_behind : Receiver → Header → Refusal → Receiver
 left_behind q h n = if frees_slot h n then with_session q (slot_for q.sessions (record { src = h.src })) no_session else q
 
 -- what an answer leaves, by its case
-abbrev pub After : Receiver → Header → List ℕ → Answer → Receiver → List ℕ → Type 0
-After q h msg (Refused n) left buf = (left ≡ left_behind q h n) × (buf ≡ msg) × (late n ≡ true)
-After q h msg (Stored src auth bits) left buf = Unit {0}
-After q h msg (Repeated src auth bits) left buf = Unit {0}
-After q h msg (Access src dst net key pair len) left buf = Unit {0}
-After q h msg (Control src dst net opcode pair len) left buf = Unit {0}
-After q h msg (Acknowledgement src bits effect) left buf = Unit {0}
+abbrev pub After : Receiver → Header → List ℕ → Result Answer Refusal → Receiver → List ℕ → Type 0
+After q h msg (Err n) left buf = (left ≡ left_behind q h n) × (buf ≡ msg) × (late n ≡ true)
+After q h msg (Ok (Stored src auth bits)) left buf = Unit {0}
+After q h msg (Ok (Repeated src auth bits)) left buf = Unit {0}
+After q h msg (Ok (Access src dst net key pair len)) left buf = Unit {0}
+After q h msg (Ok (Control src dst net opcode pair len)) left buf = Unit {0}
+After q h msg (Ok (Acknowledgement src bits effect)) left buf = Unit {0}
 
 module _ (q : Receiver) (h : Header) (msg : List ℕ) (room : message_octets ≤ length msg) where
   abbrev AfterTaken : Lent Taken → Type 0

@@ -5,13 +5,15 @@
 use mathlib.Core.Bool.{Bool}
 use mathlib.Core.List.{List}
 use mathlib.Core.Path.{◌≡◌, refl, ap}
+use Rattle.std.specs.Prelude.{Ok, Err}
 use Prim.Native.Nat.{ℕ}
 use lib.Dec.{eqb, ltb}
 use lib.ListN.{length, drop}
+use Rattle.std.specs.Prelude.{Option, Some, None, Result, Ok, Err}
 use Rattle.common.specs.Lent.{Lent, lent}
 use Rattle.network.specs.declared.header.Header.{Header}
-use Rattle.network.specs.declared.opening.Answer as opening_answer
-use Rattle.network.specs.declared.opening.Answer.TheVariants as network
+use Rattle.network.specs.declared.opening.Refusal as network_refusal
+use Rattle.network.specs.declared.opening.Refusal.TheVariants as network
 use Rattle.network.specs.Header.{transport_of}
 use Rattle.network.specs.Pdu.{pdu_octets}
 use Rattle.network.proofs.AddressLaws.{unicast_some}
@@ -19,20 +21,19 @@ use Rattle.transport.specs.declared.form.Form.{Form}
 use Rattle.transport.specs.declared.form.Form.TheVariants as form
 use Rattle.transport.specs.declared.form.SegmentFields.{SegmentFields}
 use Rattle.transport.specs.declared.securing.Opened.{Opened}
-use Rattle.transport.specs.declared.securing.Opened.TheVariants.{Message, NotOpened, ShortBuffer}
-use Rattle.transport.specs.declared.seq_auth.SeqAuth.{SeqAuth}
-use Rattle.transport.specs.declared.seq_auth.SeqAuth.TheVariants.{At, Nowhere}
+use Rattle.transport.specs.declared.securing.Unopened.{Unopened}
+use Rattle.transport.specs.declared.securing.Unopened.TheVariants.{NotOpened, ShortBuffer}
 use Rattle.transport.specs.Form.{form_of}
 use Rattle.transport.specs.Securing.{unsecuring}
 use Rattle.transport.specs.Segment.{message_octets}
 use Rattle.transport.specs.SeqAuth.{seq_auth}
-use Rattle.memory.specs.declared.decision.Decision.{Decision}
 use Rattle.memory.specs.declared.decision.Decision.TheVariants as decided
+use Rattle.memory.specs.declared.decision.Refusal.TheVariants as declined
 use Rattle.memory.specs.declared.replay.Entry.{Entry}
 use Rattle.memory.specs.declared.session.Segment.{Segment}
 use Rattle.memory.specs.declared.session.Session.{Session}
 use Rattle.memory.specs.Cache.{seen}
-use Rattle.memory.specs.Decision.{decision_by}
+use Rattle.memory.specs.Decision.{Decided, decision_by}
 use Rattle.memory.specs.Replay.{Listing}
 use Rattle.memory.specs.Session.{session_slots, no_session, session_at, session_place, begun, stored, complete}
 use Rattle.memory.proofs.Agree.{Agree, agree_accepted, agree_handed_up, agree_decision}
@@ -41,8 +42,6 @@ use Rattle.receiver.specs.declared.answer.Refusal.{Refusal}
 use Rattle.receiver.specs.declared.answer.Taken.{Taken}
 use Rattle.receiver.specs.declared.give_up.GivenUp.{GivenUp}
 use Rattle.receiver.specs.declared.state.Receiver.{Receiver}
-use Rattle.receiver.specs.declared.whole.Admission.{Admission}
-use Rattle.receiver.specs.declared.whole.Admission.TheVariants.{Admitted, Replayed, NoEntryLeft}
 use Rattle.receiver.specs.GiveUp.{giving_up}
 use Rattle.receiver.specs.Hearing.{Outcome, outcome, relayed, taken_as_by, taken_by, passed_by, uncached_by, voiced_by, opened_as_by, hearing_by}
 use Rattle.receiver.specs.Segmented.{segment_of, message_of, session_envelope, upgraded_by, control_up_by, access_up_as_by, access_up_by, gathered_by, placed_as_by, placed_by}
@@ -75,11 +74,10 @@ bare_given_up x = record { answer = x.answer; receiver = unlisted x.receiver }
 
 -- 9 and 11, or what an admitted message leaves: what holds on each way
 by_unless :
-    {A : Type 0} (R : A → A → Type 0) (a : Admission) {f g : Refusal → A} {t u : A} → ((m : Refusal) → R (f m) (g m)) → R t u → R (unless a f t) (unless a g u)
+    {A : Type 0} (R : A → A → Type 0) (a : Result Unit Refusal) {f g : Refusal → A} {t u : A} → ((m : Refusal) → R (f m) (g m)) → R t u → R (unless a f t) (unless a g u)
 unfolding unless
-by_unless R Replayed refuses admits = refuses _
-by_unless R NoEntryLeft refuses admits = refuses _
-by_unless R Admitted refuses admits = admits
+by_unless R (Err m) refuses admits = refuses m
+by_unless R (Ok _) refuses admits = admits
 
 module _ {o n : Listing} {Both : List Entry → List Entry → Type 0} (agree : Agree o n Both) where
   abbrev AlikeTaken : Lent Taken → Lent Taken → Type 0
@@ -97,17 +95,17 @@ module _ {o n : Listing} {Both : List Entry → List Entry → Type 0} (agree : 
     module _ (r : Receiver) (s : Session) (msg : List ℕ) where
       agree_upgraded : Both (upgraded_by o (with_replay r a) s).replay (upgraded_by n (with_replay r b) s).replay
       unfolding upgraded_by
-      agree_upgraded = agree_handed_up agree both s.src s.auth s.terms.segn s.terms.dst
+      agree_upgraded = agree_handed_up agree both s.src (record { auth = s.auth; segn = s.terms.segn; dst = s.terms.dst })
 
       agree_control_up : TakesAlike (λ by l. control_up_by by (with_replay r l) s msg)
       unfolding control_up_by upgraded_by
       agree_control_up = record { same = refl; lists = agree_upgraded }
 
-      agree_access_as : (x : Opened) (left : List ℕ) → TakesAlike (λ by l. lent (access_up_as_by by (with_replay r l) s x) left)
+      agree_access_as : (x : Result Opened Unopened) (left : List ℕ) → TakesAlike (λ by l. lent (access_up_as_by by (with_replay r l) s x) left)
       unfolding access_up_as_by upgraded_by
-      agree_access_as (Message opener trials len) left = record { same = refl; lists = agree_upgraded }
-      agree_access_as (NotOpened trials) left = record { same = refl; lists = both }
-      agree_access_as ShortBuffer left = record { same = refl; lists = both }
+      agree_access_as (Ok o) left = record { same = refl; lists = agree_upgraded }
+      agree_access_as (Err (NotOpened trials)) left = record { same = refl; lists = both }
+      agree_access_as (Err ShortBuffer) left = record { same = refl; lists = both }
 
       agree_access_up : TakesAlike (λ by l. access_up_by by (with_replay r l) s msg)
       unfolding access_up_by
@@ -122,24 +120,24 @@ module _ {o n : Listing} {Both : List Entry → List Entry → Type 0} (agree : 
 
     -- ---- a header whose source is not 0
     module _ (r : Receiver) (h : Header) (sourced : h.src ≡ 0 → ⊥) (msg : List ℕ) where
-      agree_placed_as : (d : Decision) (seg : Segment) → TakesAlike (λ by l. placed_as_by by d (with_replay r l) h seg msg)
+      agree_placed_as : (d : Decided) (seg : Segment) → TakesAlike (λ by l. placed_as_by by d (with_replay r l) h seg msg)
       unfolding placed_as_by
-      agree_placed_as decided.Stale seg = record { same = refl; lists = both }
-      agree_placed_as decided.Differs seg = record { same = refl; lists = both }
-      agree_placed_as decided.NoEntryLeft seg = record { same = refl; lists = both }
-      agree_placed_as decided.NoSlotLeft seg = record { same = refl; lists = both }
-      agree_placed_as (decided.Repeat bits) seg = record { same = refl; lists = both }
-      agree_placed_as (decided.Join slot) seg = agree_gathered r slot (stored (session_at r.sessions slot) h seg.sego) msg
-      agree_placed_as (decided.Open slot) seg = agree_gathered r slot (stored (begun h.src seg) h seg.sego) msg
+      agree_placed_as (Err declined.Stale) seg = record { same = refl; lists = both }
+      agree_placed_as (Err declined.Differs) seg = record { same = refl; lists = both }
+      agree_placed_as (Err declined.NoEntryLeft) seg = record { same = refl; lists = both }
+      agree_placed_as (Err declined.NoSlotLeft) seg = record { same = refl; lists = both }
+      agree_placed_as (Ok (decided.Repeat bits)) seg = record { same = refl; lists = both }
+      agree_placed_as (Ok (decided.Join slot)) seg = agree_gathered r slot (stored (session_at r.sessions slot) h seg.sego) msg
+      agree_placed_as (Ok (decided.Open slot)) seg = agree_gathered r slot (stored (begun h.src seg) h seg.sego) msg
 
       agree_placed : (seg : Segment) → TakesAlike (λ by l. placed_by by (with_replay r l) h seg msg)
       unfolding placed_by
       agree_placed seg = rw (agree_decision agree both r.sessions h.src seg sourced) (agree_placed_as (decision_by n b r.sessions h.src seg) seg)
 
-      agree_segmented_as : (s : SeqAuth) (fields : SegmentFields) → TakesAlike (λ by l. segmented_as_by by s (with_replay r l) h fields msg)
+      agree_segmented_as : (s : Option ℕ) (fields : SegmentFields) → TakesAlike (λ by l. segmented_as_by by s (with_replay r l) h fields msg)
       unfolding segmented_as_by
-      agree_segmented_as Nowhere fields = record { same = refl; lists = both }
-      agree_segmented_as (At auth) fields = agree_placed (segment_of h fields auth)
+      agree_segmented_as None fields = record { same = refl; lists = both }
+      agree_segmented_as (Some auth) fields = agree_placed (segment_of h fields auth)
 
       agree_segmented : (fields : SegmentFields) → TakesAlike (λ by l. segmented_by by (with_replay r l) h fields msg)
       unfolding segmented_by
@@ -159,11 +157,11 @@ module _ {o n : Listing} {Both : List Entry → List Entry → Type 0} (agree : 
       unfolding admitted_by
       agree_admitted = agree_accepted agree both h.src (pair_of h)
 
-      agree_opened_as : (x : Opened) (left : List ℕ) → TakesAlike (λ by l. lent (whole.opened_as_by by (with_replay r l) h x) left)
+      agree_opened_as : (x : Result Opened Unopened) (left : List ℕ) → TakesAlike (λ by l. lent (whole.opened_as_by by (with_replay r l) h x) left)
       unfolding whole.opened_as_by admitted_by
-      agree_opened_as (Message opener trials len) left = record { same = refl; lists = agree_admitted }
-      agree_opened_as (NotOpened trials) left = record { same = refl; lists = both }
-      agree_opened_as ShortBuffer left = record { same = refl; lists = both }
+      agree_opened_as (Ok o) left = record { same = refl; lists = agree_admitted }
+      agree_opened_as (Err (NotOpened trials)) left = record { same = refl; lists = both }
+      agree_opened_as (Err ShortBuffer) left = record { same = refl; lists = both }
 
       agree_access : (akf : Bool) (aid : ℕ) → TakesAlike (λ by l. whole_access_by by (with_replay r l) h akf aid msg)
       unfolding whole_access_by whole.opened_whole_by
@@ -182,14 +180,14 @@ module _ {o n : Listing} {Both : List Entry → List Entry → Type 0} (agree : 
           (record { same = refl; lists = agree_admitted })
 
       -- ---- a PDU that is in the cache
-      agree_taken_as : (f : Form) → TakesAlike (λ by l. taken_as_by by f (with_replay r l) h msg)
+      agree_taken_as : (f : Option Form) → TakesAlike (λ by l. taken_as_by by f (with_replay r l) h msg)
       unfolding taken_as_by
-      agree_taken_as form.Wrong = record { same = refl; lists = both }
-      agree_taken_as (form.Access akf aid) = agree_access akf aid
-      agree_taken_as (form.AccessSegment akf aid fields) = agree_segmented fields
-      agree_taken_as (form.Control opcode) = agree_control opcode
-      agree_taken_as (form.ControlSegment opcode fields) = agree_segmented fields
-      agree_taken_as (form.Acknowledgement obo seq_zero bits) = agree_acknowledgement obo seq_zero bits
+      agree_taken_as None = record { same = refl; lists = both }
+      agree_taken_as (Some (form.Access akf aid)) = agree_access akf aid
+      agree_taken_as (Some (form.AccessSegment akf aid fields)) = agree_segmented fields
+      agree_taken_as (Some (form.Control opcode)) = agree_control opcode
+      agree_taken_as (Some (form.ControlSegment opcode fields)) = agree_segmented fields
+      agree_taken_as (Some (form.Acknowledgement obo seq_zero bits)) = agree_acknowledgement obo seq_zero bits
 
       agree_taken : TakesAlike (λ by l. taken_by by (with_replay r l) h msg)
       unfolding taken_by
@@ -221,14 +219,15 @@ module _ {o n : Listing} {Both : List Entry → List Entry → Type 0} (agree : 
       unfolding voiced_by
       agree_voiced sourced = alike_choice (is_local r.node h.src) (λ _. record { same = refl; lists = both }) (λ _. agree_uncached sourced)
 
-      agree_heard_as :
-          (x : opening_answer.Answer) → (x ≡ network.Opened → h.src ≡ 0 → ⊥) → HearsAlike (λ by l. opened_as_by by x (with_replay r l) h trials fwd msg)
-      unfolding opened_as_by
-      agree_heard_as network.WrongLength sourced = record { same = refl; lists = both }
-      agree_heard_as network.NoCandidate sourced = record { same = refl; lists = both }
-      agree_heard_as network.NotAuthentic sourced = record { same = refl; lists = both }
-      agree_heard_as network.WrongAddress sourced = record { same = refl; lists = both }
-      agree_heard_as network.Opened sourced = agree_voiced (sourced refl)
+    agree_heard_as :
+        (r : Receiver) (trials : ℕ) (fwd msg : List ℕ) (x : Result Header network_refusal.Refusal) → ((h : Header) → x ≡ Ok h → h.src ≡ 0 → ⊥)
+        → HearsAlike (λ by l. opened_as_by by x (with_replay r l) trials fwd msg)
+    unfolding opened_as_by
+    agree_heard_as r trials fwd msg (Err network.WrongLength) sourced = record { same = refl; lists = both }
+    agree_heard_as r trials fwd msg (Err network.NoCandidate) sourced = record { same = refl; lists = both }
+    agree_heard_as r trials fwd msg (Err network.NotAuthentic) sourced = record { same = refl; lists = both }
+    agree_heard_as r trials fwd msg (Err network.WrongAddress) sourced = record { same = refl; lists = both }
+    agree_heard_as r trials fwd msg (Ok h) sourced = agree_voiced r h trials fwd msg (sourced h refl)
 
   -- ---- the calls
   pub agree_hearing :
@@ -239,8 +238,8 @@ module _ {o n : Listing} {Both : List Entry → List Entry → Type 0} (agree : 
       let x = opening_of r pdu in
       alike_choice (ltb (length fwd) pdu_octets) (λ _. record { same = refl; lists = both })
       (λ t. alike_choice (ltb (length msg) message_octets) (λ _. record { same = refl; lists = both })
-      (λ u. agree_heard_as both r x.header x.trials fwd msg x.answer
-      (λ e. unicast_some x.header.src (opens_clear (opens_so r fwd msg pdu t u e)).unicast)))
+      (λ u. agree_heard_as both r x.trials fwd msg x.opened
+      (λ h e. unicast_some h.src (opens_clear (opens_so r fwd msg pdu t u e)).unicast)))
 
   pub agree_giving_up :
       (r : Receiver) {a b : List Entry} → Both a b → (src : ℕ) → Alike Both (λ x. x.receiver) bare_given_up (giving_up (with_replay r a) src) (giving_up (with_replay r b) src)

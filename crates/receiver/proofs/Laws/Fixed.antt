@@ -68,4 +68,4 @@ module _ (r : Receiver) (fwd msg : List ℕ) where
   pub fixed_heard : (pdu : List ℕ) → Fixed r (hearing r pdu fwd msg).heard.receiver
   fixed_heard pdu =
       walk_hearing r fwd msg pdu (λ (o : Outcome). Fixed r o.heard.receiver) (λ _ _ _. record { setup_stays = refl; index_stays = refl; next_stays = refl })
-      (λ p. fixed_passed p.opened.big _ _)
+      (λ h p. fixed_passed p.opened.big h _)

@@ -16,12 +16,13 @@ use Prim.Native.Nat.{ℕ, ◌≤◌}
 use borrow.Author.Tests.{le-ltb, ltb-false}
 use lib.Dec.{eqb, leb, ltb}
 use lib.ListN.{length}
+use Rattle.std.specs.Prelude.{Result, Ok, Err}
 use Rattle.common.specs.Lent.{Lent, lent}
 use Rattle.common.specs.Paper.{number_of}
 use Rattle.common.proofs.Tests.{by_choice}
 use Rattle.network.specs.declared.header.Header.{Header}
-use Rattle.network.specs.declared.opening.Answer as opening_answer
-use Rattle.network.specs.declared.opening.Answer.TheVariants as network
+use Rattle.network.specs.declared.opening.Refusal as network_refusal
+use Rattle.network.specs.declared.opening.Refusal.TheVariants as network
 use Rattle.network.specs.declared.opening.Opening.{Opening}
 use Rattle.network.specs.Opening as opened
 use Rattle.network.specs.Opening.{opening}
@@ -70,73 +71,73 @@ module _ (r : Receiver) (fwd msg pdu : List ℕ) where
   abbrev o : Opening
   o = opening_of r pdu
 
-  -- the buffers are long enough, and it opens to its header
+  -- the buffers are long enough, and it opens to a header
   pub opens_so :
-      ltb (length fwd) pdu_octets ≡ false → ltb (length msg) message_octets ≡ false → o.answer ≡ network.Opened → Opens r pdu fwd msg o.trials o.header
+      {h : Header} → ltb (length fwd) pdu_octets ≡ false → ltb (length msg) message_octets ≡ false → o.opened ≡ Ok h → Opens r pdu fwd msg o.trials h
   opens_so t u e =
       record {
         wide = ltb-false (length fwd) pdu_octets t;
         big = ltb-false (length msg) message_octets u;
-        opens = ap (λ (a : opening_answer.Answer). record { answer = a; trials = o.trials; header = o.header }) e;
+        opens = ap (λ (x : Result Header network_refusal.Refusal). record { trials = o.trials; opened = x }) e;
       }
 
-  -- it passes, and opens to its header
-  abbrev pub PassesSo : Type 0
-  PassesSo = Passes r pdu fwd msg o.trials o.header
+  -- it passes, and opens to a header
+  abbrev pub PassesSo : Header → Type 0
+  PassesSo h = Passes r pdu fwd msg o.trials h
 
   pub record Stops (n : Refusal) : Type 0 where
     pub is_early : early n ≡ true
     -- 22 is for what is ours
-    pub if_own : n ≡ refusal.OwnSource → Ours r pdu fwd msg o.trials o.header
+    pub if_own : n ≡ refusal.OwnSource → (h : Header) × Ours r pdu fwd msg o.trials h
 
   stops : (n : Refusal) → early n ≡ true → eqb (refusal_number n) 22 ≡ false → Stops n
   stops n e other = record { is_early = e; if_own = λ k. absurd (false≢true (sym other ∙ ap (λ (x : Refusal). eqb (refusal_number x) 22) k)) }
 
   module _ (P : Outcome → Type 0) (refuses : (n : Refusal) (trials : ℕ) → Stops n → P (outcome (refused_heard r n trials) fwd msg)) where
     walk_opened :
-        (a : opening_answer.Answer) (h : Header) (trials : ℕ)
-        → (a ≡ network.Opened → is_local r.node h.src ≡ true → Stops refusal.OwnSource)
-        → (a ≡ network.Opened → is_local r.node h.src ≡ false → seen r.cache h ≡ false → P (passed r h trials fwd msg))
-        → P (opened_as a r h trials fwd msg)
+        (x : Result Header network_refusal.Refusal) (trials : ℕ)
+        → ((h : Header) → x ≡ Ok h → is_local r.node h.src ≡ true → Stops refusal.OwnSource)
+        → ((h : Header) → x ≡ Ok h → is_local r.node h.src ≡ false → seen r.cache h ≡ false → P (passed r h trials fwd msg))
+        → P (opened_as x r trials fwd msg)
     unfolding opened_as_by voiced_by uncached_by
-    walk_opened network.WrongLength h trials g f = refuses refusal.WrongLength trials (stops refusal.WrongLength refl refl)
-    walk_opened network.NoCandidate h trials g f = refuses refusal.NoCandidate trials (stops refusal.NoCandidate refl refl)
-    walk_opened network.NotAuthentic h trials g f = refuses refusal.NotAuthentic trials (stops refusal.NotAuthentic refl refl)
-    walk_opened network.WrongAddress h trials g f = refuses refusal.WrongAddress trials (stops refusal.WrongAddress refl refl)
-    walk_opened network.Opened h trials g f =
-        by_choice P (is_local r.node h.src) (λ t. refuses refusal.OwnSource trials (g refl t))
-        (λ t. by_choice P (seen r.cache h) {y = passed r h trials fwd msg} (λ _. refuses refusal.Cached trials (stops refusal.Cached refl refl)) (f refl t))
+    walk_opened (Err network.WrongLength) trials g f = refuses refusal.WrongLength trials (stops refusal.WrongLength refl refl)
+    walk_opened (Err network.NoCandidate) trials g f = refuses refusal.NoCandidate trials (stops refusal.NoCandidate refl refl)
+    walk_opened (Err network.NotAuthentic) trials g f = refuses refusal.NotAuthentic trials (stops refusal.NotAuthentic refl refl)
+    walk_opened (Err network.WrongAddress) trials g f = refuses refusal.WrongAddress trials (stops refusal.WrongAddress refl refl)
+    walk_opened (Ok h) trials g f =
+        by_choice P (is_local r.node h.src) (λ t. refuses refusal.OwnSource trials (g h refl t))
+        (λ t. by_choice P (seen r.cache h) {y = passed r h trials fwd msg} (λ _. refuses refusal.Cached trials (stops refusal.Cached refl refl)) (f h refl t))
 
-    pub walk_hearing : (PassesSo → P (passed r o.header o.trials fwd msg)) → P (hearing r pdu fwd msg)
+    pub walk_hearing : ((h : Header) → PassesSo h → P (passed r h o.trials fwd msg)) → P (hearing r pdu fwd msg)
     unfolding hearing_by
     walk_hearing passes =
         by_choice P (ltb (length fwd) pdu_octets) (λ _. refuses refusal.ShortBuffer 0 (stops refusal.ShortBuffer refl refl))
         (λ t. by_choice P (ltb (length msg) message_octets) (λ _. refuses refusal.ShortBuffer 0 (stops refusal.ShortBuffer refl refl))
-        (λ u. walk_opened o.answer o.header o.trials
-        (λ e own. record { is_early = refl; if_own = λ _. record { opened = opens_so t u e; own = own } })
-        (λ e other new. passes (record { opened = opens_so t u e; other = other; new = new }))))
+        (λ u. walk_opened o.opened o.trials
+        (λ h e own. record { is_early = refl; if_own = λ _. (h, record { opened = opens_so t u e; own = own }) })
+        (λ h e other new. passes h (record { opened = opens_so t u e; other = other; new = new }))))
 
-  pub heard_unopened : (o.answer ≡ network.Opened → ⊥) → Early r fwd msg (hearing r pdu fwd msg)
+  pub heard_unopened : ((h : Header) → o.opened ≡ Ok h → ⊥) → Early r fwd msg (hearing r pdu fwd msg)
   heard_unopened n =
       walk_hearing (Early r fwd msg) (λ n trials s. (n, record { is_early = s.is_early; tried = trials; leaves = refl }))
-      (λ p. absurd (n (ap (λ (x : Opening). x.answer) p.opened.opens)))
+      (λ h p. absurd (n h (ap (λ (x : Opening). x.opened) p.opened.opens)))
 
   -- ---- one that does not open: it carries the number of its opening, with its trials
-  abbrev pub RefusedAs : opening_answer.Answer → ℕ → Outcome → Type 0
+  abbrev pub RefusedAs : Result Header network_refusal.Refusal → ℕ → Outcome → Type 0
   RefusedAs a trials x = (n : Refusal) × (refusal_number n ≡ number_of (opened.paper a)) × (x ≡ outcome (refused_heard r n trials) fwd msg)
 
-  closed_as : (a : opening_answer.Answer) (h : Header) (trials : ℕ) → (a ≡ network.Opened → ⊥) → RefusedAs a trials (opened_as a r h trials fwd msg)
+  closed_as : (a : Result Header network_refusal.Refusal) (trials : ℕ) → ((h : Header) → a ≡ Ok h → ⊥) → RefusedAs a trials (opened_as a r trials fwd msg)
   unfolding opened_as_by
-  closed_as network.WrongLength h trials f = (refusal.WrongLength, refl, refl)
-  closed_as network.NoCandidate h trials f = (refusal.NoCandidate, refl, refl)
-  closed_as network.NotAuthentic h trials f = (refusal.NotAuthentic, refl, refl)
-  closed_as network.WrongAddress h trials f = (refusal.WrongAddress, refl, refl)
-  closed_as network.Opened h trials f = absurd (f refl)
+  closed_as (Err network.WrongLength) trials f = (refusal.WrongLength, refl, refl)
+  closed_as (Err network.NoCandidate) trials f = (refusal.NoCandidate, refl, refl)
+  closed_as (Err network.NotAuthentic) trials f = (refusal.NotAuthentic, refl, refl)
+  closed_as (Err network.WrongAddress) trials f = (refusal.WrongAddress, refl, refl)
+  closed_as (Ok h) trials f = absurd (f h refl)
 
   pub heard_closed :
-      pdu_octets ≤ length fwd → message_octets ≤ length msg → (o.answer ≡ network.Opened → ⊥) → RefusedAs o.answer o.trials (hearing r pdu fwd msg)
+      pdu_octets ≤ length fwd → message_octets ≤ length msg → ((h : Header) → o.opened ≡ Ok h → ⊥) → RefusedAs o.opened o.trials (hearing r pdu fwd msg)
   unfolding hearing_by
-  heard_closed wide big n = rw (le-ltb (length fwd) pdu_octets wide, le-ltb (length msg) message_octets big) (closed_as o.answer o.header o.trials n)
+  heard_closed wide big n = rw (le-ltb (length fwd) pdu_octets wide, le-ltb (length msg) message_octets big) (closed_as o.opened o.trials n)
 
 -- ---- a PDU that opens
 -- what the call leaves is t, and the trials are those of opening it and those of its message

@@ -33,4 +33,4 @@ module _ (P : Outgoing → Type 0) (r : Receiver) (none : P no_outgoing) (same :
       }
 
   pub outgoing_heard : (fwd msg pdu : List ℕ) → P (hearing r pdu fwd msg).heard.receiver.out
-  outgoing_heard fwd msg pdu = walk_left r pdu fwd msg (λ (q : Receiver). P q.out) same (λ _. ways _ msg)
+  outgoing_heard fwd msg pdu = walk_left r pdu fwd msg (λ (q : Receiver). P q.out) same (λ h _. ways h msg)

@@ -11,12 +11,12 @@ use mathlib.Core.Logic.{◌⊎◌, inl, inr, ⊎_elim}
 use mathlib.Core.Path.{◌≡◌, refl, sym, ap, ◌∙◌, subst}
 use Prim.Native.Nat.{ℕ, ◌≤◌}
 use lib.ListN.{length}
+use Rattle.std.specs.Prelude.{Result, Err}
 use Rattle.common.specs.Lent.{lent}
 use Rattle.network.specs.declared.header.Header.{Header}
 use Rattle.transport.specs.Segment.{message_octets}
 use Rattle.memory.specs.Cache.{remembered}
 use Rattle.receiver.specs.declared.answer.Answer.{Answer}
-use Rattle.receiver.specs.declared.answer.Answer.TheVariants.{Refused}
 use Rattle.receiver.specs.declared.answer.Refusal.{Refusal}
 use Rattle.receiver.specs.declared.answer.Refusal.TheVariants.{OwnSource}
 use Rattle.receiver.specs.declared.state.Receiver.{Receiver}
@@ -37,7 +37,7 @@ module _ (r : Receiver) (fwd msg : List ℕ) (h : Header) where
 
   pub record Enters (o : Outcome) : Type 0 where
     pub cache_is : o.heard.receiver.cache ≡ remembered r.cache h
-    pub refused_late : (n : Refusal) → o.heard.answer ≡ Refused n → Late n o
+    pub refused_late : (n : Refusal) → o.heard.answer ≡ Err n → Late n o
 
   passed_enters : message_octets ≤ length msg → (trials : ℕ) → Enters (passed r h trials fwd msg)
   unfolding passed_by
@@ -47,23 +47,23 @@ module _ (r : Receiver) (fwd msg : List ℕ) (h : Header) where
       record {
         cache_is = (stays_taken q h msg room).1;
         refused_late = λ n e.
-            let a : After q h msg (Refused n) t.answer.receiver t.buffer =
-            subst (λ (x : Answer). After q h msg x t.answer.receiver t.buffer) e (after_taken q h msg room) in
+            let a : After q h msg (Err n) t.answer.receiver t.buffer =
+            subst (λ (x : Result Answer Refusal). After q h msg x t.answer.receiver t.buffer) e (after_taken q h msg room) in
             record { is_late = a.2; left_is = a.0; message_stays = a.1; forwarded_as = refl };
       }
 
 module _ (r : Receiver) (pdu fwd msg : List ℕ) where
   -- refused before the cache, or passed and entered
   abbrev Either : Outcome → Type 0
-  Either o = Early r fwd msg o ⊎ (PassesSo r fwd msg pdu × Enters r fwd msg (opening_of r pdu).header o)
+  Either o = Early r fwd msg o ⊎ ((h : Header) × PassesSo r fwd msg pdu h × Enters r fwd msg h o)
 
   pub heard_either : Either (hearing r pdu fwd msg)
   heard_either =
       walk_hearing r fwd msg pdu Either (λ n trials s. inl (n, record { is_early = s.is_early; tried = trials; leaves = refl }))
-      (λ p. inr (p, passed_enters r fwd msg (opening_of r pdu).header p.opened.big _))
+      (λ h p. inr (h, p, passed_enters r fwd msg h p.opened.big _))
 
   pub heard_refused :
-      (n : Refusal) → (let o = hearing r pdu fwd msg in o.heard.answer ≡ Refused n → Refuses r fwd msg n o ⊎ Late r fwd msg (opening_of r pdu).header n o)
+      (n : Refusal) → (let o = hearing r pdu fwd msg in o.heard.answer ≡ Err n → Refuses r fwd msg n o ⊎ ((h : Header) × PassesSo r fwd msg pdu h × Late r fwd msg h n o))
   heard_refused n e =
       let o = hearing r pdu fwd msg in
       ⊎_elim
@@ -71,14 +71,14 @@ module _ (r : Receiver) (pdu fwd msg : List ℕ) where
       let answered = sym (ap (λ (x : Outcome). x.heard.answer) y.1.leaves) ∙ e in
       let same : y.0 ≡ n = cc in
       inl (subst (λ (k : Refusal). Refuses r fwd msg k o) same y.1))
-      (λ x. inr (x.1.refused_late n e)) heard_either
+      (λ x. inr (x.0, x.1, x.2.refused_late n e)) heard_either
 
   -- what is refused 22 is ours
-  pub heard_ours : (hearing r pdu fwd msg).heard.answer ≡ Refused OwnSource → Ours r pdu fwd msg (opening_of r pdu).trials (opening_of r pdu).header
+  pub heard_ours : (hearing r pdu fwd msg).heard.answer ≡ Err OwnSource → (h : Header) × Ours r pdu fwd msg (opening_of r pdu).trials h
   heard_ours =
-      walk_hearing r fwd msg pdu (λ (x : Outcome). x.heard.answer ≡ Refused OwnSource → Ours r pdu fwd msg (opening_of r pdu).trials (opening_of r pdu).header)
+      walk_hearing r fwd msg pdu (λ (x : Outcome). x.heard.answer ≡ Err OwnSource → (h : Header) × Ours r pdu fwd msg (opening_of r pdu).trials h)
       (λ n trials s e. let same : n ≡ OwnSource = cc in s.if_own same)
-      (λ p e. absurd (false≢true ((passed_enters r fwd msg (opening_of r pdu).header p.opened.big _).refused_late OwnSource e).is_late))
+      (λ h p e. absurd (false≢true ((passed_enters r fwd msg h p.opened.big _).refused_late OwnSource e).is_late))
 
 -- ---- a PDU that passes
 pub heard_entered : {r : Receiver} {pdu fwd msg : List ℕ} {trials : ℕ} {h : Header} → Passes r pdu fwd msg trials h → Enters r fwd msg h (hearing r pdu fwd msg)

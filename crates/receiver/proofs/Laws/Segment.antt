@@ -10,17 +10,15 @@ use mathlib.Core.Path.{◌≡◌, refl, ap}
 use Prim.Native.Nat.{ℕ, ◌≤◌, ◌<◌}
 use borrow.Author.Tests.{eq-eqb, ne_eqb}
 use lib.ListN.{length, take}
-use Rattle.std.specs.Prelude.{if◌then◌else◌}
+use Rattle.std.specs.Prelude.{Ok, Some, if◌then◌else◌}
 use Rattle.common.specs.Bits.{has_bit, all_bits}
 use Rattle.common.specs.Lent.{Lent, lent}
 use Rattle.common.specs.Lists.{onto}
 use Rattle.network.specs.declared.header.Header.{Header}
 use Rattle.transport.specs.declared.form.SegmentFields.{SegmentFields}
 use Rattle.transport.specs.declared.securing.Opener.{Opener}
-use Rattle.transport.specs.declared.securing.Opened.TheVariants.{Message}
-use Rattle.transport.specs.declared.seq_auth.SeqAuth.TheVariants.{At}
 use Rattle.transport.specs.Fields.{opcode}
-use Rattle.transport.specs.Securing.{unsecuring}
+use Rattle.transport.specs.Securing.{opened, unsecuring}
 use Rattle.transport.specs.SeqAuth.{seq_auth}
 use Rattle.memory.specs.declared.session.Segment.{Segment}
 use Rattle.memory.specs.declared.session.Session.{Session}
@@ -37,7 +35,7 @@ use Rattle.receiver.specs.State.{with_replay, with_session}
 
 module _ (r : Receiver) (h : Header) (msg : List ℕ) where
   pub segmented_placed :
-      (fields : SegmentFields) (auth : ℕ) → seq_auth h.seq fields.seqzero ≡ At auth → segmented r h fields msg ≡ placed r h (segment_of h fields auth) msg
+      (fields : SegmentFields) (auth : ℕ) → seq_auth h.seq fields.seqzero ≡ Some auth → segmented r h fields msg ≡ placed r h (segment_of h fields auth) msg
   unfolding segmented_by segmented_as_by
   segmented_placed fields auth e = rw e refl
 
@@ -51,7 +49,7 @@ module _ (r : Receiver) (h : Header) (msg : List ℕ) (seg : Segment) where
   free = free_place r.sessions
 
   abbrev repeats : ℕ → Lent Taken
-  repeats bits = lent (record { answer = answer.Repeated h.src seg.auth bits; trials = 0; receiver = r }) msg
+  repeats bits = lent (record { answer = Ok (answer.Repeated h.src seg.auth bits); trials = 0; receiver = r }) msg
 
   -- it is of the last message handed up
   pub placed_last :
@@ -61,7 +59,7 @@ module _ (r : Receiver) (h : Header) (msg : List ℕ) (seg : Segment) where
   placed_last z e = rw (decide_last r.replay r.sessions h.src seg z e) refl
 
   -- it is not of that one, and there is room for an entry
-  module _ (other : is_last (look_up r.replay h.src).last seg.auth seg.terms.segn seg.terms.dst ≡ false) (room : has_room r.replay h.src ≡ true)
+  module _ (other : is_last (look_up r.replay h.src).last (record { auth = seg.auth; segn = seg.terms.segn; dst = seg.terms.dst }) ≡ false) (room : has_room r.replay h.src ≡ true)
     where
       -- the entry is not as new, there is no session, and a free slot
       pub placed_open :
@@ -87,7 +85,7 @@ module _ (r : Receiver) (slot : ℕ) (s : Session) (msg : List ℕ) where
   -- another is missing
   pub gathered_stored :
       (s.filled ≡ all_bits s.terms.segn → ⊥)
-      → gathered r slot s msg ≡ lent (record { answer = answer.Stored s.src s.auth s.filled; trials = 0; receiver = with_session r slot s }) msg
+      → gathered r slot s msg ≡ lent (record { answer = Ok (answer.Stored s.src s.auth s.filled); trials = 0; receiver = with_session r slot s }) msg
   unfolding gathered_by complete
   gathered_stored n = rw (ne_eqb s.filled (all_bits s.terms.segn) n) refl
 
@@ -103,9 +101,9 @@ module _ (r : Receiver) (s : Session) (msg : List ℕ) where
   pub access_up_law :
       (opener : Opener) (trials len : ℕ) (left : List ℕ)
       → unsecuring (held_by r.node) (session_envelope s) (take s.len s.bytes) msg
-      ≡ lent (Message opener trials len) left
+      ≡ lent (opened opener trials len) left
       → access_up r s msg
-      ≡ lent (record { answer = answer.Access s.src s.terms.dst s.terms.key opener s.auth len; trials = trials; receiver = upgraded r s }) left
+      ≡ lent (record { answer = Ok (answer.Access s.src s.terms.dst s.terms.key opener s.auth len); trials = trials; receiver = upgraded r s }) left
   unfolding access_up_by access_up_as_by message_of
   access_up_law opener trials len left u = rw u refl
 
@@ -113,7 +111,7 @@ module _ (r : Receiver) (s : Session) (msg : List ℕ) where
       control_up r s msg
       ≡ lent
       (record {
-        answer = answer.Control s.src s.terms.dst s.terms.key (opcode s.terms.first) s.auth (length (take s.len s.bytes));
+        answer = Ok (answer.Control s.src s.terms.dst s.terms.key (opcode s.terms.first) s.auth (length (take s.len s.bytes)));
         trials = 0;
         receiver = upgraded r s;
       })
@@ -122,6 +120,6 @@ module _ (r : Receiver) (s : Session) (msg : List ℕ) where
   control_up_law = refl
 
   -- handing up raises the replay entry, and nothing else
-  pub upgraded_is : upgraded r s ≡ with_replay r (handed_up r.replay s.src s.auth s.terms.segn s.terms.dst)
+  pub upgraded_is : upgraded r s ≡ with_replay r (handed_up r.replay s.src (record { auth = s.auth; segn = s.terms.segn; dst = s.terms.dst }))
   unfolding upgraded_by
   upgraded_is = refl

@@ -31,7 +31,7 @@ use Rattle.receiver.specs.Hearing.{hearing}
 use Rattle.receiver.specs.Segmented.{upgraded, upgraded_by, access_up_as_by, control_up_by}
 use Rattle.receiver.specs.State.{with_session}
 use Rattle.receiver.specs.Whole.{admitted, admitted_by, opened_as_by, whole_control_up_by, acted_by}
-use Rattle.receiver.proofs.Laws.Heard.{opening_of, caching, PassesSo}
+use Rattle.receiver.proofs.Laws.Heard.{caching, PassesSo}
 use Rattle.receiver.proofs.Laws.Ways.{Goes, Ways, walk_left}
 
 -- of these
@@ -75,7 +75,7 @@ module _ (P : ℕ → Type 0) (none : P 0) where
       hands_up : Lists P (upgraded (with_session q slot no_session) (stored before h seg.sego))
       unfolding upgraded_by
       hands_up =
-          record { cached = l.cached; entries = each_handed_up P q.replay l.entries _ _ _ _ its_source; held = (lists_freed q l slot).held }
+          record { cached = l.cached; entries = each_handed_up P q.replay l.entries _ _ its_source; held = (lists_freed q l slot).held }
 
     ways : (msg : List ℕ) → Ways q h msg (λ (t : Lent Taken). Lists P t.answer.receiver)
     unfolding opened_as_by whole_control_up_by acted_by access_up_as_by control_up_by
@@ -93,11 +93,10 @@ module _ (P : ℕ → Type 0) (none : P 0) where
         }
 
   pub lists_heard :
-      (r : Receiver) → Lists P r → (pdu fwd msg : List ℕ) → (PassesSo r fwd msg pdu → P (opening_of r pdu).header.src)
+      (r : Receiver) → Lists P r → (pdu fwd msg : List ℕ) → ((h : Header) → PassesSo r fwd msg pdu h → P h.src)
       → Lists P (hearing r pdu fwd msg).heard.receiver
   lists_heard r l pdu fwd msg new =
-      let h = (opening_of r pdu).header in
       walk_left r pdu fwd msg (Lists P) l
-      (λ p.
-      let cached = each_remembered r.cache h P (new p) l.cached in
-      ways (caching r h) (record { cached = cached; entries = l.entries; held = l.held }) h (new p) msg)
+      (λ h p.
+      let cached = each_remembered r.cache h P (new h p) l.cached in
+      ways (caching r h) (record { cached = cached; entries = l.entries; held = l.held }) h (new h p) msg)

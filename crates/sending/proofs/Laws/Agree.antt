@@ -9,11 +9,11 @@ use Prim.Native.Nat.{ℕ, min}
 use borrow.Author.Tests.{eqb-false}
 use lib.Dec.{eqb, leb, ltb}
 use lib.ListN.{length}
+use Rattle.std.specs.Prelude.{Option, None, Some, Result, Ok, Err}
 use Rattle.common.specs.Lent.{Lent, lent}
 use Rattle.common.proofs.Tests.{by_test}
 use Rattle.network.specs.declared.header.Header.{Header}
-use Rattle.network.specs.declared.sealing.Answer as sealing_answer
-use Rattle.network.specs.declared.sealing.Answer.TheVariants as sealed
+use Rattle.network.specs.declared.sealing.Refusal as sealing_refusal
 use Rattle.network.specs.Address.{is_unicast}
 use Rattle.network.specs.Candidates.{network_key_places}
 use Rattle.network.specs.Pdu.{pdu_octets}
@@ -23,23 +23,21 @@ use Rattle.memory.specs.declared.replay.Entry.{Entry}
 use Rattle.memory.specs.declared.session.Session.{Session}
 use Rattle.memory.specs.Replay.{Listing}
 use Rattle.memory.proofs.Agree.{Agree}
-use Rattle.node.specs.Addresses.{element_places}
 use Rattle.receiver.specs.declared.answer.Refusal.{Refusal}
-use Rattle.receiver.specs.declared.answer.Refusal.TheVariants.{ShortBuffer, OutsideRules}
+use Rattle.receiver.specs.declared.answer.Refusal.TheVariants.{ShortBuffer, OutsideRules, NoSeqLeft}
 use Rattle.receiver.specs.declared.state.Receiver.{Receiver}
 use Rattle.receiver.specs.State.{with_replay}
 use Rattle.receiver.proofs.Laws.Agree.{bare_given_up}
 use Rattle.receiver.proofs.Laws.Alike.{unlisted, Alike, alike_choice}
+use Rattle.sending.specs.declared.acknowledge.Chosen.{Chosen}
 use Rattle.sending.specs.declared.answer.Spoken.{Spoken}
 use Rattle.sending.specs.declared.request.Request.{Request}
-use Rattle.sending.specs.declared.transmission.Transmission.{Transmission}
-use Rattle.sending.specs.declared.transmission.Transmission.TheVariants.{Sent, NoSeqLeft, Unsealed}
 use Rattle.sending.specs.declared.transmission.Transmitted.{Transmitted}
 use Rattle.sending.specs.Access.{is_whole, access_allowed, envelope_of, saying_access, sending_access}
-use Rattle.sending.specs.Acknowledge.{chosen_by, acknowledgement_header, saying_acknowledgement, acknowledging_by}
+use Rattle.sending.specs.Acknowledge.{chosen_by, acknowledgement_header, saying_acknowledgement, acknowledging_from, acknowledging_as, acknowledging_by}
 use Rattle.sending.specs.Answer.{refused_at, spoken}
 use Rattle.sending.specs.Control as control
-use Rattle.sending.specs.Segment.{segment_header, started_as, starting, element_of, segment_allowed, sending_segment}
+use Rattle.sending.specs.Segment.{segment_header, started_as, starting, element_of, segment_allowed, sending_segment_from, sending_segment}
 use Rattle.sending.specs.Stop.{stopping}
 use Rattle.sending.specs.Transmission.{sending_iv, next_seq, with_next, stamped, sent_as, transmitted}
 use Rattle.sending.proofs.Laws.Calls.{access_header, access_outgoing, control_header}
@@ -52,7 +50,7 @@ abbrev said : Lent Transmitted → Lent Spoken
 said t = lent (spoken t.answer) t.buffer
 
 abbrev begun : Outgoing → Lent Transmitted → Lent Spoken
-begun o t = lent (started_as t.answer.answer t.answer.receiver o) t.buffer
+begun o t = lent (started_as t.answer.sent t.answer.receiver o) t.buffer
 
 module _ (Both : List Entry → List Entry → Type 0) where
   abbrev Says : Lent Spoken → Lent Spoken → Type 0
@@ -62,35 +60,32 @@ module _ (Both : List Entry → List Entry → Type 0) where
   -- whatever it is answered, and whatever receiver it leaves but for the list, what is made of it is alike
   abbrev Each : (Lent Transmitted → Lent Spoken) → (a b : List Entry) → Type 0
   Each f a b =
-      (t : Transmission) (w : Receiver) (left : List ℕ)
-      → Says (f (lent (record { answer = t; receiver = with_replay w a }) left)) (f (lent (record { answer = t; receiver = with_replay w b }) left))
+      (t : Result ℕ Refusal) (w : Receiver) (left : List ℕ)
+      → Says (f (lent (record { sent = t; receiver = with_replay w a }) left)) (f (lent (record { sent = t; receiver = with_replay w b }) left))
 
   module _ (f : Lent Transmitted → Lent Spoken) (a b : List Entry) (each : Each f a b) (r : Receiver) (element : ℕ) where
     agree_sealed :
-        (s : sealing_answer.Answer) (left : List ℕ)
+        (s : Result ℕ sealing_refusal.Refusal) (left : List ℕ)
         → Says (f (lent (sent_as s (with_replay r a) element) left)) (f (lent (sent_as s (with_replay r b) element) left))
     unfolding sent_as with_next
-    agree_sealed (sealed.Sealed n) left = each (Sent n) (with_next r element) left
-    agree_sealed sealed.OutsideRules left = each Unsealed r left
-    agree_sealed sealed.ShortBuffer left = each Unsealed r left
+    agree_sealed (Ok n) left = each (Ok n) (with_next r element) left
+    agree_sealed (Err e) left = each (Err OutsideRules) r left
 
     agree_transmitted : (h : Header) (buf : List ℕ) → Says (f (transmitted (with_replay r a) element h buf)) (f (transmitted (with_replay r b) element h buf))
     unfolding transmitted stamped
     agree_transmitted h buf =
-        by_test (ltb 0xFFFFFF (next_seq r element)) (λ t. rw t (each NoSeqLeft r buf))
-        (λ t. by_test (ltb h.key network_key_places) (λ u. rw (t, u) (agree_sealed _ _)) (λ u. rw (t, u) (each Unsealed r buf)))
+        by_test (ltb 0xFFFFFF (next_seq r element)) (λ t. rw t (each (Err NoSeqLeft) r buf))
+        (λ t. by_test (ltb h.key network_key_places) (λ u. rw (t, u) (agree_sealed _ _)) (λ u. rw (t, u) (each (Err OutsideRules) r buf)))
 
   module _ {a b : List Entry} (both : Both a b) where
     each_said : Each said a b
     unfolding spoken
-    each_said (Sent n) w left = record { same = refl; lists = both }
-    each_said NoSeqLeft w left = record { same = refl; lists = both }
-    each_said Unsealed w left = record { same = refl; lists = both }
+    each_said (Ok n) w left = record { same = refl; lists = both }
+    each_said (Err n) w left = record { same = refl; lists = both }
 
     each_begun : (o : Outgoing) → Each (begun o) a b
-    each_begun o (Sent n) w left = record { same = refl; lists = both }
-    each_begun o NoSeqLeft w left = record { same = refl; lists = both }
-    each_begun o Unsealed w left = record { same = refl; lists = both }
+    each_begun o (Ok n) w left = record { same = refl; lists = both }
+    each_begun o (Err n) w left = record { same = refl; lists = both }
 
   -- ---- each call
   module _ (r : Receiver) {a b : List Entry} (both : Both a b) where
@@ -141,14 +136,16 @@ module _ (Both : List Entry → List Entry → Type 0) where
         alike_choice (ltb (length buf) pdu_octets) (λ _. agree_refused ShortBuffer buf)
         (λ _. alike_choice (control.control_allowed r q opcode (length parameters)) (λ _. agree_saying_control q buf opcode parameters) (λ _. agree_refused OutsideRules buf))
 
+    agree_segment_from : (e : Option ℕ) (n : ℕ) (buf : List ℕ) → Says (sending_segment_from e old n buf) (sending_segment_from e new n buf)
+    unfolding sending_segment_from segment_allowed
+    agree_segment_from None n buf = agree_refused OutsideRules buf
+    agree_segment_from (Some element) n buf =
+        alike_choice (segment_allowed r element n) (λ _. agree_saying element (segment_header r.out n) buf) (λ _. agree_refused OutsideRules buf)
+
     pub agree_segment : (n : ℕ) (buf : List ℕ) → Says (sending_segment old n buf) (sending_segment new n buf)
-    unfolding sending_segment segment_allowed
+    unfolding sending_segment
     agree_segment n buf =
-        let element = element_of r.node r.out.src in
-        alike_choice (ltb (length buf) pdu_octets) (λ _. agree_refused ShortBuffer buf)
-        (λ _. alike_choice (ltb element element_places)
-        (λ _. alike_choice (segment_allowed r element n) (λ _. agree_saying element (segment_header r.out n) buf) (λ _. agree_refused OutsideRules buf))
-        (λ _. agree_refused OutsideRules buf))
+        alike_choice (ltb (length buf) pdu_octets) (λ _. agree_refused ShortBuffer buf) (λ _. agree_segment_from (element_of r.node r.out.src) n buf)
 
     pub agree_stopping : Alike Both (λ g. g.receiver) bare_given_up (stopping old) (stopping new)
     unfolding stopping
@@ -160,17 +157,23 @@ module _ {o n : Listing} {Both : List Entry → List Entry → Type 0} (agree : 
   unfolding chosen_by
   agree_chosen both sessions src = by_test (eqb src 0) (λ t. rw t refl) (λ t. rw (t, agree.looks both src (eqb-false src 0 t)) refl)
 
-  pub agree_acknowledging :
-      (r : Receiver) {a b : List Entry} → Both a b → (net src : ℕ) (buf : List ℕ)
-      → Says Both (acknowledging_by o (with_replay r a) net src buf) (acknowledging_by n (with_replay r b) net src buf)
-  unfolding acknowledging_by saying_acknowledgement
-  agree_acknowledging r {a} {b} both net src buf =
-      let c = chosen_by n b r.sessions src in
-      let element = element_of r.node c.dst in
-      let outside = agree_refused Both r both OutsideRules buf in
-      rw (agree_chosen both r.sessions src)
-      (alike_choice (ltb (length buf) pdu_octets) (λ _. agree_refused Both r both ShortBuffer buf)
-      (λ _. alike_choice (ltb net (min r.node.networks network_key_places))
-      (λ _. alike_choice (is_unicast c.dst)
-      (λ _. alike_choice (ltb element element_places)
-      (λ _. agree_saying Both r both element (acknowledgement_header (sending_iv r.node) net src c) buf) (λ _. outside)) (λ _. outside)) (λ _. outside)))
+  module _ (r : Receiver) {a b : List Entry} (both : Both a b) (net src : ℕ) (buf : List ℕ) where
+    agree_from :
+        (e : Option ℕ) (c : Chosen)
+        → Says Both (acknowledging_from e (with_replay r a) net src c buf) (acknowledging_from e (with_replay r b) net src c buf)
+    unfolding acknowledging_from saying_acknowledgement
+    agree_from None c = agree_refused Both r both OutsideRules buf
+    agree_from (Some element) c = agree_saying Both r both element (acknowledgement_header (sending_iv r.node) net src c) buf
+
+    agree_as : (c : Option Chosen) → Says Both (acknowledging_as c (with_replay r a) net src buf) (acknowledging_as c (with_replay r b) net src buf)
+    unfolding acknowledging_as
+    agree_as None = agree_refused Both r both OutsideRules buf
+    agree_as (Some c) = alike_choice (is_unicast c.dst) (λ _. agree_from (element_of r.node c.dst) c) (λ _. agree_refused Both r both OutsideRules buf)
+
+    pub agree_acknowledging : Says Both (acknowledging_by o (with_replay r a) net src buf) (acknowledging_by n (with_replay r b) net src buf)
+    unfolding acknowledging_by
+    agree_acknowledging =
+        rw (agree_chosen both r.sessions src)
+        (alike_choice (ltb (length buf) pdu_octets) (λ _. agree_refused Both r both ShortBuffer buf)
+        (λ _. alike_choice (ltb net (min r.node.networks network_key_places)) (λ _. agree_as (chosen_by n b r.sessions src))
+        (λ _. agree_refused Both r both OutsideRules buf)))

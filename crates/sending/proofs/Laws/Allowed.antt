@@ -17,6 +17,7 @@ use Prim.Native.Nat.{ℕ, ◌+◌, ◌≤◌, ◌<◌, min}
 use native.Mathlib.Omega.{arith}
 use borrow.Author.Tests.{eqb-true, ne_eqb, ltb-true, leb-true, le-leb}
 use lib.Dec.{eqb, leb, ltb}
+use Rattle.std.specs.Prelude.{Option, None, Some}
 use Rattle.common.specs.Bits.{has_bit}
 use Rattle.common.proofs.Tests.{and_first, and_second}
 use Rattle.keys.proofs.Widths.{label_virtual}
@@ -37,8 +38,6 @@ use Rattle.receiver.specs.declared.state.Receiver.{Receiver}
 use Rattle.sending.specs.declared.request.Destination.{Destination}
 use Rattle.sending.specs.declared.request.Destination.TheVariants.{Address, Label}
 use Rattle.sending.specs.declared.request.Request.{Request}
-use Rattle.sending.specs.declared.request.Ttl.{Ttl}
-use Rattle.sending.specs.declared.request.Ttl.TheVariants.{Unnamed, Named}
 use Rattle.sending.specs.Access.{key_allowed, is_whole, size_allowed, access_allowed}
 use Rattle.sending.specs.Control.{control_allowed}
 use Rattle.sending.specs.Request.{ttl_of, ttl_allowed, sendable_kind, dst_of, additional_for, destination_allowed, to_unicast, to_address, request_allowed}
@@ -66,9 +65,9 @@ asked node q e =
       ttl_allowed_law = and_second (destination_allowed node q.dst) _ e2;
     }
 
-pub ttl_low : (t : Ttl) → ttl_allowed t ≡ true → ttl_of t ≤ 127
-ttl_low Unnamed e = omega arith
-ttl_low (Named n) e = leb-true n 127 (and_second (not (eqb n 1)) (leb n 127) e)
+pub ttl_low : (t : Option ℕ) → ttl_allowed t ≡ true → ttl_of t ≤ 127
+ttl_low None e = omega arith
+ttl_low (Some n) e = leb-true n 127 (and_second (not (eqb n 1)) (leb n 127) e)
 
 -- ---- an access message: its key may be used, and its payload has an octet and leaves room for the TransMIC
 pub record AccessAllowed (node : Node) (q : Request) (key : MessageKey) (szmic : Bool) (len : ℕ) : Type 0 where

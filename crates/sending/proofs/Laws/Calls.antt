@@ -8,10 +8,10 @@ use mathlib.Core.Bool.{Bool, true, false}
 use mathlib.Core.List.{List}
 use mathlib.Core.Path.{◌≡◌, refl}
 use Prim.Native.Nat.{ℕ, ◌≤◌, ◌<◌, min}
-use borrow.Author.Tests.{ne_eqb, lt-ltb, le-ltb, ltb-true}
+use borrow.Author.Tests.{ne_eqb, lt-ltb, le-ltb}
 use lib.Dec.{leb, ltb}
 use lib.ListN.{length}
-use Rattle.std.specs.Prelude.{if◌then◌else◌}
+use Rattle.std.specs.Prelude.{Option, None, Some, if◌then◌else◌}
 use Rattle.common.specs.Bits.{all_bits}
 use Rattle.common.specs.Lent.{Lent, lent}
 use Rattle.common.proofs.Tests.{by_test, by_choice}
@@ -25,7 +25,7 @@ use Rattle.memory.specs.declared.replay.Entry.{Entry}
 use Rattle.memory.specs.declared.session.Session.{Session}
 use Rattle.memory.specs.Replay.{look_up}
 use Rattle.memory.specs.Session.{session_slots, session_at, session_place}
-use Rattle.node.specs.Addresses.{element_places}
+use Rattle.node.specs.Addresses.{element_places, is_local}
 use Rattle.receiver.specs.declared.answer.Refusal.{Refusal}
 use Rattle.receiver.specs.declared.answer.Refusal.TheVariants as refusal
 use Rattle.receiver.specs.declared.state.Receiver.{Receiver}
@@ -33,13 +33,14 @@ use Rattle.sending.specs.declared.acknowledge.Chosen.{Chosen}
 use Rattle.sending.specs.declared.answer.Spoken.{Spoken}
 use Rattle.sending.specs.declared.request.Request.{Request}
 use Rattle.sending.specs.Access.{keyed, is_whole, access_allowed, envelope_of, whole_header, outgoing_of, saying_access, sending_access}
-use Rattle.sending.specs.Acknowledge.{no_choice, chosen_by, chosen, acknowledgement_header, saying_acknowledgement, acknowledging_by, acknowledging}
+use Rattle.sending.specs.Acknowledge.{chosen_by, chosen, acknowledgement_header, saying_acknowledgement, acknowledging_from, acknowledging_as, acknowledging_by, acknowledging}
 use Rattle.sending.specs.Answer.{refused_at}
 use Rattle.sending.specs.Control as control
 use Rattle.sending.specs.Request.{dst_of, additional_for}
-use Rattle.sending.specs.Segment.{segment_header, starting, element_of, segment_allowed, sending_segment}
+use Rattle.sending.specs.Segment.{segment_header, starting, element_at, element_of, segment_allowed, sending_segment_from, sending_segment}
 use Rattle.sending.specs.Transmission.{sending_iv}
 use Rattle.sending.proofs.Laws.Transmitted.{checked, saying}
+use Rattle.sending.proofs.Octets.{local_low}
 
 -- what a message is sent as: an access message whole, or begun; a control message whole
 abbrev pub access_header : Receiver → Request → MessageKey → Bool → List ℕ → Header
@@ -96,36 +97,53 @@ module _ (r : Receiver) (buf : List ℕ) (P : Lent Spoken → Type 0) (refused :
 
   pub walk_segment :
       (n : ℕ)
-      → (let element = element_of r.node r.out.src in
+      → (let element = element_at r.node r.out.src in
       (element < element_places → segment_allowed r element n ≡ true → P (saying r element (segment_header r.out n) buf)) → P (sending_segment r n buf))
-  unfolding sending_segment
+  unfolding sending_segment sending_segment_from element_of
   walk_segment n said =
-      let element = element_of r.node r.out.src in
+      let element = element_at r.node r.out.src in
       let sent = saying r element (segment_header r.out n) buf in
-      by_choice P (ltb (length buf) pdu_octets) {x = short} {y = if ltb element element_places then (if segment_allowed r element n then sent else outside) else outside}
-      (λ _. refused refusal.ShortBuffer refl)
-      (λ _. by_choice P (ltb element element_places) {x = if segment_allowed r element n then sent else outside} {y = outside}
-      (λ t. by_choice P (segment_allowed r element n) {x = sent} {y = outside} (said (ltb-true element element_places t)) (λ _. refused refusal.OutsideRules refl))
+      let e = element_of r.node r.out.src in
+      by_choice P (ltb (length buf) pdu_octets) {x = short} {y = sending_segment_from e r n buf} (λ _. refused refusal.ShortBuffer refl)
+      (λ _. by_choice (λ (x : Option ℕ). P (sending_segment_from x r n buf)) (is_local r.node r.out.src) {x = Some element} {y = None}
+      (λ t. by_choice P (segment_allowed r element n) {x = sent} {y = outside} (said (local_low r.node r.out.src t)) (λ _. refused refusal.OutsideRules refl))
       (λ _. refused refusal.OutsideRules refl))
 
-  pub walk_acknowledge :
-      (net src : ℕ)
-      → (let c = chosen r.replay r.sessions src in
-      let element = element_of r.node c.dst in
-      (is_unicast c.dst ≡ true → element < element_places → P (saying r element (acknowledgement_header (sending_iv r.node) net src c) buf)) → P (acknowledging r net src buf))
-  unfolding acknowledging_by saying_acknowledgement
-  walk_acknowledge net src said =
-      let c = chosen r.replay r.sessions src in
-      let element = element_of r.node c.dst in
-      let sent = saying r element (acknowledgement_header (sending_iv r.node) net src c) buf in
-      by_choice P (ltb (length buf) pdu_octets) {x = short}
-      {y = if ltb net (min r.node.networks network_key_places) then (if is_unicast c.dst then (if ltb element element_places then sent else outside) else outside) else outside}
-      (λ _. refused refusal.ShortBuffer refl)
-      (λ _. by_choice P (ltb net (min r.node.networks network_key_places)) {x = if is_unicast c.dst then (if ltb element element_places then sent else outside) else outside} {y = outside}
-      (λ _. by_choice P (is_unicast c.dst) {x = if ltb element element_places then sent else outside} {y = outside}
-      (λ u. by_choice P (ltb element element_places) {x = sent} {y = outside} (λ t. said u (ltb-true element element_places t)) (λ _. refused refusal.OutsideRules refl))
-      (λ _. refused refusal.OutsideRules refl))
-      (λ _. refused refusal.OutsideRules refl))
+  module _ (net src : ℕ) where
+    walk_from :
+        (c : Chosen)
+        → (let element = element_at r.node c.dst in
+        (element < element_places → P (saying r element (acknowledgement_header (sending_iv r.node) net src c) buf))
+        → P (acknowledging_from (element_of r.node c.dst) r net src c buf))
+    unfolding acknowledging_from saying_acknowledgement element_of
+    walk_from c said =
+        by_choice (λ (x : Option ℕ). P (acknowledging_from x r net src c buf)) (is_local r.node c.dst) {x = Some (element_at r.node c.dst)} {y = None}
+        (λ t. said (local_low r.node c.dst t)) (λ _. refused refusal.OutsideRules refl)
+
+    walk_as :
+        (x : Option Chosen)
+        → ((c : Chosen) → x ≡ Some c → is_unicast c.dst ≡ true
+        → (let element = element_at r.node c.dst in
+        element < element_places → P (saying r element (acknowledgement_header (sending_iv r.node) net src c) buf)))
+        → P (acknowledging_as x r net src buf)
+    unfolding acknowledging_as
+    walk_as None said = refused refusal.OutsideRules refl
+    walk_as (Some c) said =
+        by_choice P (is_unicast c.dst) {x = acknowledging_from (element_of r.node c.dst) r net src c buf} {y = outside} (λ u. walk_from c (said c refl u))
+        (λ _. refused refusal.OutsideRules refl)
+
+    pub walk_acknowledge :
+        ((c : Chosen) → chosen r.replay r.sessions src ≡ Some c → is_unicast c.dst ≡ true
+        → (let element = element_at r.node c.dst in
+        element < element_places → P (saying r element (acknowledgement_header (sending_iv r.node) net src c) buf)))
+        → P (acknowledging r net src buf)
+    unfolding acknowledging_by
+    walk_acknowledge said =
+        let x = chosen r.replay r.sessions src in
+        by_choice P (ltb (length buf) pdu_octets) {x = short}
+        {y = if ltb net (min r.node.networks network_key_places) then acknowledging_as x r net src buf else outside} (λ _. refused refusal.ShortBuffer refl)
+        (λ _. by_choice P (ltb net (min r.node.networks network_key_places)) {x = acknowledging_as x r net src buf} {y = outside} (λ _. walk_as x said)
+        (λ _. refused refusal.OutsideRules refl))
 
 -- ---- where the tests pass
 module _ (r : Receiver) (buf : List ℕ) (wide : pdu_octets ≤ length buf) where
@@ -154,31 +172,40 @@ module _ (r : Receiver) (buf : List ℕ) (wide : pdu_octets ≤ length buf) wher
     control_begun w = rw (le-ltb (length buf) pdu_octets wide, a, w) refl
 
   pub segment_sent :
-      (n element : ℕ) → element_of r.node r.out.src ≡ element → element < element_places → segment_allowed r element n ≡ true
+      (n element : ℕ) → is_local r.node r.out.src ≡ true → element_at r.node r.out.src ≡ element → segment_allowed r element n ≡ true
       → sending_segment r n buf ≡ saying r element (segment_header r.out n) buf
-  unfolding sending_segment
-  segment_sent n element e low a = rw (e, le-ltb (length buf) pdu_octets wide, lt-ltb element element_places low, a) refl
+  unfolding sending_segment sending_segment_from element_of
+  segment_sent n element own e a = rw (le-ltb (length buf) pdu_octets wide, own, e, a) refl
 
-  pub acknowledgement_sent :
-      (net src : ℕ) (c : Chosen) → chosen r.replay r.sessions src ≡ c → net < min r.node.networks network_key_places → is_unicast c.dst ≡ true
-      → element_of r.node c.dst < element_places → acknowledging r net src buf ≡ saying_acknowledgement r (element_of r.node c.dst) net src c buf
-  unfolding acknowledging_by
-  acknowledgement_sent net src c e there unicast low =
-      rw (e, le-ltb (length buf) pdu_octets wide, lt-ltb net (min r.node.networks network_key_places) there, unicast, lt-ltb (element_of r.node c.dst) element_places low) refl
+  -- of what is chosen
+  module _ (net src : ℕ) (c : Chosen) (e : chosen r.replay r.sessions src ≡ Some c) where
+    pub acknowledgement_sent :
+        net < min r.node.networks network_key_places → is_unicast c.dst ≡ true → is_local r.node c.dst ≡ true
+        → acknowledging r net src buf ≡ saying_acknowledgement r (element_at r.node c.dst) net src c buf
+    unfolding acknowledging_by acknowledging_as acknowledging_from element_of
+    acknowledgement_sent there unicast own =
+        rw (e, le-ltb (length buf) pdu_octets wide, lt-ltb net (min r.node.networks network_key_places) there, unicast, own) refl
 
-  -- ---- an acknowledgement is refused 14: the network key is not there, or what is chosen was not sent to a unicast address
+    -- it was not sent to a unicast address
+    pub acknowledgement_not_unicast : is_unicast c.dst ≡ false → acknowledging r net src buf ≡ lent (refused_at r refusal.OutsideRules) buf
+    unfolding acknowledging_by acknowledging_as
+    acknowledgement_not_unicast other =
+        by_test (ltb net (min r.node.networks network_key_places))
+        (λ t. rw (e, le-ltb (length buf) pdu_octets wide, t, other) refl)
+        (λ t. rw (le-ltb (length buf) pdu_octets wide, t) refl)
+
+  -- ---- an acknowledgement is refused 14: the network key is not there, or nothing is chosen
   pub acknowledgement_no_key :
       (net src : ℕ) → min r.node.networks network_key_places ≤ net → acknowledging r net src buf ≡ lent (refused_at r refusal.OutsideRules) buf
   unfolding acknowledging_by
   acknowledgement_no_key net src past = rw (le-ltb (length buf) pdu_octets wide, le-ltb net (min r.node.networks network_key_places) past) refl
 
-  pub acknowledgement_not_unicast :
-      (net src : ℕ) (c : Chosen) → chosen r.replay r.sessions src ≡ c → is_unicast c.dst ≡ false
-      → acknowledging r net src buf ≡ lent (refused_at r refusal.OutsideRules) buf
-  unfolding acknowledging_by
-  acknowledgement_not_unicast net src c e other =
+  pub acknowledgement_none :
+      (net src : ℕ) → chosen r.replay r.sessions src ≡ None → acknowledging r net src buf ≡ lent (refused_at r refusal.OutsideRules) buf
+  unfolding acknowledging_by acknowledging_as
+  acknowledgement_none net src e =
       by_test (ltb net (min r.node.networks network_key_places))
-      (λ t. rw (e, le-ltb (length buf) pdu_octets wide, t, other) refl)
+      (λ t. rw (e, le-ltb (length buf) pdu_octets wide, t) refl)
       (λ t. rw (le-ltb (length buf) pdu_octets wide, t) refl)
 
 -- ---- an acknowledgement is said as any header is
@@ -190,7 +217,7 @@ acknowledgement_said r element net src c buf = refl
 
 -- ---- what is acknowledged of a source
 -- no source is 0
-pub chosen_zero : (replay : List Entry) (sessions : List Session) → chosen replay sessions 0 ≡ no_choice
+pub chosen_zero : (replay : List Entry) (sessions : List Session) → chosen replay sessions 0 ≡ None
 unfolding chosen_by
 chosen_zero replay sessions = refl
 
@@ -200,12 +227,16 @@ module _ (replay : List Entry) (sessions : List Session) (src : ℕ) (z : src �
 
   pub chosen_session :
       (s : Session) → own < session_slots → session_at sessions (own) ≡ s
-      → chosen replay sessions src ≡ record { auth = s.auth; dst = s.terms.dst; bits = s.filled }
+      → chosen replay sessions src ≡ Some (record { auth = s.auth; dst = s.terms.dst; bits = s.filled })
   unfolding chosen_by
   chosen_session s p held = rw (ne_eqb src 0 z, lt-ltb (own) session_slots p, held) refl
 
-  pub chosen_last :
-      (e : Entry) → session_slots ≤ own → look_up replay src ≡ e
-      → chosen replay sessions src ≡ record { auth = e.last.auth; dst = e.last.dst; bits = all_bits e.last.segn }
-  unfolding chosen_by
-  chosen_last e p held = rw (ne_eqb src 0 z, le-ltb (own) session_slots p, held) refl
+  module _ (e : Entry) (p : session_slots ≤ own) (held : look_up replay src ≡ e) where
+    pub chosen_last :
+        (e.last.dst ≡ 0 → ⊥) → chosen replay sessions src ≡ Some (record { auth = e.last.auth; dst = e.last.dst; bits = all_bits e.last.segn })
+    unfolding chosen_by
+    chosen_last d = rw (ne_eqb src 0 z, le-ltb own session_slots p, held, ne_eqb e.last.dst 0 d) refl
+
+    pub chosen_none : e.last.dst ≡ 0 → chosen replay sessions src ≡ None
+    unfolding chosen_by
+    chosen_none d = rw (ne_eqb src 0 z, le-ltb own session_slots p, held, d) refl

@@ -5,7 +5,7 @@
 --   element_back, element_low      its address leads back to it, and a local address to one of eight elements
 --   address_back                   which has that address
 --   sending_near                   the IV Index that is sent with
---   address_fixed, element_fixed   setup fixed which element has which address
+--   address_fixed, local_fixed, element_fixed   setup fixed which element has which address
 use mathlib.Core.Bool.{true}
 use mathlib.Core.Logic.{◌⊎◌}
 use mathlib.Core.Path.{◌≡◌, refl, ap}
@@ -19,7 +19,7 @@ use Rattle.node.specs.Index.{SameFixed}
 use Rattle.node.specs.Made.{WellMade}
 use Rattle.node.proofs.AddressesLaws.{local_within, local_bounds}
 use Rattle.receiver.specs.declared.state.Receiver.{Receiver}
-use Rattle.sending.specs.Segment.{element_of}
+use Rattle.sending.specs.Segment.{element_at}
 use Rattle.sending.specs.Transmission.{sending_iv, address_of, next_seq, stamped}
 
 -- the header x is h with the element's address and next SEQ; the key stays
@@ -42,21 +42,19 @@ module _ (node : Node) (made : WellMade node) where
     pub address_local : is_local node (address_of node element) ≡ true
     address_local = let a = address_is in local_within node (address_of node element) (omega arith) (omega arith)
 
-    pub element_back : element_of node (address_of node element) ≡ element
-    unfolding element_of
-    element_back = let a = address_is in rw address_local (omega arith)
+    pub element_back : element_at node (address_of node element) ≡ element
+    element_back = let a = address_is in omega arith
 
-  pub element_low : (a : ℕ) → is_local node a ≡ true → element_of node a < element_places
-  unfolding element_of
-  element_low a t = let b = (local_bounds node a t).1 in let f = (local_bounds node a t).0 in rw t (omega arith)
+  pub element_low : (a : ℕ) → is_local node a ≡ true → element_at node a < element_places
+  element_low a t = let b = (local_bounds node a t).1 in let f = (local_bounds node a t).0 in omega arith
 
-  pub address_back : (a : ℕ) → is_local node a ≡ true → address_of node (element_of node a) ≡ a
-  unfolding address_of element_of
+  pub address_back : (a : ℕ) → is_local node a ≡ true → address_of node (element_at node a) ≡ a
+  unfolding address_of
   address_back a t =
       let b = (local_bounds node a t).1 in
       let f = (local_bounds node a t).0 in
       let l = made.last_most in
-      rw t (omega arith)
+      omega arith
 
   -- ---- the IV Index
   pub sending_near : (sending_iv node ≡ node.iv) ⊎ (sending_iv node + 1 ≡ node.iv)
@@ -69,6 +67,9 @@ module _ (a b : Node) (same : SameFixed a b) where
   unfolding address_of
   address_fixed element = ap (λ (x : Node). address_of x element) same
 
-  pub element_fixed : (address : ℕ) → element_of a address ≡ element_of b address
-  unfolding element_of is_local
-  element_fixed address = ap (λ (x : Node). element_of x address) same
+  pub local_fixed : (address : ℕ) → is_local a address ≡ is_local b address
+  unfolding is_local
+  local_fixed address = ap (λ (x : Node). is_local x address) same
+
+  pub element_fixed : (address : ℕ) → element_at a address ≡ element_at b address
+  element_fixed address = ap (λ (x : Node). element_at x address) same

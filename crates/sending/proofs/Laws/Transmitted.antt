@@ -14,13 +14,13 @@ use borrow.Author.Tests.{lt-ltb, le-ltb, ltb-true, ltb-false}
 use lib.Dec.{eqb, leb, ltb}
 use lib.ListN.{length, set}
 use lib.Seq.{get_or-set_same}
+use Rattle.std.specs.Prelude.{Result, Ok, Err}
 use Rattle.common.specs.Lent.{Lent, lent}
 use Rattle.common.specs.Lists.{onto}
 use Rattle.common.proofs.Tests.{by_choice}
 use Rattle.keys.specs.declared.NetworkKeys.{NetworkKeys}
 use Rattle.network.specs.declared.header.Header.{Header}
-use Rattle.network.specs.declared.sealing.Answer as sealing_answer
-use Rattle.network.specs.declared.sealing.Answer.TheVariants as sealed
+use Rattle.network.specs.declared.sealing.Refusal as sealing_refusal
 use Rattle.network.specs.Candidates.{network_key_places, key_at}
 use Rattle.network.specs.Pdu.{pdu_octets, pdu_of}
 use Rattle.network.specs.Sealing.{sealable, sealing}
@@ -28,14 +28,12 @@ use Rattle.memory.specs.declared.outgoing.Outgoing.{Outgoing}
 use Rattle.memory.specs.Outgoing.{no_outgoing}
 use Rattle.receiver.specs.declared.answer.Refusal.{Refusal}
 use Rattle.receiver.specs.declared.answer.Refusal.TheVariants as refusal
-use Rattle.receiver.specs.declared.give_up.Answer.TheVariants as give_up
 use Rattle.receiver.specs.declared.give_up.GivenUp.{GivenUp}
 use Rattle.receiver.specs.declared.state.Receiver.{Receiver}
 use Rattle.receiver.specs.Answer.{refusal_number}
 use Rattle.receiver.specs.State.{with_outgoing}
 use Rattle.sending.specs.declared.answer.Answer.TheVariants as answer
 use Rattle.sending.specs.declared.answer.Spoken.{Spoken}
-use Rattle.sending.specs.declared.transmission.Transmission.TheVariants.{Sent, NoSeqLeft, Unsealed}
 use Rattle.sending.specs.declared.transmission.Transmitted.{Transmitted}
 use Rattle.sending.specs.Answer.{refused_at, spoken}
 use Rattle.sending.specs.Segment.{segment_header, started_as, starting}
@@ -83,25 +81,25 @@ module _ (r : Receiver) (element : ℕ) (h : Header) (buf : List ℕ) where
 
   -- ---- where the tests pass
   module _ (s : Sends r element h buf) where
-    pub sealing_is : sealing key (stamped r element h) buf ≡ lent (sealed.Sealed (length pdu)) (onto pdu buf)
+    pub sealing_is : sealing key (stamped r element h) buf ≡ lent (Ok (length pdu)) (onto pdu buf)
     unfolding sealing
     sealing_is = rw (le-ltb (length buf) pdu_octets s.wide, s.can) refl
 
-    transmitted_is : transmitted r element h buf ≡ lent (record { answer = Sent (length pdu); receiver = used r element }) (onto pdu buf)
+    transmitted_is : transmitted r element h buf ≡ lent (record { sent = Ok (length pdu); receiver = used r element }) (onto pdu buf)
     unfolding transmitted sent_as with_next
     transmitted_is = rw (le-ltb 0xFFFFFF (next_seq r element) s.seq_left, lt-ltb h.key network_key_places s.key_there, sealing_is) refl
 
-    pub saying_is : saying r element h buf ≡ lent (record { answer = answer.Sent (length pdu); receiver = used r element }) (onto pdu buf)
+    pub saying_is : saying r element h buf ≡ lent (record { answer = Ok (answer.Sent (length pdu)); receiver = used r element }) (onto pdu buf)
     unfolding spoken
     saying_is = ap (λ (t : Lent Transmitted). lent (spoken t.answer) t.buffer) transmitted_is
 
   -- ---- or not
   by_transmitted :
-      (P : Lent Transmitted → Type 0) → P (lent (no_transmission NoSeqLeft r) buf) → P (lent (no_transmission Unsealed r) buf)
-      → (Sends r element h buf → P (lent (record { answer = Sent (length pdu); receiver = used r element }) (onto pdu buf))) → P (transmitted r element h buf)
+      (P : Lent Transmitted → Type 0) → P (lent (no_transmission refusal.NoSeqLeft r) buf) → P (lent (no_transmission refusal.OutsideRules r) buf)
+      → (Sends r element h buf → P (lent (record { sent = Ok (length pdu); receiver = used r element }) (onto pdu buf))) → P (transmitted r element h buf)
   unfolding transmitted sealing sent_as with_next
   by_transmitted P none unsealed sent =
-      let Q : Lent sealing_answer.Answer → Type 0 = λ s. P (lent (sent_as s.answer r element) s.buffer) in
+      let Q : Lent (Result ℕ sealing_refusal.Refusal) → Type 0 = λ s. P (lent (sent_as s.answer r element) s.buffer) in
       by_choice P (ltb 0xFFFFFF (next_seq r element)) (λ _. none)
       (λ t. by_choice P (ltb h.key network_key_places)
       (λ u. by_choice Q (ltb (length buf) pdu_octets) (λ _. unsealed)
@@ -113,7 +111,7 @@ module _ (r : Receiver) (element : ℕ) (h : Header) (buf : List ℕ) where
 
   pub by_saying :
       (P : Lent Spoken → Type 0) → ((n : Refusal) → checked n ≡ true → P (lent (refused_at r n) buf))
-      → (Sends r element h buf → P (lent (record { answer = answer.Sent (length pdu); receiver = used r element }) (onto pdu buf))) → P (saying r element h buf)
+      → (Sends r element h buf → P (lent (record { answer = Ok (answer.Sent (length pdu)); receiver = used r element }) (onto pdu buf))) → P (saying r element h buf)
   unfolding spoken
   by_saying P refused sent =
       by_transmitted (λ (t : Lent Transmitted). P (lent (spoken t.answer) t.buffer)) (refused refusal.NoSeqLeft refl) (refused refusal.OutsideRules refl) sent
@@ -125,7 +123,7 @@ module _ (r : Receiver) (element : ℕ) (o : Outgoing) (buf : List ℕ) where
 
   abbrev begun : Lent Spoken
   begun =
-      lent (record { answer = answer.Started (length (pdu_by r element first)) o.terms.segn; receiver = with_outgoing (used r element) o })
+      lent (record { answer = Ok (answer.Started (length (pdu_by r element first)) o.terms.segn); receiver = with_outgoing (used r element) o })
       (onto (pdu_by r element first) buf)
 
   pub starting_is : Sends r element first buf → starting r element o buf ≡ begun
@@ -136,12 +134,12 @@ module _ (r : Receiver) (element : ℕ) (o : Outgoing) (buf : List ℕ) where
       (P : Lent Spoken → Type 0) → ((n : Refusal) → checked n ≡ true → P (lent (refused_at r n) buf)) → (Sends r element first buf → P begun) → P (starting r element o buf)
   unfolding starting
   by_starting P refused sent =
-      by_transmitted r element first buf (λ (t : Lent Transmitted). P (lent (started_as t.answer.answer t.answer.receiver o) t.buffer))
+      by_transmitted r element first buf (λ (t : Lent Transmitted). P (lent (started_as t.answer.sent t.answer.receiver o) t.buffer))
       (refused refusal.NoSeqLeft refl) (refused refusal.OutsideRules refl) sent
 
 -- ---- the outgoing message is given up
 pub by_stopping :
-    (P : GivenUp → Type 0) (r : Receiver) → P (record { answer = give_up.Refused refusal.OutsideRules; receiver = r })
-    → P (record { answer = give_up.Done; receiver = with_outgoing r no_outgoing }) → P (stopping r)
+    (P : GivenUp → Type 0) (r : Receiver) → P (record { answer = Err refusal.OutsideRules; receiver = r })
+    → P (record { answer = Ok tt; receiver = with_outgoing r no_outgoing }) → P (stopping r)
 unfolding stopping
 by_stopping P r refused done = by_choice P (eqb r.out.src 0) (λ _. refused) (λ _. done)

@@ -1,12 +1,8 @@
--- `speed::repeated` meets its contract: after i turns the block has been encrypted i times.
+-- `speed::repeated` meets its contract: after n turns the block has been encrypted n times.
 -- Assumes nothing.
 use mathlib.Core.Path.{◌≡◌}
-use Prim.Native.Nat.{◌≤◌, ◌-◌}
 use Rattle.speed.specs.Blocks.{encrypted}
 use Rattle.speed.proofs.repeated.Given as goal
 
-abbrev pub invariant-loop-i : goal.invariant-loop-i
-invariant-loop-i l = (l.i ≤ l.times) × (l.b ≡ encrypted l.i l.ks l.initial.b)
-
-abbrev pub decreases-loop-i : goal.decreases-loop-i
-decreases-loop-i l = l.times - l.i
+abbrev pub invariant-loop : goal.invariant-loop
+invariant-loop l = l.b ≡ encrypted l.counter l.ks l.initial.b

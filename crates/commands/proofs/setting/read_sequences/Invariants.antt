@@ -1,18 +1,14 @@
--- `setting::read_sequences` meets its contract: at `at` stands a space or the line's end, and what the line's SEQs are to come to is what those behind
--- `at` come to with the numbers read. What is left of the line falls.
+-- `setting::read_sequences` meets its contract: what the line's numbers are to come to is what the fields that are left come to, behind the numbers read.
 -- Assumes nothing.
 use mathlib.Core.Path.{◌≡◌}
-use Prim.Native.Nat.{◌-◌, ◌<◌}
-use lib.ListN.{length, get_or, drop}
+use lib.ListN.{length, drop}
 use Rattle.text.specs.Field.{fields}
 use Rattle.commands.specs.Setting.{sequences_of}
 use Rattle.commands.proofs.SettingLaws.{sequences_from}
 use Rattle.commands.proofs.setting.read_sequences.Given as goal
 
-abbrev pub invariant-loop-at : goal.invariant-loop-at
-invariant-loop-at l =
-    (l.at < length l.line → get_or l.line l.at 0 ≡ 32)
-    × (sequences_of (drop 1 (fields l.line)) ≡ sequences_from l.count l.next (drop 1 (fields (drop l.at l.line))))
-
-abbrev pub decreases-loop-at : goal.decreases-loop-at
-decreases-loop-at l = length l.line - l.at
+abbrev pub invariant-loop-digits : goal.invariant-loop-digits
+invariant-loop-digits l =
+    (goal.iterator-loop-digits).can_next l.digits-iterator
+    × (goal.iterator-loop-digits).is_finite l.digits-iterator
+    × (sequences_of (drop 1 (fields l.line)) ≡ sequences_from l.count l.next (drop (length l.yielded) (drop 1 (fields l.line))))

@@ -18,8 +18,8 @@ returns-then-n-lt31 c =
     let m : min n 31 ≡ n = omega (arith, c.if-n-lt31.true) in
     rw (one_shifted (n + 1) (omega arith), m)
 
-pub returns : goal.returns
+pub returns-else-n-lt31 : goal.returns-else-n-lt31
 unfolding all_bits
-returns c =
+returns-else-n-lt31 c =
     let m : min c.args.n 31 ≡ 31 = omega arith in
     rw m

@@ -1,23 +1,23 @@
 -- `bits::with` meets its contract: each return is one case of `with_bit`, and the sum fits since a word with one more bit is a word.
 -- Assumes nothing.
-use mathlib.Core.Path.{sym, ◌∙◌}
-use borrow.Author.Rules.{rules}
+use Rattle.std.proofs.Common.{rules, sym, ◌∙◌, arith, inl, inr}
 use Rattle.common.proofs.BitLaws.{one_shifted, with_of_set, with_of_clear, with_past, with_bound}
 use Rattle.common.proofs.bits.with.Goals as goal
 
-pub returns-then-has : goal.returns-then-has
-returns-then-has c = sym (with_of_set c.args.x c.args.i (sym c.has.ensures ∙ c.if-has.true))
-
-pub returns-then-i-lt32 : goal.returns-then-i-lt32
-returns-then-i-lt32 c =
+pub returns-then-i-gt31 : goal.returns-then-i-gt31
+returns-then-i-gt31 c =
     let a = c.args in
-    rw (one_shifted a.i c.if-i-lt32.true)
-    (sym (with_of_clear a.x a.i c.if-i-lt32.true (sym c.has.ensures ∙ c.if-has.false)))
+    elim c.if-i-gt31.either [
+      | inl t ↦ sym (with_of_set a.x a.i (sym c.has.ensures ∙ t))
+      | inr f ↦ sym (with_past a.x a.i f.1)
+    ]
+
+pub returns-else-i-gt31 : goal.returns-else-i-gt31
+returns-else-i-gt31 c =
+    let a = c.args in
+    rw (one_shifted a.i (omega arith)) (sym (with_of_clear a.x a.i (omega arith) (sym c.has.ensures ∙ c.if-i-gt31.false.0)))
 
 pub overflow_add-result : goal.overflow_add-result
 overflow_add-result c =
     let a = c.args in
-    rw (returns-then-i-lt32 c) (record { fits = with_bound a.x a.i (search rules) })
-
-pub returns : goal.returns
-returns c = sym (with_past c.args.x c.args.i c.if-i-lt32.false)
+    rw (returns-else-i-gt31 c) (record { fits = with_bound a.x a.i (search rules) })

@@ -15,6 +15,6 @@ returns c =
     let long = c.vet-vetted.auto.out in
     let a = c.args in record {
       exact = vetted a.d a.ctl a.list.now _ _ c.longest-message.ensures c.within-n.ensures.value _ _ c.vet-vetted.ensures long
-          _ c.first.ensures _ _ _ _ c.put_vetted.ensures;
+          _ c.first.ensures _ _ c.put_vetted.ensures;
       fits = vetted_short a.d a.ctl a.list.now _ _ c.longest-message.ensures c.within-n.ensures.value _ _ c.vet-vetted.ensures long;
     }

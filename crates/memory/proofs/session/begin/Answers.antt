@@ -5,4 +5,4 @@ use Rattle.memory.proofs.session.begin.Goals as goal
 
 pub returns : goal.returns
 unfolding begun
-returns c = rw c.none-s.ensures
+returns c = rw c.none.ensures

@@ -10,8 +10,8 @@ overflow_add-result c =
     let p : c.octet_place.result ≤ 372 = rw c.octet_place.ensures (place_most _ _) in
     omega (arith, c.octets_end.ensures.within)
 
-pub returns-then-sego-terms : goal.returns-then-sego-terms
-returns-then-sego-terms c = length_told _ _ _ c.if-sego-terms.true c.octet_place.ensures c.octets_end.ensures.exact
+pub returns-then-sego-s : goal.returns-then-sego-s
+returns-then-sego-s c = length_told _ _ _ c.if-sego-s.true c.octet_place.ensures c.octets_end.ensures.exact
 
 pub returns : goal.returns
 returns c = search length_kept

@@ -4,11 +4,5 @@ use native.Mathlib.Omega.{arith}
 use Rattle.memory.proofs.SessionLaws.{octets_length}
 use Rattle.memory.proofs.session.octets_end.Goals as goal
 
-pub returns-then-len-lt4 : goal.returns-then-len-lt4
-returns-then-len-lt4 c = record { exact = omega (arith, octets_length c.args.transport c.args.len c.well_formed.0.1.0.1); within = omega arith }
-
-pub returns-then-len-gt16 : goal.returns-then-len-gt16
-returns-then-len-gt16 c = record { exact = omega (arith, octets_length c.args.transport c.args.len c.well_formed.0.1.0.1); within = omega arith }
-
-pub returns : goal.returns
-returns c = record { exact = omega (arith, octets_length c.args.transport c.args.len c.well_formed.0.1.0.1); within = omega arith }
+pub returns-clause-exact : goal.returns-clause-exact
+returns-clause-exact c = omega (arith, octets_length c.args.transport c.args.len c.well_formed.0.1.0.1)

@@ -1,23 +1,14 @@
--- `memory::session::place` meets its contract: no slot before i has the key, so the first that is ends the search. The measure is how many are left.
+-- `memory::session::place` meets its contract: the first session with the key is where the search of all ends.
 -- Assumes nothing.
-use borrow.Author.Rules.{rules}
-use borrow.Author.Tests.{eq-eqb, ne_eqb}
-use Rattle.common.proofs.Search.{seek_start, seek_here, seek_on, seek_past}
-use Rattle.memory.specs.Session.{session_place}
+use Rattle.std.proofs.Common.{rules, tests, ◌∙◌}
+use Rattle.std.proofs.lemmas.Iterator.{YieldsList-from_slice}
+use Rattle.std.proofs.lemmas.Iterator.Search.{position_from_yields_List}
+use Rattle.common.proofs.Searched.{position_is}
+use Rattle.memory.specs.Session.{session_slots, session_key, same_key, session_place}
 use Rattle.memory.proofs.session.place.Goals as goal
-
-pub loop-i-init : goal.loop-i-init
-unfolding session_place
-loop-i-init c = seek_start _ _ _ c.well_formed.0.1.0.1
-
-pub returns-then-s-key : goal.returns-then-s-key
-unfolding session_place
-returns-then-s-key c = search (seek_here, eq-eqb, rules)
-
-pub loop-i-preserved : goal.loop-i-preserved
-unfolding session_place
-loop-i-preserved c = seek_on _ _ _ _ c.loop-i.invariant _ c.loop-i-test.true (ne_eqb _ _ c.if-s-key.false)
 
 pub returns : goal.returns
 unfolding session_place
-returns c = search (seek_past, rules)
+returns c =
+    position_from_yields_List (λ s. same_key (session_key s) c.args.key) _ _ _ c.position.ensures.ran (YieldsList-from_slice c.args.sessions cc) (λ x b q k. search (rules, tests))
+    ∙ position_is (λ s. same_key (session_key s) c.args.key) c.args.sessions session_slots c.well_formed.0.1.0.1

@@ -4,10 +4,10 @@ use Rattle.memory.specs.Session.{stored}
 use Rattle.memory.proofs.SessionLaws.{place_most}
 use Rattle.memory.proofs.session.store.Goals as goal
 
-pub put_octets-after-requires : goal.put_octets-after-requires
-put_octets-after-requires c = rw c.octet_place.ensures (place_most _ _)
+pub put_octets-requires : goal.put_octets-requires
+put_octets-requires c = rw c.octet_place.ensures (place_most _ _)
 
 pub returns : goal.returns
 unfolding stored
 returns c =
-    rw (c.with.ensures, c.len_with.ensures, c.put_octets-after.ensures, c.octet_place.ensures)
+    rw (c.with.ensures, c.len_with.ensures, c.put_octets.ensures, c.octet_place.ensures)

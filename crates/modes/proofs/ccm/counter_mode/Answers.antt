@@ -25,7 +25,7 @@ loop-j-preserved c =
     let a = c.args in
     let here : c.if-j-eq0.s ≡ stream a.ks a.nonce (l.j / 16 + 1) =
     elim c.if-j-eq0.branch [
-      | then-j-eq0 w ↦ w.s-is ∙ w.encrypt-t.ensures ∙ ap (cipher _) w.ccm_block.ensures
+      | then-j-eq0 w ↦ w.s-is ∙ w.encrypt-next.ensures ∙ ap (cipher _) w.ccm_block.ensures
       | else-j-eq0 w ↦ w.s-is ∙ l.invariant.1 w.if-j-eq0.false
     ] in (
       filled_more 0 (at_place a.ks a.nonce a.src.now) _ l.dst l.j _ l.invariant.0 (omega arith)

@@ -2,7 +2,7 @@
 -- Assumes nothing.
 use mathlib.Core.Path.{◌≡◌}
 use mathlib.Core.List.{List}
-use Prim.Native.Nat.{ℕ, ◌+◌, ◌-◌, ◌/◌, ◌%◌}
+use Prim.Native.Nat.{ℕ, ◌+◌, ◌/◌, ◌%◌}
 use lib.Bits.{bit_xor}
 use lib.ListN.{length, get_or}
 use Rattle.common.proofs.Fill.{Filled}
@@ -16,6 +16,3 @@ at_place ks nonce src j = bit_xor (get_or src j 0) (stream_octet ks nonce j)
 abbrev pub invariant-loop-j : goal.invariant-loop-j
 invariant-loop-j l =
     Filled 0 (at_place l.ks l.nonce l.src) (length l.src) l.dst l.j × ((l.j % 16 ≡ 0 → ⊥) → l.s ≡ stream l.ks l.nonce (l.j / 16 + 1))
-
-abbrev pub decreases-loop-j : goal.decreases-loop-j
-decreases-loop-j l = length l.src - l.j

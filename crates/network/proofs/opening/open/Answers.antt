@@ -12,8 +12,8 @@ returns-then-pdu-gt-PDU c = search open_rules
 pub returns-in_default : goal.returns-in_default
 returns-in_default c = search open_rules
 
-pub returns-then-trials-eq0 : goal.returns-then-trials-eq0
-returns-then-trials-eq0 c = search open_rules
+pub returns-then-s-eq0 : goal.returns-then-s-eq0
+returns-then-s-eq0 c = search open_rules
 
 pub returns : goal.returns
 returns c = search open_rules

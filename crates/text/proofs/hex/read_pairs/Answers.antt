@@ -1,42 +1,44 @@
--- `hex::read_pairs` meets its contract: before pair `i` the octets of the pairs in front of it are read, and what is left of the pairs falls.
+-- `hex::read_pairs` meets its contract: before pair `i` the octets of the pairs in front of it are read.
 -- Assumes nothing.
-use mathlib.Core.Path.{◌∙◌}
-use Prim.Native.Nat.{◌+◌, ◌*◌}
+use mathlib.Core.Path.{refl, ◌∙◌}
+use Prim.Native.Nat.{◌+◌, ◌*◌, ◌≤◌}
 use native.Mathlib.Omega.{arith}
 use lib.ListN.{length-set}
-use Rattle.text.proofs.HexLaws.{pair_wrong_high, pair_wrong_low, pair_on, pairs_on, pairs_short, pairs_all}
+use Rattle.text.proofs.HexLaws.{digit_most, pair_next, pairs_on, pairs_short, pairs_all}
 use Rattle.text.proofs.hex.read_pairs.Goals as goal
 
-pub returns-then-high-gt15 : goal.returns-then-high-gt15
-returns-then-high-gt15 c =
+pub returns-in_default : goal.returns-in_default
+returns-in_default c =
     let l = c.loop-i in
-    let a = c.args in
-    let high = c.value-high in
-    let low = c.value-low in
-    pairs_short _ _ _ l.i l.invariant.2 a.n (omega arith) (omega arith)
-    (pair_wrong_high _ l.i high.result low.result (omega arith) high.ensures low.ensures c.if-high-gt15.true)
+    pairs_short _ _ _ l.i l.invariant.1 c.args.n (omega arith) (omega arith)
+    (pair_next _ l.i (omega arith) _ _ c.in_default.ensures refl)
 
-pub returns-then-low-gt15 : goal.returns-then-low-gt15
-returns-then-low-gt15 c =
+pub returns-in_default-value : goal.returns-in_default-value
+returns-in_default-value c =
     let l = c.loop-i in
-    let a = c.args in
-    let high = c.value-high in
-    let low = c.value-low in
-    pairs_short _ _ _ l.i l.invariant.2 a.n (omega arith) (omega arith)
-    (pair_wrong_low _ l.i high.result low.result (omega arith) high.ensures low.ensures (omega arith) c.if-low-gt15.true)
+    pairs_short _ _ _ l.i l.invariant.1 c.args.n (omega arith) (omega arith)
+    (pair_next _ l.i (omega arith) _ _ c.in-Some.ensures c.in_default-value.ensures)
+
+pub overflow_mul-out : goal.overflow_mul-out
+overflow_mul-out c =
+    let high : c.in-Some.high ≤ 15 = digit_most _ _ c.in-Some.ensures in
+    omega arith
+
+pub overflow_add-out : goal.overflow_add-out
+overflow_add-out c =
+    let high : c.in-Some.high ≤ 15 = digit_most _ _ c.in-Some.ensures in
+    let low : c.in-Some-value.low ≤ 15 = digit_most _ _ c.in-Some-value.ensures in
+    omega arith
 
 pub loop-i-preserved : goal.loop-i-preserved
 loop-i-preserved c =
     let l = c.loop-i in
-    let a = c.args in
-    let high = c.value-high in
-    let low = c.value-low in
-    let on = pair_on a.text.now l.i high.result low.result (omega arith) high.ensures low.ensures (omega arith) (omega arith) in
-    let q = pairs_on a.text.now a.out.now l.out l.i l.invariant.2 (high.result * 16 + low.result) (omega arith) on in
-    (omega arith, length-set l.out l.i (high.result * 16 + low.result) ∙ l.invariant.1, q)
+    let octet = c.in-Some.high * 16 + c.in-Some-value.low in (
+      length-set l.out l.i octet ∙ l.invariant.0,
+      pairs_on _ _ l.out l.i l.invariant.1 octet (omega arith) (pair_next _ l.i (omega arith) _ _ c.in-Some.ensures c.in-Some-value.ensures),
+    )
 
 pub returns : goal.returns
 returns c =
     let l = c.loop-i in
-    let a = c.args in
-    pairs_all _ _ _ l.i l.invariant.2 a.n (omega arith) (omega arith) (omega arith)
+    pairs_all _ _ _ l.i l.invariant.1 c.args.n (omega arith) (omega arith) (omega arith)

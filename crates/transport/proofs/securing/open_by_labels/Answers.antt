@@ -1,23 +1,16 @@
 -- `transport::securing::open_by_labels` meets its contract: each turn passes a label, tries one in vain, which keeps the buffer, or ends with one that
 -- opens the message, and the count of trials stays a place among the labels of DST. The measure is what is left of the four labels. Assumes nothing.
-use mathlib.Core.Bool.{false}
 use mathlib.Core.Logic.{⊎_elim}
-use mathlib.Core.Path.{refl, ap, ◌∙◌}
+use mathlib.Core.Path.{ap, ◌∙◌}
 use Prim.Native.Nat.{◌≤◌, ◌<◌, min}
 use native.Mathlib.Omega.{arith}
 use borrow.Author.Tests.{leb-false, eq-eqb, ne_eqb}
-use lib.ListN.{length}
 use Rattle.common.specs.Lent.{lent}
-use Rattle.transport.specs.declared.securing.Opener.TheVariants.{Application}
+use Rattle.std.specs.Prelude.{None}
 use Rattle.transport.specs.Securing.{label_places, application_key_at, label_at}
-use Rattle.transport.proofs.SecuringLaws.{no_label_yet, label_passed, label_tried, label_opens, no_label_opens, opened_on, opened_kept, opened_as_long}
+use Rattle.transport.proofs.SecuringLaws.{label_passed, label_tried, label_opens, no_label_opens, opened_on, opened_kept}
 use Rattle.transport.proofs.securing.open_by_labels.Goals as goal
 use Rattle.transport.proofs.securing.open_by_labels.Goals.{then-l-e+else-open_by_label, else-l-e}
-
-pub loop-j-init : goal.loop-j-init
-loop-j-init c =
-    let a = c.args in
-    (no_label_yet a.held a.i a.e a.sealed.now a.out.now, omega arith, refl)
 
 pub loop-j-preserved : goal.loop-j-preserved
 loop-j-preserved c =
@@ -41,23 +34,12 @@ loop-j-preserved c =
           )
     ]
 
-pub shape_of-out-then-j-ge-LABELS : goal.shape_of-out-then-j-ge-LABELS
-shape_of-out-then-j-ge-LABELS c = ap length c.loop-j.invariant.2
-
 pub returns-then-j-ge-LABELS : goal.returns-then-j-ge-LABELS
 returns-then-j-ge-LABELS c =
     let a = c.args in
     let h : min a.held.labelled label_places ≤ c.loop-j.j = ⊎_elim (λ w. omega arith) (λ w. omega arith) c.then-j-ge-LABELS.either in
-    ap (lent (record { opened = false; trials = c.loop-j.trials; opener = Application a.i })) c.loop-j.invariant.2
+    ap (lent (record { trials = c.loop-j.trials; opener = None })) c.loop-j.invariant.2
     ∙ no_label_opens a.held a.i a.e a.sealed.now a.out.now c.loop-j.invariant.0 h
-
-pub shape_of-out-then-open_by_label : goal.shape_of-out-then-open_by_label
-shape_of-out-then-open_by_label c =
-    let a = c.args in
-    let key = (application_key_at a.held.appkeys a.i).key in
-    let label = label_at a.held.labels c.loop-j.j in
-    opened_as_long key a.e label.octets a.sealed.now a.out.now
-    (opened_on key a.e label.octets a.sealed.now a.out.now c.loop-j.invariant.2 c.open_by_label.ensures)
 
 pub returns-then-open_by_label : goal.returns-then-open_by_label
 returns-then-open_by_label c =

@@ -1,20 +1,8 @@
--- `transport::vetting::vet` meets its contract: each return is one rule of `vetting`.
--- Assumes nothing.
-use borrow.Author.Rules.{rules}
-use Rattle.transport.proofs.VetRules.{vet_rules, vet_room}
+-- `transport::vetting::vet` meets its contract: what is joined is the whole. Assumes nothing.
+use Rattle.transport.proofs.VetRules.{vet_whole}
 use Rattle.transport.proofs.vetting.vet.Goals as goal
 
-pub returns-then-out-lt-MESSAGE : goal.returns-then-out-lt-MESSAGE
-returns-then-out-lt-MESSAGE c = search vet_rules
-
-pub join-requires : goal.join-requires
-join-requires c = search (vet_room, rules)
-
-pub returns-in-Whole : goal.returns-in-Whole
-returns-in-Whole c = search vet_rules
-
-pub returns-in-Fault : goal.returns-in-Fault
-returns-in-Fault c = search vet_rules
-
-pub returns-in-Unfinished : goal.returns-in-Unfinished
-returns-in-Unfinished c = search vet_rules
+pub returns : goal.returns
+returns c =
+    let a = c.args in
+    vet_whole a.ctl a.list.now a.out.now c.if-out-lt-MESSAGE.false _ c.judge.ensures _ c.in_ok-judge.was _ _ c.join.ensures

@@ -1,8 +1,0 @@
--- `site::words::put_sent` meets its contract: its parts are put one behind the other.
--- Assumes nothing.
-use borrow.Author.Rules.{rules}
-use Rattle.text.proofs.WrittenLaws.{put_then}
-use Rattle.site.proofs.words.put_sent.Goals as goal
-
-pub returns : goal.returns
-returns c = search (put_then, rules)
