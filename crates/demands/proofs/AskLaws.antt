@@ -41,7 +41,8 @@ use Rattle.sending.specs.Acknowledge.{chosen, saying_acknowledgement, acknowledg
 use Rattle.sending.specs.Answer.{refused_at}
 use Rattle.sending.specs.Segment.{element_at}
 use Rattle.sending.specs.Transmission.{address_of, next_seq}
-use Rattle.sending.proofs.Laws.Calls.{acknowledgement_said, acknowledgement_sent, acknowledgement_no_key, acknowledgement_not_unicast, acknowledgement_none, chosen_zero, chosen_session, chosen_last, chosen_none}
+use Rattle.sending.proofs.Laws.Calls.{acknowledgement_said, acknowledgement_sent, acknowledgement_no_key, acknowledgement_not_unicast, acknowledgement_none}
+use Rattle.sending.proofs.Laws.Calls.{chosen_zero, chosen_session, chosen_last, chosen_none}
 use Rattle.sending.proofs.Laws.Stamped.{address_back, element_low}
 use Rattle.sending.proofs.Laws.Transmitted.{saying}
 use Rattle.demands.specs.Call.{made_by}
