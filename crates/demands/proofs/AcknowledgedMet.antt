@@ -229,4 +229,7 @@ hears =
     }
 
 pub acknowledgement_met : AcknowledgementMet
-acknowledgement_met = (asked, made, speaks, subst (λ (p : List ℕ). Hears speaking node 0 p buf message) (sym it_made.pdu_is) hears)
+acknowledgement_met =
+    let heard_as = subst (λ (p : List ℕ). Hears speaking node 0 p buf message) (sym it_made.pdu_is) hears in
+    let opens = subst (λ (p : List ℕ). OpensTo speaking p head) (sym it_made.pdu_is) opens_to_law in
+    (asked, made, speaks, heard_as, head, opens)

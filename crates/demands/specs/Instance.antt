@@ -28,7 +28,7 @@ use Rattle.receiver.specs.Good.{Good}
 use Rattle.receiver.specs.Passing.{Opens, Ours, Passes}
 use Rattle.sending.specs.declared.request.Destination.TheVariants.{Address}
 use Rattle.sending.specs.declared.request.Request.{Request}
-use Rattle.demands.specs.Acknowledged.{Speaker, Hears}
+use Rattle.demands.specs.Acknowledged.{Speaker, OpensTo, Hears}
 use Rattle.demands.specs.CacheHolds.{entered}
 use Rattle.demands.specs.Call.{Call, Hear, SendAccess, Acknowledge, Outcome, step, after}
 use Rattle.demands.specs.GoesOut.{rest_of}
@@ -197,6 +197,8 @@ AcknowledgementMet =
     × (acknowledgement.made ≡ true)
     × Speaker speaking (node_of shed) humidity
     × Hears speaking (node_of shed) 0 (pdu_made acknowledgement) (replicate pdu_octets 0) (replicate message_octets 0)
+    -- what the box hears of it is said of the header that it opens to: there is one
+    × (h : Header) × OpensTo speaking (pdu_made acknowledgement) h
 
 -- ---- forwarding
 -- a node sends a control message of three parameters, TTL 5; the shed, whose relay is on, hears it

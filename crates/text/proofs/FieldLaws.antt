@@ -92,9 +92,18 @@ unfolding fields field_of behind picked
 fields_other x l e = rw (ne_eqb x 32 e) (tab_from_ext (λ n. field_of n (x ∷ l)) (λ n. field_of n l) 0 (length (picked (is 32) l)) (λ k. rw (ne_eqb x 32 e)))
 
 -- the first ends at the first space
-fields_first : (l : List ℕ) → fields l ≡ take (first (is 32) l) l ∷ drop 1 (fields l)
+fields_cut : (l : List ℕ) → fields l ≡ take (first (is 32) l) l ∷ drop 1 (fields l)
 unfolding fields field_of behind
-fields_first l = refl
+fields_cut l = refl
+
+-- and the others stand from there on
+pub fields_rest : (l : List ℕ) → drop 1 (fields l) ≡ drop 1 (fields (drop (first (is 32) l) l))
+unfolding first
+fields_rest [] = refl
+fields_rest (x ∷ l) = by_test (eqb x 32) (λ t. rw t) (λ t. rw t (fields_other x l (eqb-false x 32 t) ∙ fields_rest l))
+
+pub fields_first : (l : List ℕ) → fields l ≡ take (first (is 32) l) l ∷ drop 1 (fields (drop (first (is 32) l) l))
+fields_first l = fields_cut l ∙ ap (λ (r : List (List ℕ)). take (first (is 32) l) l ∷ r) (fields_rest l)
 
 -- behind the end there is none
 pub fields_past : (l : List ℕ) (i : ℕ) → length l ≤ i → drop 1 (fields (drop i l)) ≡ []
@@ -110,13 +119,13 @@ fields_of_space : (x : ℕ) (l : List ℕ) → eqb x 32 ≡ true → fields (x �
 unfolding first
 fields_of_space x l t =
     let none : take (first (is 32) (x ∷ l)) (x ∷ l) ≡ [] = rw t in
-    fields_first (x ∷ l) ∙ ap₂ ◌∷◌ none (fields_space x l (eqb-true x 32 t))
+    fields_cut (x ∷ l) ∙ ap₂ ◌∷◌ none (fields_space x l (eqb-true x 32 t))
 
 fields_of_other : (x : ℕ) (l : List ℕ) → eqb x 32 ≡ false → fields (x ∷ l) ≡ onto_first x (fields l)
 unfolding first
 fields_of_other x l t =
     let more : take (first (is 32) (x ∷ l)) (x ∷ l) ≡ x ∷ take (first (is 32) l) l = rw t in
-    fields_first (x ∷ l) ∙ ap₂ ◌∷◌ more (fields_other x l (eqb-false x 32 t)) ∙ ap (onto_first x) (sym (fields_first l))
+    fields_cut (x ∷ l) ∙ ap₂ ◌∷◌ more (fields_other x l (eqb-false x 32 t)) ∙ ap (onto_first x) (sym (fields_cut l))
 
 pub fields_are_parts : (l : List ℕ) → slice_split (is 32) l ≡ fields l
 fields_are_parts [] = fields_none
