@@ -123,8 +123,9 @@ pub fn hear(r: Receiver, pdu: &[u8], forward: &mut [u8], message: &mut [u8]) -> 
     let node = r.node;
     let o = network::opening::open(node.materials, node.networks, node.iv, pdu);
     let trials = o.trials;
-    match o.opened {
-        Err(refusal) => refuse(r, Refusal::from(refusal), trials),
-        Ok(header) => pass_new(r, header, trials, forward, message),
-    }
+    let header = match o.opened {
+        Err(refusal) => return refuse(r, Refusal::from(refusal), trials),
+        Ok(header) => header,
+    };
+    pass_new(r, header, trials, forward, message)
 }

@@ -24,30 +24,36 @@ impl Receiver {
     pub(crate) fn with_cache(self, cache: Cache) -> Receiver
         ensures { result ≡ with_cache self cache }
     {
-        Receiver { cache, ..self }
+        let mut after = self;
+        after.cache = cache;
+        after
     }
 
     pub(crate) fn with_replay(self, replay: [Entry; ENTRIES]) -> Receiver
         ensures { result ≡ with_replay self replay }
     {
-        Receiver { replay, ..self }
+        let mut after = self;
+        after.replay = replay;
+        after
     }
 
     // The receiver with another session in a slot; past the last slot none is set.
     pub(crate) fn with_session(self, slot: usize, s: Session) -> Receiver
         ensures { result ≡ with_session self slot s }
     {
-        let mut sessions = self.sessions;
+        let mut after = self;
         if slot < SLOTS {
-            sessions[slot] = s;
+            after.sessions[slot] = s;
         }
-        Receiver { sessions, ..self }
+        after
     }
 
     // The receiver with another outgoing message.
     pub fn with_outgoing(self, out: Outgoing) -> Receiver
         ensures { result ≡ with_outgoing self out }
     {
-        Receiver { out, ..self }
+        let mut after = self;
+        after.out = out;
+        after
     }
 }

@@ -57,9 +57,9 @@ fn advance(r: Receiver, element: Element) -> Receiver
     requires { next_seq r element.place ≤ 0xFFFFFF }
     ensures { result ≡ with_next r element.place }
 {
-    let mut next = r.next;
-    next[element.place] += 1;
-    Receiver { next, ..r }
+    let mut after = r;
+    after.next[element.place] += 1;
+    after
 }
 
 // Seals the header, stamped, into out; the element's SEQ is used only where the PDU is made.
