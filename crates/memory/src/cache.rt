@@ -53,7 +53,8 @@ fn entry(h: Header) -> Seen
 pub fn is_seen(cache: Cache, h: Header) -> bool
     ensures { result ≡ seen cache h }
 {
-    cache.entries.contains(&entry(h))
+    let own = entry(h);
+    cache.entries.iter().any(|e| *e == own)
 }
 
 // The cache with the PDU of this header as its newest entry.

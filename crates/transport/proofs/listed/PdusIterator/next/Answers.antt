@@ -11,7 +11,7 @@ returns-in_err-len-clause-steps c =
     rw c.from_residual.ensures (none, none)
 
 pub returns-clause-steps : goal.returns-clause-steps
-returns-clause-steps c = pdus_split c.in_ok-len.ensures.cases.0 c.min.ensures c.split_at.ensures.front c.split_at.ensures.back
+returns-clause-steps c = pdus_split c.in_ok-len.ensures.cases.0 (omega (arith, c.min.ensures)) c.split_at.ensures.front c.split_at.ensures.back
 
 pub returns-clause-goes : goal.returns-clause-goes
 returns-clause-goes c =
