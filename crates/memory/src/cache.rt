@@ -53,6 +53,7 @@ fn entry(h: Header) -> Seen
 pub fn is_seen(cache: Cache, h: Header) -> bool
     ensures { result ≡ seen cache h }
 {
+    // Not by `contains`: what entries are compared by stands in the closure, where an edit can plant another.
     let own = entry(h);
     cache.entries.iter().any(|e| *e == own)
 }

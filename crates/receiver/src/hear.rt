@@ -123,6 +123,7 @@ pub fn hear(r: Receiver, pdu: &[u8], forward: &mut [u8], message: &mut [u8]) -> 
     let node = r.node;
     let o = network::opening::open(node.materials, node.networks, node.iv, pdu);
     let trials = o.trials;
+    // A refusal returns here: as an arm beside the other it would have the compiler make both answers, part by part, whichever is given.
     let header = match o.opened {
         Err(refusal) => return refuse(r, Refusal::from(refusal), trials),
         Ok(header) => header,

@@ -20,6 +20,7 @@ pub struct Receiver {
     pub out: Outgoing,
 }
 
+// Each puts its part in a copy of the whole, not by struct update, of which the compiler would put the state together from all its parts.
 impl Receiver {
     pub(crate) fn with_cache(self, cache: Cache) -> Receiver
         ensures { result ≡ with_cache self cache }

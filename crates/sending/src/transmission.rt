@@ -51,7 +51,7 @@ fn stamp(r: Receiver, element: Element, h: Header) -> Header
     }
 }
 
-// The receiver after an element used a SEQ.
+// The receiver after an element used a SEQ: its next one is put in a copy of the whole, as receiver's changes are.
 #[tactic(auto, unfolding(crate::specs::Transmission::with_next))]
 fn advance(r: Receiver, element: Element) -> Receiver
     requires { next_seq r element.place ≤ 0xFFFFFF }
